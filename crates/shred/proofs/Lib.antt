@@ -1,0 +1,17 @@
+pub mod Apart
+pub mod Ids
+pub mod Left
+pub mod Membership
+pub mod Orders
+pub mod PlanKeeps
+pub mod Pushed
+pub mod Searching
+pub mod Spots
+pub mod StageKeeps
+pub mod Tests
+pub mod Times
+pub mod Touching
+pub mod StepRecord
+pub mod StageStays
+pub mod FramedRuns
+pub mod Widest

@@ -1,0 +1,35 @@
+-- What a stage keeps stays where its plan and its ids stay.
+use Rattle.std.proofs.Common.{◌≡◌, ℕ, zero, suc, ◌<◌, ◌≤◌, List, [], ◌∷◌, length, map, get_or, refl, sym, ◌∙◌, ap, subst, arith}
+use Rattle.std.specs.List.{All}
+use Rattle.std.proofs.lemmas.List.{length-map}
+use Rattle.shred_model.specs.Plan as model
+use Rattle.shred_world.specs.declared.id.ResourceId.{ResourceId}
+use Rattle.shred.specs.PlanOf.{group_plan, group_numbers, groups_plan, KeepsIds}
+use Rattle.shred.specs.Soundness.{AreApart, IsSmallGroup}
+use Rattle.shred.specs.declared.dispatch.entry.Group.{Group}
+
+-- what a stage keeps of its groups
+abbrev pub IsKeptBy : {S : Type 0} → List (Group S) → Type 0
+IsKeptBy groups = record { some_group : 0 < length groups; small_groups : All IsSmallGroup (groups_plan groups); apart : AreApart (groups_plan groups); keep_ids : All KeepsIds groups }
+
+keeps_alike : {S : Type 0} (x z : Group S) → group_plan x ≡ group_plan z → group_numbers x ≡ group_numbers z → KeepsIds z → KeepsIds x
+keeps_alike x z plan ids keep = ids ∙ keep ∙ ap model.group_ids (sym plan)
+
+ids_stay : {S : Type 0} (new old : List (Group S)) → map group_plan new ≡ map group_plan old → map group_numbers new ≡ map group_numbers old → All KeepsIds old → All KeepsIds new
+ids_stay [] old plan ids keep = λ k d below. absurd (omega arith)
+ids_stay (x ∷ new) [] plan ids keep = cc
+ids_stay (x ∷ new) (z ∷ old) plan ids keep =
+    at (keeps_alike x z (cc) (cc) (keep 0 z (omega arith))) (ids_stay new old (cc) (cc) (λ k d below. keep (suc k) d (omega arith))) where
+      at : KeepsIds x → All KeepsIds new → All KeepsIds (x ∷ new)
+      at first rest zero d below = first
+      at first rest (suc k) d below = rest k d (omega arith)
+
+pub stays : {S : Type 0} (new old : List (Group S)) → groups_plan new ≡ groups_plan old → map group_numbers new ≡ map group_numbers old → IsKeptBy old → IsKeptBy new
+stays {S} new old plan ids kept =
+    let same : length new ≡ length old = simp length-map at (ap length plan) in
+    record {
+      some_group = let h = kept.some_group in omega arith;
+      small_groups = subst (λ (p : model.Stage ResourceId). All IsSmallGroup p) (sym plan) kept.small_groups;
+      apart = subst (λ (p : model.Stage ResourceId). AreApart p) (sym plan) kept.apart;
+      keep_ids = ids_stay new old plan ids kept.keep_ids;
+    }

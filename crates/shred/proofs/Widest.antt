@@ -1,0 +1,13 @@
+-- The widest stage, counted stage after stage.
+use Rattle.std.proofs.Common.{◌≡◌, ℕ, zero, suc, ◌+◌, ◌<◌, List, [], ◌∷◌, length, get_or, map, take, max, refl, arith, add-one}
+use Rattle.shred_model.specs.Plan as model
+use Rattle.shred.specs.StagePlan.{widest}
+
+widest-suc : {I Y : Type 0} (view : Y → model.Stage I) (ys : List Y) (n : ℕ) (d : Y) → n < length ys → widest (take (suc n) (map view ys)) ≡ max (widest (take n (map view ys))) (length (view (get_or ys n d)))
+widest-suc view [] n d below = absurd (omega arith)
+widest-suc view (y ∷ ys) zero d below = omega arith
+widest-suc view (y ∷ ys) (suc n) d below = let ih = widest-suc view ys n d (omega arith) in omega arith
+
+-- one stage more
+pub widest-more : {I Y : Type 0} (view : Y → model.Stage I) (ys : List Y) (n : ℕ) (d : Y) → n < length ys → widest (take (n + 1) (map view ys)) ≡ max (widest (take n (map view ys))) (length (view (get_or ys n d)))
+widest-more view ys n d below = rw add-one (widest-suc view ys n d below)

@@ -1,0 +1,29 @@
+use Rattle.std.proofs.Common.{◌≡◌, ◌<◌, ◌≤◌, ◌∙◌, length, map, arith}
+use Rattle.std.proofs.Math.Seq.{map-set_same}
+use Rattle.shred_model.proofs.UpToFault.{SoFar-more, SoFar-fault, SoFar-end}
+use Rattle.shred_world.specs.Worlds.{world_held}
+use Rattle.shred.specs.Entries.{EntryRun, entry_states}
+use Rattle.shred.specs.PlanOf.{entry_plan}
+use Rattle.shred.proofs.dispatch.run.run_entries.Goals as goal
+
+pub returns-in-Err-clause-ran : goal.returns-in-Err-clause-ran
+returns-in-Err-clause-ran g c = SoFar-fault (EntryRun g.V.ResourceValue.kind_of g.S.System.step) entry_plan entry_states c.loop-entry.entries (world_held g.V.ResourceValue.kind_of c.loop-entry.world)
+    c.loop-entry.invariant.plan c.loop-entry.invariant.ran c.entry-item.result c.run_entry.new.entry (world_held g.V.ResourceValue.kind_of c.run_entry.new.world) (omega arith) c.in-Err.fault c.in-Err.ensures.ran
+
+pub returns-in-Err-clause-plan : goal.returns-in-Err-clause-plan
+returns-in-Err-clause-plan g c = map-set_same entry_plan c.loop-entry.entries c.loop-entry.entry-index c.run_entry.new.entry c.entry-item.result c.in-Err.ensures.plan ∙ c.loop-entry.invariant.plan
+
+pub returns-in-Err-clause-kinds : goal.returns-in-Err-clause-kinds
+returns-in-Err-clause-kinds g c = λ id. c.in-Err.ensures.kinds id ∙ c.loop-entry.invariant.kinds id
+
+pub loop-entry-preserved : goal.loop-entry-preserved
+loop-entry-preserved g c = record {
+  plan = map-set_same entry_plan c.loop-entry.entries c.loop-entry.entry-index c.run_entry.new.entry c.entry-item.result c.in_default.ensures.plan ∙ c.loop-entry.invariant.plan;
+  kinds = λ id. c.in_default.ensures.kinds id ∙ c.loop-entry.invariant.kinds id;
+  ran = SoFar-more (EntryRun g.V.ResourceValue.kind_of g.S.System.step) entry_plan entry_states c.loop-entry.entries (world_held g.V.ResourceValue.kind_of c.loop-entry.world)
+      c.loop-entry.invariant.plan c.loop-entry.invariant.ran c.entry-item.result c.run_entry.new.entry (world_held g.V.ResourceValue.kind_of c.run_entry.new.world) (omega arith) c.in_default.ensures.ran;
+}
+
+pub returns-clause-ran : goal.returns-clause-ran
+returns-clause-ran g c = SoFar-end (EntryRun g.V.ResourceValue.kind_of g.S.System.step) entry_plan entry_states c.loop-entry.entries (world_held g.V.ResourceValue.kind_of c.loop-entry.world)
+    c.loop-entry.invariant.plan c.loop-entry.invariant.ran (omega arith)

@@ -1,0 +1,28 @@
+use Rattle.std.proofs.Common.{◌<◌, length}
+use Rattle.std.proofs.lemmas.List.{length-map}
+use Rattle.shred.specs.PlanOf.{entry_plan, group_plan}
+use Rattle.shred.proofs.Times.{group_read}
+use Rattle.shred.proofs.StageKeeps.{IsKeptBy, kept_after_entry, plan_when_pushed, plan_when_refused}
+use Rattle.shred.proofs.dispatch.stage.Stage.push_entry.Goals as goal
+
+pub invariant_of-self : goal.invariant_of-self
+invariant_of-self g c =
+    let old = c.args.self.now in
+    let before : IsKeptBy old.groups.items = record { some_group = old.some_group; small_groups = old.small_groups; apart = old.apart; keep_ids = old.keep_ids } in
+    let within : c.args.group < length old.groups.items = rw (length-map old.groups.items group_plan) at c.requires.within in
+    let here = group_read old.groups.items c.args.group c.index_mut.result.now within c.index_mut.ensures.value in
+    kept_after_entry c.push.result old.groups.items c.args.group c.push.new.self c.args.entry before c.requires.within c.requires.room c.requires.others (rw here (c.push.ensures.ok, c.push.ensures.err)) c.push.ensures.ids
+
+pub returns-clause-ok : goal.returns-clause-ok
+returns-clause-ok g c =
+    let old = c.args.self.now in
+    let within : c.args.group < length old.groups.items = rw (length-map old.groups.items group_plan) at c.requires.within in
+    let here = group_read old.groups.items c.args.group c.index_mut.result.now within c.index_mut.ensures.value in
+    plan_when_pushed c.push.result old.groups.items c.args.group c.push.new.self (entry_plan c.args.entry) (rw here (c.push.ensures.ok, c.push.ensures.err))
+
+pub returns-clause-err : goal.returns-clause-err
+returns-clause-err g c =
+    let old = c.args.self.now in
+    let within : c.args.group < length old.groups.items = rw (length-map old.groups.items group_plan) at c.requires.within in
+    let here = group_read old.groups.items c.args.group c.index_mut.result.now within c.index_mut.ensures.value in
+    plan_when_refused c.push.result old.groups.items c.args.group c.push.new.self (entry_plan c.args.entry) (rw here (c.push.ensures.ok, c.push.ensures.err))

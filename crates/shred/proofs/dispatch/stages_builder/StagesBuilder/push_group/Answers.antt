@@ -1,0 +1,27 @@
+use Rattle.std.proofs.Common.{◌<◌, arith, length, length-set}
+use Rattle.std.proofs.lemmas.List.{length-map}
+use Rattle.shred.specs.StagePlan.{stage_plan}
+use Rattle.shred.proofs.PlanKeeps.{stage_read, few_stages, plan_when_done, plan_when_refused}
+use Rattle.shred.proofs.dispatch.stages_builder.StagesBuilder.push_group.Goals as goal
+
+pub push_group-requires : goal.push_group-requires
+push_group-requires g c =
+    let stages = c.args.self.now.stages.items in
+    let within : c.args.stage < length stages = rw (length-map stages stage_plan) at c.requires.within in
+    rw (stage_read stages c.args.stage c.index_mut.result.now within c.index_mut.ensures.value) at c.requires.free
+
+pub invariant_of-self : goal.invariant_of-self
+invariant_of-self g c =
+    record { barrier_within = omega (arith, length-set c.args.self.now.stages.items c.args.stage c.push_group.new.self, c.args.self.now.barrier_within); few_stages = few_stages _ }
+
+pub returns-clause-ok : goal.returns-clause-ok
+returns-clause-ok g c =
+    let stages = c.args.self.now.stages.items in
+    let within : c.args.stage < length stages = rw (length-map stages stage_plan) at c.requires.within in
+    rw (stage_read stages c.args.stage c.index_mut.result.now within c.index_mut.ensures.value) (plan_when_done c.push_group.result stages c.args.stage c.push_group.new.self _ c.push_group.ensures.ok)
+
+pub returns-clause-err : goal.returns-clause-err
+returns-clause-err g c =
+    let stages = c.args.self.now.stages.items in
+    let within : c.args.stage < length stages = rw (length-map stages stage_plan) at c.requires.within in
+    plan_when_refused c.push_group.result stages c.args.stage c.push_group.new.self (rw (stage_read stages c.args.stage c.index_mut.result.now within c.index_mut.ensures.value) c.push_group.ensures.err)

@@ -1,0 +1,17 @@
+use Rattle.std.proofs.Common.{◌∙◌, ap, refl}
+use Rattle.shred.specs.Time.{count_of}
+use Rattle.shred_world.specs.Id.{IsBefore}
+use Rattle.shred.proofs.Orders.{AllPairs-from_sorted, Contains-from_same, IsBefore-from_less}
+use Rattle.shred.proofs.dispatch.stages_builder.kept_entry.Goals as goal
+
+pub returns : goal.returns
+returns g c =
+    let sorted = c.sort_without_doubles in
+    let given = c.in-Ok-reads.ensures ∙ c.in-Ok.ensures.reads in
+    record {
+      same_id = refl;
+      reads_in_order = AllPairs-from_sorted _ IsBefore IsBefore-from_less sorted.new.items.items sorted.ensures.in_order;
+      same_reads = λ i. ((λ h. rw given at (sorted.ensures.none_new i h)), (λ h. Contains-from_same sorted.new.items.items i (sorted.ensures.none_lost i (rw given h))));
+      same_writes = c.in-Ok-writes.ensures ∙ c.in-Ok.ensures.writes;
+      same_time = ap count_of c.running_time-time.ensures;
+    }

@@ -1,0 +1,14 @@
+-- What a builder has planned.
+use Rattle.std.specs.Prelude.{ℕ}
+use Rattle.shred_world.specs.declared.id.ResourceId.{ResourceId}
+use Rattle.shred_model.specs.Plan.{Plan}
+use Rattle.shred.specs.StagePlan.{plan_of}
+use Rattle.shred.specs.declared.dispatch.stages_builder.StagesBuilder.{StagesBuilder}
+
+-- the builder's plan
+abbrev pub planned : {V S : Type 0} → StagesBuilder V S → Plan ResourceId
+planned builder = plan_of builder.stages.items
+
+-- the stage from which on new entries are placed
+abbrev pub barrier_of : {V S : Type 0} → StagesBuilder V S → ℕ
+barrier_of builder = builder.barrier

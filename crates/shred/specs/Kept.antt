@@ -1,0 +1,15 @@
+-- What the planner keeps of a system.
+use Rattle.std.specs.Prelude.{◌≡◌, ◌↔◌, ℕ, List, Contains, AllPairs}
+use Rattle.shred_world.specs.Id.{IsBefore}
+use Rattle.shred_world.specs.declared.id.ResourceId.{ResourceId}
+use Rattle.shred_model.specs.Plan.{Entry}
+use Rattle.shred.specs.Time.{count_of}
+use Rattle.shred.specs.declared.system.RunningTime.{RunningTime}
+
+-- The reads are kept in order, each once; the writes as they were given; the time as its count.
+pub record IsKept (id : ℕ) (reads writes : List ResourceId) (time : RunningTime) (entry : Entry ResourceId) : Type 0 where
+  pub same_id : entry.id ≡ id
+  pub reads_in_order : AllPairs IsBefore entry.access.reads
+  pub same_reads : (i : ResourceId) → Contains entry.access.reads i ↔ Contains reads i
+  pub same_writes : entry.access.writes ≡ writes
+  pub same_time : entry.time ≡ count_of time

@@ -1,0 +1,13 @@
+pub mod Time
+pub mod Faults
+pub mod PlanOf
+pub mod StagePlan
+pub mod Soundness
+pub mod Placement
+pub mod Search
+pub mod Kept
+pub mod BuilderPlan
+pub mod Steps
+pub mod Entries
+pub mod Plans
+pub mod Dispatchers

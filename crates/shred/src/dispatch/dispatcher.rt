@@ -1,0 +1,102 @@
+//! The dispatcher: it runs a plan.
+ghost use Rattle.std.specs.Prelude.{◌≡◌, Err, map};
+ghost use Rattle.std.specs.Option.{option_map};
+ghost use Rattle.shred_model.specs.OneThread.{LeavesAsOneThread};
+ghost use Rattle.shred_model.specs.Runs.{Ran};
+ghost use Rattle.shred_model.specs.States.{setting_of, listed_states};
+ghost use Rattle.shred_world.specs.declared.id.ResourceId.{ResourceId};
+ghost use Rattle.shred_world.specs.Worlds.{world_held};
+ghost use Rattle.shred.specs.Plans.{PlanRun, dispatch_answer, stage_states, plan_states};
+ghost use Rattle.shred.specs.Dispatchers.{dispatcher_plan, dispatcher_states};
+ghost use Rattle.shred.specs.StagePlan.{stage_plan, plan_of, widest};
+
+use crate::dispatch::entry::SystemId;
+use crate::dispatch::run::StageFault;
+use crate::dispatch::stage::Stage;
+use crate::system::{Fault, System};
+use shred_world::{ResourceValue, World};
+
+/// Why a dispatch did not end as Done.
+#[derive(Debug, Drop)]
+pub enum DispatchError<E> {
+    /// The staged system of this id ended with a fault.
+    System { id: SystemId, fault: Fault<E> },
+    /// The thread-local system at this place ended with a fault.
+    ThreadLocal { index: usize, fault: Fault<E> },
+    /// The stage of this number was refused for memory; those before it are done, and it was not begun.
+    StageMemory { stage: usize },
+}
+
+/// Runs the stages of a plan over a world.
+#[derive(Drop)]
+pub struct Dispatcher<V, S> {
+    stages: Vec<Stage<V, S>>,
+}
+
+/// The dispatcher of these stages. It takes no memory.
+pub fn new_dispatcher<V, S>(stages: Vec<Stage<V, S>>) -> Dispatcher<V, S>
+    ensures { dispatcher_plan result ≡ plan_of stages.items }
+{
+    Dispatcher { stages }
+}
+
+// The dispatcher's error for a fault of its stage.
+fn at_stage<E>(stage: usize, fault: StageFault<E>) -> DispatchError<E>
+    ensures { Err result ≡ dispatch_answer stage (Err fault) }
+{
+    match fault {
+        StageFault::System { id, fault } => DispatchError::System { id, fault },
+        StageFault::Memory => DispatchError::StageMemory { stage },
+    }
+}
+
+// The stages' runs, in order, up to the first that is not Done.
+fn run_stages<V: ResourceValue, S: System<V, Error = E>, E: Drop>(
+    stages: &mut [Stage<V, S>],
+    world: &mut World<V>,
+) -> Result<(), DispatchError<E>>
+    ensures ran { Ran (PlanRun V.kind_of S.step (plan_of stages.old)) (setting_of (plan_states stages.old) (world_held V.kind_of world.old)) result (setting_of (plan_states stages.new) (world_held V.kind_of world.new)) }
+    ensures plan { plan_of stages.new ≡ plan_of stages.old }
+    ensures kinds { (id : ResourceId) → option_map V.kind_of (world_held V.kind_of world.new id) ≡ option_map V.kind_of (world_held V.kind_of world.old id) }
+{
+    for (place, stage) in stages.iter_mut().enumerate() {
+        if let Err(fault) = stage.execute_seq(world) {
+            return Err(at_stage(place, fault));
+        }
+    }
+    Ok(())
+}
+
+// The same, of a vector of stages.
+fn run_plan<V: ResourceValue, S: System<V, Error = E>, E: Drop>(
+    stages: &mut Vec<Stage<V, S>>,
+    world: &mut World<V>,
+) -> Result<(), DispatchError<E>>
+    ensures ran { Ran (PlanRun V.kind_of S.step (plan_of stages.old.items)) (setting_of (plan_states stages.old.items) (world_held V.kind_of world.old)) result (setting_of (plan_states stages.new.items) (world_held V.kind_of world.new)) }
+    ensures plan { plan_of stages.new.items ≡ plan_of stages.old.items }
+    ensures kinds { (id : ResourceId) → option_map V.kind_of (world_held V.kind_of world.new id) ≡ option_map V.kind_of (world_held V.kind_of world.old id) }
+{
+    run_stages(stages.as_mut_slice(), world)
+}
+
+impl<V: ResourceValue, S: System<V, Error = E>, E: Drop> Dispatcher<V, S> {
+    /// Runs the stages, one after the other, up to the first that is not Done, on the caller's thread.
+    pub fn dispatch_seq(&mut self, world: &mut World<V>) -> Result<(), DispatchError<E>>
+        ensures ran { LeavesAsOneThread (λ list. PlanRun V.kind_of S.step (dispatcher_plan self.old) list result) (setting_of (dispatcher_states self.old) (world_held V.kind_of world.old)) (setting_of (dispatcher_states self.new) (world_held V.kind_of world.new)) }
+        ensures plan { dispatcher_plan self.new ≡ dispatcher_plan self.old }
+        ensures kinds { (id : ResourceId) → option_map V.kind_of (world_held V.kind_of world.new id) ≡ option_map V.kind_of (world_held V.kind_of world.old id) }
+    {
+        run_plan(&mut self.stages, world)
+    }
+
+    /// The greatest number of groups in a stage, 0 where there is none.
+    pub fn max_threads(&self) -> usize
+        ensures { result ≡ widest (dispatcher_plan self.now) }
+    {
+        let mut most: usize = 0;
+        for stage in &self.stages {
+            most = most.max(stage.max_threads());
+        }
+        most
+    }
+}

@@ -1,0 +1,169 @@
+//! Entries of a plan, in groups that run in order.
+ghost use Rattle.std.specs.Prelude.{◌≡◌, ◌≤◌, ◌<◌, ℕ, List, [], ◌∷◌, ◌++◌, map, length, remove, IfOk, OnOk, OnErr, IfSome, IfNone};
+ghost use Rattle.shred_model.specs.Plan.{group_ids, group_time};
+ghost use Rattle.shred_world.specs.Id.{same_id};
+ghost use Rattle.shred.specs.PlanOf.{access_of, entry_plan, group_plan, numbers_of, KeepsIds};
+ghost use Rattle.shred.specs.Placement.{difference, without};
+ghost use Rattle.shred.specs.Search.{share_item, accesses_conflict, group_conflicts, holds_any, is_touched};
+
+use crate::system::{RunningTime, System};
+use arrayvec::ArrayVec;
+use shred_world::{OutOfMemory, ResourceId, check_intersection};
+use smallvec::SmallVec;
+use std::alloc::Global;
+use std::default::MadeWith;
+
+/// The number under which a system was added.
+#[derive(Clone, Copy, Debug, PartialEq, Eq, PartialOrd, Ord, Hash)]
+pub struct SystemId(pub usize);
+
+impl<A: Drop> MadeWith<A> for SystemId {
+    fn made_with(_alloc: A) -> Self {
+        SystemId(0)
+    }
+}
+
+/// A system, with what was kept of it when it was placed.
+#[derive(Drop)]
+pub(crate) struct Entry<S> {
+    pub(crate) id: SystemId,
+    pub(crate) reads: Vec<ResourceId>,
+    pub(crate) writes: Vec<ResourceId>,
+    pub(crate) time: RunningTime,
+    pub(crate) system: S,
+}
+
+/// Entries that run one after the other, with their ids beside them.
+#[derive(Drop)]
+pub(crate) struct Group<S> {
+    pub(crate) ids: ArrayVec<SystemId, 4>,
+    pub(crate) entries: Vec<Entry<S>>,
+}
+
+fn shares_resource(first: &Vec<ResourceId>, second: &Vec<ResourceId>) -> bool
+    ensures { result ≡ share_item same_id first.now.items second.now.items }
+{
+    check_intersection(first.as_slice(), second.as_slice())
+}
+
+impl<S> Entry<S> {
+    /// Whether one entry writes what the other reads or writes.
+    pub(crate) fn conflicts(&self, other: &Entry<S>) -> bool
+        ensures { result ≡ accesses_conflict same_id (access_of self.now) (access_of other.now) }
+    {
+        shares_resource(&self.writes, &other.writes)
+            || shares_resource(&self.writes, &other.reads)
+            || shares_resource(&self.reads, &other.writes)
+    }
+}
+
+impl<S> Group<S> {
+    /// Whether an entry of the group conflicts with this one.
+    pub(crate) fn conflicts(&self, entry: &Entry<S>) -> bool
+        ensures { result ≡ group_conflicts same_id (access_of entry.now) (group_plan self.now) }
+    {
+        for member in &self.entries {
+            if member.conflicts(entry) {
+                return true;
+            }
+        }
+        false
+    }
+
+    /// Whether the group holds one of these ids.
+    fn holds_any(&self, ids: &[SystemId]) -> bool
+        requires { KeepsIds self.now }
+        ensures { result ≡ holds_any (numbers_of ids.now) (group_plan self.now) }
+    {
+        check_intersection(self.ids.as_slice(), ids)
+    }
+
+    /// Whether the entry has to come after this group: they conflict, or the group holds an id that is left.
+    pub(crate) fn is_touched(&self, left: &[SystemId], entry: &Entry<S>) -> bool
+        requires { KeepsIds self.now }
+        ensures { result ≡ is_touched same_id (numbers_of left.now) (access_of entry.now) (group_plan self.now) }
+    {
+        self.holds_any(left) || self.conflicts(entry)
+    }
+
+    /// The sum of the entries' times.
+    pub(crate) fn time(&self) -> usize
+        requires { length self.now.entries.items ≤ 4 }
+        ensures value { result ≡ group_time (group_plan self.now) }
+        ensures small { result ≤ 20 }
+    {
+        let mut time = 0;
+        for entry in &self.entries {
+            time += entry.time.count();
+        }
+        time
+    }
+
+    /// A group of one entry.
+    pub(crate) fn new(alloc: Global, entry: Entry<S>) -> Result<Self, OutOfMemory>
+    where
+        S: Drop,
+        ensures plan { IfOk result (λ group. group_plan group ≡ entry_plan entry ∷ []) }
+        ensures ids { IfOk result KeepsIds }
+    {
+        let mut ids: ArrayVec<SystemId, 4> = ArrayVec::new_in(());
+        ids.push(entry.id);
+        let mut entries = Vec::new(alloc);
+        match entries.push(entry) {
+            Ok(()) => Ok(Group { ids, entries }),
+            Err(_) => Err(OutOfMemory),
+        }
+    }
+
+    /// Puts the entry at the group's end.
+    pub(crate) fn push(&mut self, entry: Entry<S>) -> Result<(), OutOfMemory>
+    where
+        S: Drop,
+        requires room { length self.old.entries.items < 4 }
+        requires ids { KeepsIds self.old }
+        ensures ok { OnOk result (group_plan self.new ≡ group_plan self.old ++ entry_plan entry ∷ []) }
+        ensures err { OnErr result (group_plan self.new ≡ group_plan self.old) }
+        ensures ids { KeepsIds self.new }
+    {
+        let id = entry.id;
+        match self.entries.push(entry) {
+            Ok(()) => {
+                self.ids.push(id);
+                Ok(())
+            }
+            Err(_) => Err(OutOfMemory),
+        }
+    }
+
+    /// Takes out of the list, for each of the group's ids, one that equals it.
+    pub(crate) fn take_ids(&self, left: &mut SmallVec<SystemId, 4>)
+        requires { KeepsIds self.now }
+        ensures { numbers_of left.new.items ≡ difference (numbers_of left.old.items) (group_ids (group_plan self.now)) }
+    {
+        for id in self.ids.as_slice() {
+            take_id(left, *id);
+        }
+    }
+}
+
+fn take_id(left: &mut SmallVec<SystemId, 4>, id: SystemId)
+    ensures { numbers_of left.new.items ≡ without id.0 (numbers_of left.old.items) }
+{
+    if let Some(place) = place_of(left.as_slice(), id) {
+        left.remove(place);
+    }
+}
+
+/// The first place of the id in the list, if it stands there.
+fn place_of(ids: &[SystemId], id: SystemId) -> Option<usize>
+    ensures within { IfSome result (λ place. place < length ids.now) }
+    ensures found { IfSome result (λ place. without id.0 (numbers_of ids.now) ≡ remove (numbers_of ids.now) place) }
+    ensures absent { IfNone result (without id.0 (numbers_of ids.now) ≡ numbers_of ids.now) }
+{
+    for (place, other) in ids.iter().enumerate() {
+        if *other == id {
+            return Some(place);
+        }
+    }
+    None
+}

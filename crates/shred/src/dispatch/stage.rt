@@ -1,0 +1,185 @@
+//! A stage of a plan: groups that run beside each other.
+ghost use Rattle.std.specs.Prelude.{◌≡◌, ◌↔◌, ◌<◌, ◌≤◌, ℕ, length, All, IfOk, OnOk, OnErr, IsSome, IfSome, ◌++◌, ◌∷◌, [], slice_set, slice_index_or};
+ghost use Rattle.shred_model.specs.Plan.{group_access, group_ids, stage_ids};
+ghost use Rattle.shred_model.specs.Access.{Conflicts};
+ghost use Rattle.shred_world.specs.Id.{same_id};
+ghost use Rattle.shred.specs.Placement.{difference, greatest_time};
+ghost use Rattle.shred.specs.PlanOf.{access_of, entry_plan, group_plan, groups_plan, numbers_of, KeepsIds};
+ghost use Rattle.shred.specs.Search.{is_touched, may_end, SpotIs, TouchedIs};
+ghost use Rattle.shred.specs.Soundness.{AreApart, IsSmallGroup, OthersDoNotConflict};
+
+use crate::dispatch::entry::{Entry, Group, SystemId};
+use crate::dispatch::run::{StageFault, run_stage};
+use crate::dispatch::spot::{Spot, Touched};
+use crate::system::System;
+use shred_world::{OutOfMemory, ResourceValue, World};
+use smallvec::SmallVec;
+use std::alloc::Global;
+use std::marker::PhantomData;
+
+/// Groups that do not conflict, of one to four entries each.
+#[derive(Drop)]
+pub struct Stage<V, S> {
+    groups: Vec<Group<S>>,
+    value: PhantomData<V>,
+    ghost some_group: { 0 < length groups.items },
+    ghost small_groups: { All IsSmallGroup (groups_plan groups.items) },
+    ghost apart: { AreApart (groups_plan groups.items) },
+    ghost keep_ids: { All KeepsIds groups.items },
+}
+
+impl<V, S> Stage<V, S> {
+    ghost use Rattle.shred.specs.StagePlan.{stage_plan};
+
+    /// A stage with this entry alone.
+    pub(crate) fn new(alloc: Global, entry: Entry<S>) -> Result<Self, OutOfMemory>
+    where
+        S: Drop,
+        ensures { IfOk result (λ stage. stage_plan stage ≡ (entry_plan entry ∷ []) ∷ []) }
+    {
+        let mut groups = Vec::new(alloc);
+        match Group::new(alloc, entry) {
+            Ok(group) => match groups.push(group) {
+                Ok(()) => Ok(Stage {
+                    groups,
+                    value: PhantomData,
+                }),
+                Err(_) => Err(OutOfMemory),
+            },
+            Err(e) => Err(e),
+        }
+    }
+
+    /// The ids of a group's systems, in order, if the stage has this group.
+    pub fn group_ids(&self, group: usize) -> Option<&[SystemId]>
+        ensures some { IsSome result ↔ (group < length (stage_plan self.now)) }
+        ensures ids { IfSome result (λ ids. numbers_of ids.now ≡ group_ids (slice_index_or (stage_plan self.now) group [])) }
+    {
+        if group < self.groups.len() {
+            Some(self.groups[group].ids.as_slice())
+        } else {
+            None
+        }
+    }
+
+    /// Where the stage takes the entry, if it does, while these dependencies are left.
+    pub(crate) fn spot_for(&self, left: &[SystemId], entry: &Entry<S>) -> Option<Spot>
+        ensures { SpotIs (numbers_of left.now) (entry_plan entry.now) (stage_plan self.now) result }
+    {
+        match self.touched(left, entry) {
+            Touched::Nothing => left.is_empty().then_some(Spot::NewGroup),
+            Touched::One(group) => self
+                .may_end(left, entry, group)
+                .then_some(Spot::EndOf(group)),
+            Touched::Several => None,
+        }
+    }
+
+    /// Which groups the entry has to come after.
+    fn touched(&self, left: &[SystemId], entry: &Entry<S>) -> Touched
+        ensures { TouchedIs (is_touched same_id (numbers_of left.now) (access_of entry.now)) (stage_plan self.now) result }
+    {
+        let mut touched = Touched::Nothing;
+        for (place, group) in self.groups.iter().enumerate() {
+            if group.is_touched(left, entry) {
+                match touched {
+                    Touched::Nothing => touched = Touched::One(place),
+                    _ => return Touched::Several,
+                }
+            }
+        }
+        touched
+    }
+
+    /// Whether the entry may stand at the end of this group, the only one that it has to come after.
+    fn may_end(&self, left: &[SystemId], entry: &Entry<S>, group: usize) -> bool
+        requires { group < length (stage_plan self.now) }
+        ensures { result ≡ may_end same_id (numbers_of left.now) (entry_plan entry.now) (stage_plan self.now) (slice_index_or (stage_plan self.now) group []) }
+    {
+        let group = &self.groups[group];
+        group.entries.len() < 4
+            && (left.is_empty() || left.len() == 1 && !group.conflicts(entry))
+            && entry.time.count() < 2 * (self.greatest_time() - group.time())
+    }
+
+    /// The greatest time of a group.
+    fn greatest_time(&self) -> usize
+        ensures value { result ≡ greatest_time (stage_plan self.now) }
+        ensures small { result ≤ 20 }
+    {
+        let mut greatest: usize = 0;
+        for group in &self.groups {
+            greatest = greatest.max(group.time());
+        }
+        greatest
+    }
+
+    /// Takes out of the list, for each id of the stage, one that equals it.
+    pub(crate) fn take_ids(&self, left: &mut SmallVec<SystemId, 4>)
+        ensures { numbers_of left.new.items ≡ difference (numbers_of left.old.items) (stage_ids (stage_plan self.now)) }
+    {
+        for group in &self.groups {
+            if left.is_empty() {
+                return;
+            }
+            group.take_ids(left);
+        }
+    }
+
+    /// Gives the entry a new last group.
+    pub(crate) fn push_group(&mut self, entry: Entry<S>) -> Result<(), OutOfMemory>
+    where
+        S: Drop,
+        requires { All (λ group. Conflicts (group_access group) (access_of entry) → ⊥) (stage_plan self.old) }
+        ensures ok { OnOk result (stage_plan self.new ≡ stage_plan self.old ++ (entry_plan entry ∷ []) ∷ []) }
+        ensures err { OnErr result (stage_plan self.new ≡ stage_plan self.old) }
+    {
+        let alloc = *self.groups.allocator();
+        match Group::new(alloc, entry) {
+            Ok(group) => match self.groups.push(group) {
+                Ok(()) => Ok(()),
+                Err(_) => Err(OutOfMemory),
+            },
+            Err(e) => Err(e),
+        }
+    }
+
+    /// Puts the entry at the end of a group.
+    pub(crate) fn push_entry(&mut self, group: usize, entry: Entry<S>) -> Result<(), OutOfMemory>
+    where
+        S: Drop,
+        requires within { group < length (stage_plan self.old) }
+        requires room { length (slice_index_or (stage_plan self.old) group []) < 4 }
+        requires others { OthersDoNotConflict (stage_plan self.old) group (access_of entry) }
+        ensures ok { OnOk result (stage_plan self.new ≡ slice_set (stage_plan self.old) group (slice_index_or (stage_plan self.old) group [] ++ entry_plan entry ∷ [])) }
+        ensures err { OnErr result (stage_plan self.new ≡ stage_plan self.old) }
+    {
+        self.groups[group].push(entry)
+    }
+}
+
+impl<V: ResourceValue, S: System<V, Error = E>, E: Drop> Stage<V, S> {
+    ghost use Rattle.std.specs.Option.{option_map};
+    ghost use Rattle.shred_model.specs.OneThread.{LeavesAsOneThread};
+    ghost use Rattle.shred_model.specs.States.{setting_of};
+    ghost use Rattle.shred_world.specs.declared.id.ResourceId.{ResourceId};
+    ghost use Rattle.shred_world.specs.Worlds.{world_held};
+    ghost use Rattle.shred.specs.Plans.{StageTurn, stage_states};
+    ghost use Rattle.shred.specs.StagePlan.{stage_plan};
+
+    /// Runs the groups one after the other, every group's systems up to the first that is not Done, on the caller's thread.
+    pub fn execute_seq(&mut self, world: &mut World<V>) -> Result<(), StageFault<E>>
+        ensures ran { LeavesAsOneThread (λ list. StageTurn V.kind_of S.step (stage_plan self.old) list result) (setting_of (stage_states self.old) (world_held V.kind_of world.old)) (setting_of (stage_states self.new) (world_held V.kind_of world.new)) }
+        ensures plan { stage_plan self.new ≡ stage_plan self.old }
+        ensures kinds { (id : ResourceId) → option_map V.kind_of (world_held V.kind_of world.new id) ≡ option_map V.kind_of (world_held V.kind_of world.old id) }
+    {
+        run_stage(&mut self.groups, world)
+    }
+
+    /// The number of groups.
+    pub fn max_threads(&self) -> usize
+        ensures { result ≡ length (stage_plan self.now) }
+    {
+        self.groups.len()
+    }
+}

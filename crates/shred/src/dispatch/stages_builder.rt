@@ -1,0 +1,211 @@
+//! The planner: it gives each new system a place in the plan.
+ghost use Rattle.std.specs.Prelude.{◌≡◌, ◌<◌, ◌≤◌, ℕ, length, [], ◌∷◌, ◌++◌, slice_index_or, slice_set, All, IfOk, OnOk, OnErr};
+ghost use Rattle.shred_world.specs.declared.id.ResourceId.{ResourceId};
+ghost use Rattle.shred_model.specs.Plan as model;
+ghost use Rattle.shred_model.specs.Access.{Conflicts};
+ghost use Rattle.shred_model.specs.Plan.{group_access, plan_ids};
+ghost use Rattle.shred.specs.Kept.{IsKept};
+ghost use Rattle.shred.specs.Placement.{IsPlaced};
+ghost use Rattle.shred.specs.PlanOf.{access_of, entry_plan, numbers_of};
+ghost use Rattle.shred.specs.Search.{PlaceIs};
+ghost use Rattle.shred.specs.Soundness.{OthersDoNotConflict};
+ghost use Rattle.shred.specs.StagePlan.{plan_of};
+
+use crate::dispatch::entry::{Entry, SystemId};
+use crate::dispatch::sorted::sort_without_doubles;
+use crate::dispatch::spot::Spot;
+use crate::dispatch::stage::Stage;
+use crate::system::System;
+use shred_world::{Accessor, OutOfMemory, ResourceValue};
+use smallvec::SmallVec;
+use std::alloc::Global;
+
+/// A plan that grows by one system after another.
+#[derive(Drop)]
+pub struct StagesBuilder<V, S> {
+    stages: Vec<Stage<V, S>>,
+    barrier: usize,
+    ghost barrier_within: { barrier ≤ length stages.items },
+    ghost few_stages: { length stages.items ≤ length (plan_ids (plan_of stages.items)) },
+}
+
+impl<V, S> StagesBuilder<V, S> {
+    ghost use Rattle.shred.specs.BuilderPlan.{planned, barrier_of};
+
+    /// An empty plan. It takes no memory.
+    pub fn new(alloc: Global) -> Self
+        ensures plan { planned result ≡ [] }
+        ensures barrier { barrier_of result ≡ 0 }
+    {
+        StagesBuilder {
+            stages: Vec::new(alloc),
+            barrier: 0,
+        }
+    }
+
+    /// `new`.
+    pub fn default(alloc: Global) -> Self
+        ensures plan { planned result ≡ [] }
+        ensures barrier { barrier_of result ≡ 0 }
+    {
+        Self::new(alloc)
+    }
+
+    /// The stages of the plan. It takes no memory.
+    pub fn build(self) -> Vec<Stage<V, S>>
+    where
+        V: Drop,
+        S: Drop,
+        ensures { plan_of result.items ≡ planned self }
+    {
+        self.stages
+    }
+
+    /// Gives the system its place in the plan. Where memory is refused, the system is dropped.
+    pub fn insert(
+        &mut self,
+        dependencies: &[SystemId],
+        id: SystemId,
+        system: S,
+    ) -> Result<(), OutOfMemory>
+    where
+        V: ResourceValue,
+        S: System<V> + Drop,
+        requires no_dependencies { dependencies.now ≡ [] }
+        ensures placed { OnOk result ((entry : model.Entry ResourceId) × IsKept id.0 (S.reads system) (S.writes system) (S.time system) entry
+            × IsPlaced (planned self.old) (barrier_of self.old) (barrier_of self.old) (numbers_of dependencies.now) entry (planned self.new)) }
+        ensures err { OnErr result (planned self.new ≡ planned self.old) }
+        ensures barrier { barrier_of self.new ≡ barrier_of self.old }
+    {
+        let start = self.barrier;
+        match kept_entry::<V, S>(id, system) {
+            Ok(entry) => self.place(start, dependencies, entry),
+            Err(e) => Err(e),
+        }
+    }
+
+    /// Places the entry in a stage from `start` on.
+    fn place(
+        &mut self,
+        start: usize,
+        dependencies: &[SystemId],
+        entry: Entry<S>,
+    ) -> Result<(), OutOfMemory>
+    where
+        S: Drop,
+        requires { barrier_of self.old ≤ start }
+        ensures placed { OnOk result (IsPlaced (planned self.old) (barrier_of self.old) start (numbers_of dependencies.now) (entry_plan entry) (planned self.new)) }
+        ensures err { OnErr result (planned self.new ≡ planned self.old) }
+        ensures barrier { barrier_of self.new ≡ barrier_of self.old }
+    {
+        let alloc = *self.stages.allocator();
+        let left = match SmallVec::from_slice(alloc, dependencies) {
+            Ok(left) => left,
+            Err(_) => return Err(OutOfMemory),
+        };
+        match self.find(start, left, &entry) {
+            None => self.push_stage(entry),
+            Some((stage, Spot::NewGroup)) => self.push_group(stage, entry),
+            Some((stage, Spot::EndOf(group))) => self.push_entry(stage, group, entry),
+        }
+    }
+
+    /// Gives the entry a new last group of this stage.
+    fn push_group(&mut self, stage: usize, entry: Entry<S>) -> Result<(), OutOfMemory>
+    where
+        S: Drop,
+        requires within { stage < length (planned self.old) }
+        requires free { All (λ group. Conflicts (group_access group) (access_of entry) → ⊥) (slice_index_or (planned self.old) stage []) }
+        ensures ok { OnOk result (planned self.new ≡ slice_set (planned self.old) stage (slice_index_or (planned self.old) stage [] ++ (entry_plan entry ∷ []) ∷ [])) }
+        ensures err { OnErr result (planned self.new ≡ planned self.old) }
+        ensures barrier { barrier_of self.new ≡ barrier_of self.old }
+    {
+        self.stages[stage].push_group(entry)
+    }
+
+    /// Puts the entry at the end of this group.
+    fn push_entry(&mut self, stage: usize, group: usize, entry: Entry<S>) -> Result<(), OutOfMemory>
+    where
+        S: Drop,
+        requires within { stage < length (planned self.old) }
+        requires within_stage { group < length (slice_index_or (planned self.old) stage []) }
+        requires room { length (slice_index_or (slice_index_or (planned self.old) stage []) group []) < 4 }
+        requires others { OthersDoNotConflict (slice_index_or (planned self.old) stage []) group (access_of entry) }
+        ensures ok { let here = slice_index_or (planned self.old) stage [] in
+            OnOk result (planned self.new ≡ slice_set (planned self.old) stage (slice_set here group (slice_index_or here group [] ++ entry_plan entry ∷ []))) }
+        ensures err { OnErr result (planned self.new ≡ planned self.old) }
+        ensures barrier { barrier_of self.new ≡ barrier_of self.old }
+    {
+        self.stages[stage].push_entry(group, entry)
+    }
+
+    /// Gives the entry a new last stage.
+    fn push_stage(&mut self, entry: Entry<S>) -> Result<(), OutOfMemory>
+    where
+        S: Drop,
+        ensures ok { OnOk result (planned self.new ≡ planned self.old ++ ((entry_plan entry ∷ []) ∷ []) ∷ []) }
+        ensures err { OnErr result (planned self.new ≡ planned self.old) }
+        ensures barrier { barrier_of self.new ≡ barrier_of self.old }
+    {
+        let alloc = *self.stages.allocator();
+        match Stage::new(alloc, entry) {
+            Ok(stage) => match self.stages.push(stage) {
+                Ok(()) => Ok(()),
+                Err(_) => Err(OutOfMemory),
+            },
+            Err(e) => Err(e),
+        }
+    }
+
+    /// The first stage from `start` on that takes the entry, and where.
+    fn find(
+        &self,
+        start: usize,
+        mut left: SmallVec<SystemId, 4>,
+        entry: &Entry<S>,
+    ) -> Option<(usize, Spot)>
+        requires { barrier_of self.now ≤ start }
+        ensures { PlaceIs (planned self.now) (barrier_of self.now) start (numbers_of left.items) (entry_plan entry.now) result }
+    {
+        for place in self.barrier..self.stages.len() {
+            let stage = &self.stages[place];
+            if start <= place {
+                if let Some(spot) = stage.spot_for(left.as_slice(), entry) {
+                    return Some((place, spot));
+                }
+            }
+            stage.take_ids(&mut left);
+        }
+        None
+    }
+}
+
+/// What is kept of a system.
+fn kept_entry<V: ResourceValue, S: System<V> + Drop>(
+    id: SystemId,
+    system: S,
+) -> Result<Entry<S>, OutOfMemory>
+    ensures { IfOk result (λ entry. IsKept id.0 (S.reads system) (S.writes system) (S.time system) (entry_plan entry)) }
+{
+    let time = system.running_time();
+    let accessor = match system.accessor() {
+        Ok(accessor) => accessor,
+        Err(e) => return Err(e),
+    };
+    let mut reads = match accessor.reads() {
+        Ok(reads) => reads,
+        Err(e) => return Err(e),
+    };
+    let writes = match accessor.writes() {
+        Ok(writes) => writes,
+        Err(e) => return Err(e),
+    };
+    sort_without_doubles(&mut reads);
+    Ok(Entry {
+        id,
+        reads,
+        writes,
+        time,
+        system,
+    })
+}

@@ -1,0 +1,16 @@
+//! Systems dispatched over shared resources.
+#![tactic(auto)]
+
+pub mod dispatch;
+pub mod system;
+
+pub use dispatch::dispatcher::{DispatchError, Dispatcher, new_dispatcher};
+pub use dispatch::entry::SystemId;
+pub use dispatch::run::StageFault;
+pub use dispatch::stage::Stage;
+pub use dispatch::stages_builder::StagesBuilder;
+pub use shred_world::{
+    Accessor, DataError, Fetch, Kind, OutOfMemory, Resource, ResourceId, ResourceValue, View,
+    World, WorldError, check_intersection,
+};
+pub use system::{Fault, RunningTime, System};

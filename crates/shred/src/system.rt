@@ -1,0 +1,104 @@
+//! Systems: what is dispatched.
+ghost use Rattle.std.specs.Prelude.{◌≡◌, List, IfOk, false, is_some};
+ghost use Rattle.shred.specs.Time.{count_of};
+ghost use Rattle.shred.specs.declared.system.RunningTime.{RunningTime};
+ghost use Rattle.shred_world.specs.declared.id.ResourceId.{ResourceId};
+
+use shred_world::{Accessor, DataError, OutOfMemory, ResourceValue, View, World};
+
+/// How long a system is thought to take.
+#[derive(Clone, Copy, Debug, PartialEq, Eq)]
+pub enum RunningTime {
+    VeryShort = 1,
+    Short = 2,
+    Average = 3,
+    Long = 4,
+    VeryLong = 5,
+}
+
+impl RunningTime {
+    /// The time as a count, from 1 to 5.
+    pub fn count(self) -> usize
+        ensures { result ≡ count_of self }
+    {
+        match self {
+            RunningTime::VeryShort => 1,
+            RunningTime::Short => 2,
+            RunningTime::Average => 3,
+            RunningTime::Long => 4,
+            RunningTime::VeryLong => 5,
+        }
+    }
+}
+
+/// Why a system ended without being done.
+#[derive(Debug, Drop)]
+pub enum Fault<E> {
+    Refused(E),
+    OutOfMemory,
+}
+
+impl<E: From<DataError>> From<DataError> for Fault<E> {
+    ghost use Rattle.shred.specs.Faults.{FaultGives};
+
+    ghost from_gives = { λ error fault. FaultGives E.from_gives error fault };
+
+    fn from(error: DataError) -> Self {
+        match error {
+            DataError::OutOfMemory => Fault::OutOfMemory,
+            other => Fault::Refused(E::from(other)),
+        }
+    }
+}
+
+/// What is run over the resources that it declares.
+pub trait System<V: ResourceValue> {
+    ghost use Rattle.shred.specs.Steps.{Held, Outcome, Step};
+    ghost use Rattle.shred_world.specs.Views.{view_held, declared_held, may_write, IsSameView};
+    ghost use Rattle.shred_world.specs.Worlds.{world_held};
+
+    type Error;
+
+    type Accessor: Accessor + Drop;
+
+    ghost reads: { Self → List ResourceId };
+
+    ghost writes: { Self → List ResourceId };
+
+    ghost time: { Self → RunningTime };
+
+    ghost step: { Step V Self Self.Error };
+
+    ghost sets_up: { Step V Self Self.Error };
+
+    ghost disposes: { Self → Held V → Outcome Self.Error → Held V → Type 0 };
+
+    /// One step, over a view of the declared ids.
+    fn run(&mut self, view: &mut View<V>) -> Result<(), Fault<Self::Error>>
+        ensures step { step self.old (declared_held V.kind_of view.old) result self.new (declared_held V.kind_of view.new) }
+        ensures table { view.new.own.ghost_name ≡ view.old.own.ghost_name }
+        ensures view { IsSameView view.old view.new }
+        ensures ids { (id : ResourceId) → is_some (view_held V.kind_of view.new id) ≡ is_some (view_held V.kind_of view.old id) }
+        ensures frame { (id : ResourceId) → may_write view.old id ≡ false → view_held V.kind_of view.new id ≡ view_held V.kind_of view.old id }
+        ensures reads { reads self.new ≡ reads self.old }
+        ensures writes { writes self.new ≡ writes self.old };
+
+    /// How long a run is thought to take.
+    fn running_time(&self) -> RunningTime
+        ensures { result ≡ time self.now };
+
+    /// What the system declares.
+    fn accessor(&self) -> Result<Self::Accessor, OutOfMemory>
+        ensures reads { IfOk result (λ a. Self.Accessor.reads a ≡ reads self.now) }
+        ensures writes { IfOk result (λ a. Self.Accessor.writes a ≡ writes self.now) };
+
+    /// What is done once, before the first run.
+    fn setup(&mut self, world: &mut World<V>) -> Result<(), Fault<Self::Error>>
+        ensures sets_up { sets_up self.old (world_held V.kind_of world.old) result self.new (world_held V.kind_of world.new) }
+        ensures reads { reads self.new ≡ reads self.old }
+        ensures writes { writes self.new ≡ writes self.old };
+
+    /// What is done once, after the last run.
+    fn dispose(self, world: &mut World<V>) -> Result<(), Fault<Self::Error>>
+        ensures { disposes self (world_held V.kind_of world.old) result (world_held V.kind_of world.new) };
+}

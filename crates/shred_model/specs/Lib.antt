@@ -1,0 +1,9 @@
+pub mod Access
+pub mod Plan
+pub mod Record
+pub mod Replay
+pub mod KeptOrder
+pub mod Runs
+pub mod States
+pub mod OneThread
+pub mod Beside

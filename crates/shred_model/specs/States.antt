@@ -1,0 +1,23 @@
+-- Where the states of the agents stand.
+use Rattle.std.specs.Prelude.{List, [], ◌∷◌, Option, Some, None, slice_get, option_and_then}
+use Rattle.shred_model.specs.Record.{Agent}
+use Rattle.shred_model.specs.Replay.{Setting}
+
+-- one agent alone, with its state
+abbrev pub own_state : {S : Type 0} → S → Agent → Option S
+own_state s [] = Some s
+own_state s (n ∷ a) = None
+
+-- this state of the agent itself, and those of the agents inside it
+abbrev pub with_own : {S : Type 0} → S → (Agent → Option S) → Agent → Option S
+with_own s states [] = Some s
+with_own s states (n ∷ a) = states (n ∷ a)
+
+-- the state of the agent at path n ∷ a is that of a in the n-th element, if there is one
+abbrev pub listed_states : {Y S : Type 0} → (Y → Agent → Option S) → List Y → Agent → Option S
+listed_states states ys [] = None
+listed_states states ys (n ∷ a) = option_and_then (λ y. states y a) (slice_get ys n)
+
+-- these states, and these values
+abbrev pub setting_of : {A I V S : Type 0} → (A → Option S) → (I → Option V) → Setting A I V S
+setting_of states values = record { values = values; states = states }

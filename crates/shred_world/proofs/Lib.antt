@@ -1,0 +1,5 @@
+pub mod Slots
+pub mod Ids
+pub mod Views
+pub mod Refusals
+pub mod HeldKinds

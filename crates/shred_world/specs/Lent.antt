@@ -1,0 +1,63 @@
+-- What a table ends as where a part of it is lent to be written.
+use Rattle.std.specs.Prelude.{◌≡◌, ℕ, Option, Some, None, IfSome, OnSome}
+use Rattle.std.specs.Borrow.{Lends, LendsIf, LendsSo, LendsSoOk, MutBor, Fml, RattleType}
+use Rattle.std.specs.Prelude.{Result, []}
+use Rattle.shred_world.specs.declared.world.World.{World}
+use Rattle.shred_world.specs.contracts.world.World.{the_row as world_row}
+use mir.Syntax.{named}
+use Rattle.shred_world.specs.declared.id.Kind.{Kind}
+use Rattle.shred_world.specs.declared.id.ResourceId.{ResourceId}
+use Rattle.shred_world.specs.declared.table.Slot.{Slot}
+use Rattle.shred_world.specs.declared.table.Table.{Table}
+use Rattle.shred_world.specs.contracts.table.Slot.{the_row as slot_row}
+use Rattle.shred_world.specs.contracts.table.Table.{the_row as table_row}
+use Rattle.shred_world.specs.declared.world.data.View.{View}
+use Rattle.shred_world.specs.contracts.world.data.View.{the_row as view_row}
+use Rattle.shred_world.specs.Slots.{slot_at, held, with_at}
+use Rattle.shred_world.specs.Views.{view_held, IsSameView}
+
+-- the slot with this value
+abbrev pub with_value : {V : Type 0} → Slot V → V → Slot V
+with_value s w = record s { value = Some w }
+
+-- the slot ends with the value last written, or as it was where it has none
+abbrev pub LendsValue : (V : RattleType) → MutBor (Slot V.Denot) → Option (MutBor V.Denot) → Fml
+LendsValue V s r = LendsIf (slot_row V) V s r (with_value s.now) s.now
+
+-- the slot ends with the resource last written, as a value, or as it was
+abbrev pub LendsResource : (V R : RattleType) → (R.Denot → V.Denot) → MutBor (Slot V.Denot) → Option (MutBor R.Denot) → Fml
+LendsResource V R wrapped s r = LendsIf (slot_row V) R s r (λ w. with_value s.now (wrapped w)) s.now
+
+-- the table ends with the slot last written at the id, and all else as it was
+abbrev pub LendsSlot : (V : RattleType) → MutBor (Table V.Denot) → ResourceId → Option (MutBor (Slot V.Denot)) → Fml
+LendsSlot V s id r = LendsSo (table_row V) (slot_row V) s r
+    (λ n w. OnSome r ((q : ResourceId) → slot_at n q ≡ with_at (slot_at s.now) id (Some w) q))
+    (λ n. (q : ResourceId) → slot_at n q ≡ slot_at s.now q)
+
+-- the table ends with the resource last written under the id, and all else as it was
+abbrev pub LendsHeld : (V R : RattleType) → (R.Denot → V.Denot) → MutBor (Table V.Denot) → ResourceId → Option (MutBor R.Denot) → Fml
+LendsHeld V R wrapped s id r = LendsSo (table_row V) R s r
+    (λ n w. OnSome r ((q : ResourceId) → slot_at n q ≡ with_at (slot_at s.now) id (Some (record { value = Some (wrapped w) })) q))
+    (λ n. (q : ResourceId) → slot_at n q ≡ slot_at s.now q)
+
+-- the row of a view whose lifetimes stand at these places of a signature
+abbrev pub view_at : ℕ → ℕ → RattleType → RattleType
+view_at s a V = view_row (record { mir = named s; lft = [] }) (record { mir = named a; lft = [] }) V
+
+-- the view ends with the resource last written under the id, and all else as it was
+abbrev pub LendsWritten : (V R : RattleType) → (V.Denot → Kind) → (R.Denot → V.Denot) → MutBor (View V.Denot) → ResourceId → {E : Type 0} → Result (MutBor R.Denot) E → Fml
+LendsWritten V R kind wrapped s id r = LendsSoOk (view_at 1 2 V) R s r
+    (λ n w. IsSameView s.now n × ((q : ResourceId) → view_held kind n q ≡ with_at (view_held kind s.now) id (Some (wrapped w)) q))
+    (λ n. IsSameView s.now n × ((q : ResourceId) → view_held kind n q ≡ view_held kind s.now q))
+
+-- the view ends with the table that the narrowed one leaves
+abbrev pub LendsNarrow : (V : RattleType) → MutBor (View V.Denot) → View V.Denot → Fml
+LendsNarrow V s r = Lends (view_at 1 2 V) (table_row V) s r.own (λ t. record s.now { own = record s.now.own { now = t } })
+
+-- the world ends with the table that the view leaves
+abbrev pub LendsWorld : (V : RattleType) → MutBor (World V.Denot) → View V.Denot → Fml
+LendsWorld V s r = Lends (world_row V) (table_row V) s r.own (λ t. record s.now { table = t })
+
+-- the world ends with the table last written
+abbrev pub LendsTable : (V : RattleType) → MutBor (World V.Denot) → MutBor (Table V.Denot) → Fml
+LendsTable V s r = Lends (world_row V) (table_row V) s r (λ t. record s.now { table = t })

@@ -1,0 +1,5 @@
+pub mod Id
+pub mod Slots
+pub mod Lent
+pub mod Views
+pub mod Worlds

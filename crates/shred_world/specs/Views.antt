@@ -1,0 +1,78 @@
+-- Views: the declared ids, what is held under them, and what is out.
+use Rattle.std.specs.Prelude.{◌≡◌, ℕ, Bool, true, false, Option, Some, None, cond, nat_eq, not, ◌&&◌, ◌||◌, List, [], ◌∷◌, is_some}
+use Rattle.std.specs.List.{list_any}
+use Rattle.shred_world.specs.declared.id.Kind.{Kind}
+use Rattle.shred_world.specs.declared.id.ResourceId.{ResourceId}
+use Rattle.shred_world.specs.declared.table.Slot.{Slot}
+use Rattle.shred_world.specs.declared.table.Table.{Table}
+use Rattle.shred_world.specs.declared.world.data.DataError.{DataError}
+use Rattle.shred_world.specs.declared.world.data.DataError.TheVariants.{Missing, Undeclared, Taken, WrongKind}
+use Rattle.shred_world.specs.declared.world.data.Shelf.{Shelf, Last, Before'}
+use Rattle.shred_world.specs.declared.world.data.View.{View}
+use Rattle.shred_world.specs.Slots.{among, slot_at, slot_held, or_slot}
+
+-- the slot that a shelf shows for an id: that of the nearest table which has one
+abbrev pub shelf_slot : {V : Type 0} → Shelf V → ResourceId → Option (Slot V)
+shelf_slot (Last table) id = slot_at table.now id
+shelf_slot (Before' table p rest) id = or_slot (slot_at table.now id) (shelf_slot rest id)
+
+-- the slot that is lent shared for an id, where there is a shelf
+abbrev pub lent_slot : {V : Type 0} → List (Shelf V) → ResourceId → Option (Slot V)
+lent_slot [] id = None
+lent_slot (shelf ∷ rest) id = shelf_slot shelf id
+
+-- the slot that a view shows for an id: its own, or else the shelf's where the id is not one of its own
+abbrev pub view_slot : {V : Type 0} → View V → ResourceId → Option (Slot V)
+view_slot v id = or_slot (slot_at v.own.now id) (cond (among v.owned.now id) None (lent_slot v.shelf.now id))
+
+-- what a view shows under an id
+abbrev pub view_held : {V : Type 0} → (V → Kind) → View V → ResourceId → Option V
+view_held kind v id = slot_held kind id (view_slot v id)
+
+-- whether the id is declared to be written
+abbrev pub may_write : {V : Type 0} → View V → ResourceId → Bool
+may_write v id = among v.writes.now id && among v.owned.now id
+
+-- whether the id is declared at all
+abbrev pub may_read : {V : Type 0} → View V → ResourceId → Bool
+may_read v id = among v.reads.now id || may_write v id
+
+-- whether the id is declared to be written, and its value handed out
+abbrev pub is_out : {V : Type 0} → View V → ResourceId → Bool
+is_out v id = may_write v id && among v.out.now id
+
+-- the first test that a part for an id fails: of the kind, of what is declared, of what is out, of what is held
+abbrev pub refusal : Kind → ResourceId → Bool → Bool → Bool → Option DataError
+refusal asked id declared out there = cond (nat_eq asked.0 id.kind.0)
+    (cond declared (cond out (Some (Taken id)) (cond there None (Some (Missing id)))) (Some (Undeclared id)))
+    (Some (WrongKind asked id.kind))
+
+-- what a view shows of the declared ids alone
+abbrev pub declared_held : {V : Type 0} → (V → Kind) → View V → ResourceId → Option V
+declared_held kind v id = cond (may_read v id) (view_held kind v id) None
+
+-- the name of the table behind the view
+abbrev pub table_of : {V : Type 0} → View V → ℕ
+table_of v = v.own.ghost_name
+
+-- the same ids are declared and out, the same tables are lent, and no slot came or went
+pub record IsSameView {V : Type 0} (old new : View V) : Type 0 where
+  pub reads : new.reads.now ≡ old.reads.now
+  pub writes : new.writes.now ≡ old.writes.now
+  pub owned : new.owned.now ≡ old.owned.now
+  pub shelf : (id : ResourceId) → lent_slot new.shelf.now id ≡ lent_slot old.shelf.now id
+  pub table : table_of new ≡ table_of old
+  pub slots : (id : ResourceId) → is_some (slot_at new.own.now id) ≡ is_some (slot_at old.own.now id)
+  pub out : (id : ResourceId) → is_out new id ≡ is_out old id
+
+-- the table that the view is lent to write
+abbrev pub table_in : {V : Type 0} → View V → Table V
+table_in v = v.own.now
+
+-- the ids that are looked for in that table alone
+abbrev pub owned_ids : {V : Type 0} → View V → List ResourceId
+owned_ids v = v.owned.now
+
+-- the tables that are lent shared
+abbrev pub shelves_of : {V : Type 0} → View V → List (Shelf V)
+shelves_of v = v.shelf.now

@@ -1,0 +1,127 @@
+//! A table of slots, each of one id; the value of a slot may be moved out of it and back.
+ghost use Rattle.std.specs.Prelude.{◌≡◌, ◌≢◌, IfNone, IfSome, None, Some, MatchOption, OnOk, OnErr};
+ghost use Rattle.std.specs.Option.{option_copied, option_copied_mut};
+ghost use Rattle.std.specs.Borrow.{sem};
+ghost use Rattle.shred_world.specs.Slots.{slot_at, of_kind, held, slot_held, with_at};
+ghost use Rattle.shred_world.specs.Id.{kind_of};
+ghost use Rattle.shred_world.specs.Lent.{LendsSlot, LendsValue, LendsResource, LendsHeld};
+ghost use Rattle.shred_world.specs.declared.id.ResourceId.{ResourceId};
+
+use crate::accessor::OutOfMemory;
+use crate::id::ResourceId;
+use crate::resource::{Resource, ResourceValue};
+use std::alloc::Global;
+use std::collections::HashMap;
+
+/// The place of a value; it stays while the value is moved out.
+#[derive(Drop)]
+pub struct Slot<V> {
+    pub(crate) value: Option<V>,
+}
+
+impl<V> Slot<V> {
+    // The value, where it is of the id's kind.
+    pub(crate) fn held(&self, id: ResourceId) -> Option<&V>
+    where
+        V: ResourceValue,
+        ensures { option_copied result ≡ of_kind V.kind_of id self.now.value }
+    {
+        match &self.value {
+            Some(value) => {
+                if value.kind() == id.kind() {
+                    Some(value)
+                } else {
+                    None
+                }
+            }
+            None => None,
+        }
+    }
+
+    fn value_mut(&mut self) -> Option<&mut V>
+        ensures shown { MatchOption result (self.old.value ≡ None) (λ r. self.old.value ≡ Some r.now) }
+        ensures* written { sem 𝓛 (LendsValue V.row self.entry result) }
+    {
+        self.value.as_mut()
+    }
+
+    fn resource_mut<R: Resource<V>>(&mut self) -> Option<&mut R>
+    where
+        V: ResourceValue,
+        ensures shown { MatchOption result (IfSome self.old.value (λ v. V.kind_of v ≢ R.KIND)) (λ r. self.old.value ≡ Some (R.wrapped r.now)) }
+        ensures* written { sem 𝓛 (LendsResource V.row R.row R.wrapped self.entry result) }
+    {
+        let value = self.value_mut()?;
+        R::view_mut(value)
+    }
+}
+
+#[derive(Drop)]
+pub struct Table<V> {
+    slots: HashMap<ResourceId, Slot<V>>,
+}
+
+impl<V> Table<V> {
+    // No slots.
+    pub(crate) fn new(alloc: Global) -> Self
+        ensures { (id : ResourceId) → slot_at result id ≡ None }
+    {
+        Table {
+            slots: HashMap::new(alloc),
+        }
+    }
+
+    // The slot of an id.
+    pub(crate) fn slot(&self, id: ResourceId) -> Option<&Slot<V>>
+        ensures { option_copied result ≡ slot_at self.now id }
+    {
+        self.slots.get(&id)
+    }
+
+    // The value that is held under an id.
+    pub(crate) fn get(&self, id: ResourceId) -> Option<&V>
+    where
+        V: ResourceValue,
+        ensures { option_copied result ≡ held V.kind_of self.now id }
+    {
+        match self.slot(id) {
+            Some(slot) => slot.held(id),
+            None => None,
+        }
+    }
+
+    // Puts a value into the slot of an id, which is made where there is none.
+    pub(crate) fn put(&mut self, id: ResourceId, value: V) -> Result<(), OutOfMemory>
+    where
+        V: Drop,
+        ensures ok { OnOk result ((q : ResourceId) → slot_at self.new q ≡ with_at (slot_at self.old) id (Some (record { value = Some value })) q) }
+        ensures err { OnErr result ((q : ResourceId) → slot_at self.new q ≡ slot_at self.old q) }
+        ensures no_room { OnErr result (slot_at self.old id ≡ None) }
+    {
+        let slot = Slot { value: Some(value) };
+        match self.slots.insert(id, slot) {
+            Ok(_) => Ok(()),
+            Err(_) => Err(OutOfMemory),
+        }
+    }
+
+    // The slot of an id, to write.
+    pub(crate) fn slot_mut(&mut self, id: ResourceId) -> Option<&mut Slot<V>>
+        ensures shown { option_copied_mut result ≡ slot_at self.old id }
+        ensures* written { sem 𝓛 (LendsSlot V.row self.entry id result) }
+    {
+        self.slots.get_mut(&id)
+    }
+
+    // The resource that is held under an id, to write.
+    pub(crate) fn resource_mut<R: Resource<V>>(&mut self, id: ResourceId) -> Option<&mut R>
+    where
+        V: ResourceValue,
+        ensures shown { IfSome result (λ r. slot_at self.old id ≡ Some (record { value = Some (R.wrapped r.now) })) }
+        ensures missing { R.KIND ≡ kind_of id → IfNone result (held V.kind_of self.old id ≡ None) }
+        ensures* written { sem 𝓛 (LendsHeld V.row R.row R.wrapped self.entry id result) }
+    {
+        let slot = self.slot_mut(id)?;
+        slot.resource_mut()
+    }
+}

@@ -1,0 +1,222 @@
+//! Views: what a system is lent of a world.
+ghost use Rattle.std.specs.Prelude.{◌≡◌, ◌&&◌, ◌||◌, Bool, Some, IfOk, IsTrue, true, false, is_some};
+ghost use Rattle.std.specs.Borrow.{sem};
+ghost use Rattle.shred_world.specs.declared.id.ResourceId.{ResourceId};
+ghost use Rattle.shred_world.specs.Lent.{LendsWritten, LendsNarrow};
+ghost use Rattle.std.specs.Option.{option_copied};
+ghost use Rattle.std.specs.Result.{result_err};
+ghost use Rattle.shred_world.specs.Slots.{among};
+ghost use Rattle.shred_world.specs.Views.{shelf_slot, lent_slot, view_slot, view_held, may_read, may_write, is_out, refusal, table_in, owned_ids, shelves_of};
+
+use crate::id::{Kind, ResourceId};
+use crate::resource::{Resource, ResourceValue};
+use crate::table::{Slot, Table};
+
+/// Why a part of the data is not handed out.
+#[derive(Clone, Copy, Debug, PartialEq, Eq)]
+pub enum DataError {
+    /// No value is held under the id.
+    Missing(ResourceId),
+    /// The id is not declared for this use.
+    Undeclared(ResourceId),
+    /// The value is handed out already.
+    Taken(ResourceId),
+    OutOfMemory,
+    /// The caller's type has the kind `asked`, and the id the kind `found`.
+    WrongKind { asked: Kind, found: Kind },
+}
+
+/// Tables lent shared, one behind another, of which the nearest that has a slot for an id shows it.
+#[derive_where(Clone, Copy)]
+pub enum Shelf<'s, V> {
+    Last(&'s Table<V>),
+    Before(&'s Table<V>, &'s Shelf<'s, V>),
+}
+
+impl<'s, V> Shelf<'s, V> {
+    /// The slot that is shown for an id.
+    pub fn slot(&self, id: ResourceId) -> Option<&'s Slot<V>>
+        ensures { option_copied result ≡ shelf_slot self.now id }
+    {
+        match self {
+            Shelf::Last(table) => table.slot(id),
+            Shelf::Before(table, rest) => match table.slot(id) {
+                Some(slot) => Some(slot),
+                None => rest.slot(id),
+            },
+        }
+    }
+}
+
+/// The declared ids of one system, each with its value where the world holds it.
+#[derive(Drop)]
+pub struct View<'s, 'a, V> {
+    reads: &'s [ResourceId],
+    writes: &'s [ResourceId],
+    owned: &'s [ResourceId],
+    out: &'s [ResourceId],
+    shelf: &'s [Shelf<'s, V>],
+    own: &'a mut Table<V>,
+}
+
+impl<'s, 'a, V: ResourceValue> View<'s, 'a, V> {
+    // The slot that is lent shared for an id.
+    fn lent_slot(&self, id: ResourceId) -> Option<&'s Slot<V>>
+        ensures { option_copied result ≡ lent_slot self.now.shelf.now id }
+    {
+        match self.shelf.first() {
+            Some(shelf) => shelf.slot(id),
+            None => None,
+        }
+    }
+
+    // The slot that the view shows for an id.
+    fn slot(&self, id: ResourceId) -> Option<&Slot<V>>
+        ensures { option_copied result ≡ view_slot self.now id }
+    {
+        match self.own.slot(id) {
+            Some(slot) => Some(slot),
+            None => {
+                if self.owned.contains(&id) {
+                    None
+                } else {
+                    self.lent_slot(id)
+                }
+            }
+        }
+    }
+
+    fn may_write(&self, id: ResourceId) -> bool
+        ensures { result ≡ may_write self.now id }
+    {
+        self.writes.contains(&id) && self.owned.contains(&id)
+    }
+
+    fn may_read(&self, id: ResourceId) -> bool
+        ensures { result ≡ may_read self.now id }
+    {
+        self.reads.contains(&id) || self.may_write(id)
+    }
+
+    // The value that the view shows under an id.
+    fn get(&self, id: ResourceId) -> Option<&V>
+        ensures { option_copied result ≡ view_held V.kind_of self.now id }
+    {
+        match self.slot(id) {
+            Some(slot) => slot.held(id),
+            None => None,
+        }
+    }
+
+    fn is_out(&self, id: ResourceId) -> bool
+        ensures { result ≡ is_out self.now id }
+    {
+        self.may_write(id) && self.out.contains(&id)
+    }
+
+    // The tests of a part that come before the look whether a value is held.
+    fn test<R: Resource<V>>(&self, id: ResourceId, declared: bool) -> Result<(), DataError>
+        ensures { result_err result ≡ refusal R.KIND id declared (is_out self.now id) true }
+    {
+        if R::KIND != id.kind() {
+            return Err(DataError::WrongKind {
+                asked: R::KIND,
+                found: id.kind(),
+            });
+        }
+        if !declared {
+            return Err(DataError::Undeclared(id));
+        }
+        if self.is_out(id) {
+            return Err(DataError::Taken(id));
+        }
+        Ok(())
+    }
+
+    /// The resource that is held under an id which is declared to be read or written.
+    pub fn read<R: Resource<V>>(&self, id: ResourceId) -> Result<&R, DataError>
+        ensures refused { result_err result ≡ refusal R.KIND id (may_read self.now id) (is_out self.now id) (is_some (view_held V.kind_of self.now id)) }
+        ensures shown { IfOk result (λ r. view_held V.kind_of self.now id ≡ Some (R.wrapped r.now)) }
+    {
+        if let Err(error) = self.test::<R>(id, self.may_read(id)) {
+            return Err(error);
+        }
+        let Some(value) = self.get(id) else {
+            return Err(DataError::Missing(id));
+        };
+        match R::view(value) {
+            Some(resource) => Ok(resource),
+            None => Err(DataError::Missing(id)),
+        }
+    }
+
+    /// The resource that is held under an id which is declared to be written, to write.
+    pub fn write<R: Resource<V>>(&mut self, id: ResourceId) -> Result<&mut R, DataError>
+        ensures refused { result_err result ≡ refusal R.KIND id (may_write self.old id) (is_out self.old id) (is_some (view_held V.kind_of self.old id)) }
+        ensures shown { IfOk result (λ r. view_held V.kind_of self.old id ≡ Some (R.wrapped r.now)) }
+        ensures* written { sem 𝓛 (LendsWritten V.row R.row V.kind_of R.wrapped self.entry id result) }
+    {
+        if let Err(error) = self.test::<R>(id, self.may_write(id)) {
+            return Err(error);
+        }
+        let Some(resource) = self.own.resource_mut::<R>(id) else {
+            return Err(DataError::Missing(id));
+        };
+        Ok(resource)
+    }
+
+    /// The view of fewer ids, which all lie in this view's own.
+    pub fn narrow<'b>(
+        &'b mut self,
+        reads: &'b [ResourceId],
+        writes: &'b [ResourceId],
+    ) -> View<'b, 'b, V>
+        requires reads_within { (id : ResourceId) → IsTrue (among reads.now id) → IsTrue (may_read self.old id) }
+        requires writes_within { (id : ResourceId) → IsTrue (among writes.now id) → IsTrue (may_write self.old id) }
+        ensures reads { (id : ResourceId) → may_read result id ≡ (among reads.now id || among writes.now id) }
+        ensures writes { (id : ResourceId) → may_write result id ≡ among writes.now id }
+        ensures out { (id : ResourceId) → is_out result id ≡ (among writes.now id && is_out self.old id) }
+        ensures shown { (id : ResourceId) → view_held V.kind_of result id ≡ view_held V.kind_of self.old id }
+        ensures own { table_in result ≡ table_in self.old }
+        ensures owned { owned_ids result ≡ owned_ids self.old }
+        ensures shelf { shelves_of result ≡ shelves_of self.old }
+        ensures* back { sem 𝓛 (LendsNarrow V.row self.entry result) }
+    {
+        View {
+            reads,
+            writes,
+            owned: self.owned,
+            out: self.out,
+            shelf: self.shelf,
+            own: &mut *self.own,
+        }
+    }
+}
+
+impl<'s, 'a, V> View<'s, 'a, V> {
+    /// The view of these ids over a table, and over what is lent shared where the table has no slot. It is there for
+    /// those who lend views of a world's table.
+    pub fn over(
+        reads: &'s [ResourceId],
+        writes: &'s [ResourceId],
+        shelf: &'s [Shelf<'s, V>],
+        own: &'a mut Table<V>,
+    ) -> Self
+        ensures name { result.own.ghost_name ≡ own.entry.ghost_name }
+        ensures own { result.own.now ≡ own.old }
+        ensures reads { result.reads.now ≡ reads.now }
+        ensures writes { result.writes.now ≡ writes.now }
+        ensures owned { result.owned.now ≡ writes.now }
+        ensures nothing_out { (id : ResourceId) → is_out result id ≡ false }
+        ensures shelf { result.shelf.now ≡ shelf.now }
+    {
+        View {
+            reads,
+            writes,
+            owned: writes,
+            out: &[],
+            shelf,
+            own,
+        }
+    }
+}

@@ -1,0 +1,6 @@
+use Rattle.shred_world.specs.declared.id.Kind.{Kind}
+use Rattle.shredscript.specs.declared.value.Value.{Value}
+
+-- every value is of the one kind
+abbrev pub kind_of : Value → Kind
+kind_of value = record { 0 = 0 }

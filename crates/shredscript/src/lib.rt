@@ -1,0 +1,16 @@
+//! The script language: a script is read, looked through, run, and its outcome printed.
+#![tactic(auto)]
+
+mod declared;
+mod engine;
+mod error;
+mod input;
+mod outcome;
+mod run_plan;
+mod script;
+mod step;
+mod system;
+mod value;
+mod words;
+
+pub use engine::run;

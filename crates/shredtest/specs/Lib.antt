@@ -1,0 +1,3 @@
+pub mod Values
+pub mod Plain
+pub mod Slow

@@ -1,0 +1,177 @@
+//! Whole runs, from a script's bytes to what is printed.
+use fakes::{FailingReader, FailingWriter, InterruptedReader, RepeatingReader};
+use shredscript::run;
+use std::alloc::Global;
+use std::io::Read;
+use std::process::Abort;
+
+mod cases;
+mod fakes;
+
+/// What a run wrote and answered.
+#[derive(Drop)]
+struct Printed {
+    out: Vec<u8>,
+    err: Vec<u8>,
+    status: u8,
+}
+
+fn run_on<R: Read>(alloc: Global, reader: &mut R) -> Printed {
+    let mut out = Vec::new(alloc);
+    let mut err = Vec::new(alloc);
+    let status = run(alloc, reader, &mut out, &mut err);
+    Printed { out, err, status }
+}
+
+/// The script is read whole, and prints this.
+fn assert_prints(rt: &(impl Abort + AllocGlobal), script: &str, out: &str, err: &str, status: u8) {
+    let mut reader = script.as_bytes();
+    let printed = run_on(rt.alloc(), &mut reader);
+    assert_eq!(rt; printed.out.as_slice(), out.as_bytes(), "out of {script:?}");
+    assert_eq!(rt; printed.err.as_slice(), err.as_bytes(), "err of {script:?}");
+    assert_eq!(rt; printed.status, status, "status of {script:?}");
+}
+
+/// Nothing is run, and this is told.
+fn assert_tells<R: Read>(rt: &(impl Abort + AllocGlobal), reader: &mut R, err: &str) {
+    let printed = run_on(rt.alloc(), reader);
+    assert_eq!(rt; printed.out.len(), 0);
+    assert_eq!(rt; printed.err.as_slice(), err.as_bytes());
+    assert_eq!(rt; printed.status, 1);
+}
+
+#[test]
+fn prints_what_is_done(rt: HostRuntime) {
+    for (script, out) in cases::DONE {
+        assert_prints(&rt, script, out, "", 0);
+    }
+}
+
+#[test]
+fn prints_what_was_done_before_a_refusal(rt: HostRuntime) {
+    for (script, out) in cases::REFUSED {
+        assert_prints(&rt, script, out, "", 2);
+    }
+}
+
+#[test]
+fn runs_by_the_plan(rt: HostRuntime) {
+    for (script, out, status) in cases::PLANNED {
+        assert_prints(&rt, script, out, "", *status);
+    }
+}
+
+#[test]
+fn tells_the_first_fault(rt: HostRuntime) {
+    for (script, err) in cases::FAULTY {
+        assert_prints(&rt, script, "", err, 1);
+    }
+}
+
+#[test]
+fn tells_bytes_that_are_no_text(rt: HostRuntime) {
+    let mut comment = b"res X 1\n# \xff".as_slice();
+    assert_tells(&rt, &mut comment, "line 2: unknown line\n");
+    let mut lone_byte = b"\x80".as_slice();
+    assert_tells(&rt, &mut lone_byte, "line 1: unknown line\n");
+}
+
+const SCRIPT: &str = "res X 1\nres Y 20\nsys a average - X+=10 refuse:7\n";
+
+const PRINTED: &str = "X=11\nY=20\nsystem 0 refused 7\n";
+
+#[test]
+fn reads_in_pieces_of_any_length(rt: HostRuntime) {
+    for most in 1..SCRIPT.len() {
+        let mut reader = FailingReader::never(SCRIPT.as_bytes(), most);
+        let printed = run_on(rt.alloc(), &mut reader);
+        assert_eq!(rt;
+            printed.out.as_slice(),
+            PRINTED.as_bytes(),
+            "in pieces of {most}"
+        );
+        assert_eq!(rt; printed.status, 2);
+    }
+}
+
+#[test]
+fn reads_on_after_an_interruption(rt: HostRuntime) {
+    let mut reader = InterruptedReader::new(SCRIPT.as_bytes());
+    let printed = run_on(rt.alloc(), &mut reader);
+    assert_eq!(rt; printed.out.as_slice(), PRINTED.as_bytes());
+    assert_eq!(rt; printed.status, 2);
+}
+
+#[test]
+fn tells_a_failed_read_wherever_it_comes(rt: HostRuntime) {
+    for after in 0..SCRIPT.len() {
+        let mut reader = FailingReader::after(SCRIPT.as_bytes(), after);
+        assert_tells(&rt, &mut reader, "input failed\n");
+    }
+}
+
+#[test]
+fn tells_a_failed_read_before_a_fault(rt: HostRuntime) {
+    let script = "unknown\n";
+    let mut reader = FailingReader::after(script.as_bytes(), script.len());
+    assert_tells(&rt, &mut reader, "input failed\n");
+}
+
+#[test]
+fn tells_a_failed_write_wherever_it_comes(rt: HostRuntime) {
+    for after in 0..PRINTED.len() {
+        let mut reader = SCRIPT.as_bytes();
+        let mut out = FailingWriter::after(rt.alloc(), after);
+        let mut err = Vec::new(rt.alloc());
+        let status = run(rt.alloc(), &mut reader, &mut out, &mut err);
+        assert_eq!(rt;
+            out.written(),
+            &PRINTED.as_bytes()[..after],
+            "after {after}"
+        );
+        assert_eq!(rt;
+            err.as_slice(),
+            "output failed\n".as_bytes(),
+            "after {after}"
+        );
+        assert_eq!(rt; status, 1, "after {after}");
+    }
+}
+
+#[test]
+fn tells_a_failed_flush(rt: HostRuntime) {
+    let mut reader = SCRIPT.as_bytes();
+    let mut out = FailingWriter::at_flush(rt.alloc());
+    let mut err = Vec::new(rt.alloc());
+    assert_eq!(rt; run(rt.alloc(), &mut reader, &mut out, &mut err), 1);
+    assert_eq!(rt; out.written(), PRINTED.as_bytes());
+    assert_eq!(rt; err.as_slice(), "output failed\n".as_bytes());
+}
+
+#[test]
+fn a_failed_write_of_a_fault_changes_no_status(rt: HostRuntime) {
+    for (script, status) in [("plan", 1), ("", 0), ("sys a short - refuse:1", 2)] {
+        let mut reader = script.as_bytes();
+        let mut out = Vec::new(rt.alloc());
+        let mut err = FailingWriter::after(rt.alloc(), 0);
+        assert_eq!(rt; run(rt.alloc(), &mut reader, &mut out, &mut err), status);
+    }
+}
+
+#[test]
+fn bounds_the_length_of_a_script(rt: HostRuntime) {
+    let mut longest = RepeatingReader::of_spaces(1_048_576);
+    let printed = run_on(rt.alloc(), &mut longest);
+    assert_eq!(rt; printed.out.as_slice(), "ok\n".as_bytes());
+    assert_eq!(rt; printed.status, 0);
+    let mut too_long = RepeatingReader::of_spaces(1_048_577);
+    assert_tells(&rt, &mut too_long, "script too long\n");
+}
+
+#[test]
+fn of_too_long_and_a_failed_read_tells_the_first(rt: HostRuntime) {
+    let mut fails_at_the_limit = RepeatingReader::failing_after(1_048_576);
+    assert_tells(&rt, &mut fails_at_the_limit, "input failed\n");
+    let mut fails_past_the_limit = RepeatingReader::failing_after(1_048_577);
+    assert_tells(&rt, &mut fails_past_the_limit, "script too long\n");
+}

@@ -1,0 +1,112 @@
+//! Two kinds of resources, for the tests.
+ghost use Rattle.std.specs.Prelude.{◌≡◌, MatchOption, MatchResult};
+ghost use Rattle.shred_world.specs.declared.id.Kind.{Kind};
+ghost use Rattle.shredtest.specs.Values.{kind_of, count_kind, name_kind};
+ghost use Rattle.shredtest.specs.declared.values.Value.{Value};
+ghost use Rattle.shredtest.specs.declared.values.Value.TheVariants.{Count, Name};
+
+use shred::{Kind, Resource, ResourceValue};
+
+/// What the tests' worlds hold.
+#[derive(Debug, Drop, PartialEq)]
+pub enum Value {
+    Count(Count),
+    Name(Name),
+}
+
+/// A resource of kind 0.
+#[derive(Clone, Copy, Debug, PartialEq)]
+pub struct Count(pub i64);
+
+/// A resource of kind 1.
+#[derive(Clone, Copy, Debug, PartialEq)]
+pub struct Name(pub u8);
+
+impl ResourceValue for Value {
+    ghost kind_of = { kind_of };
+
+    fn kind(&self) -> Kind {
+        match self {
+            Value::Count(_) => Kind(0),
+            Value::Name(_) => Kind(1),
+        }
+    }
+}
+
+impl Resource<Value> for Count {
+    ghost KIND = { count_kind };
+
+    const KIND: Kind = Kind(0);
+
+    ghost wrapped = { λ c. Count c };
+
+    fn wrap(self) -> Value {
+        Value::Count(self)
+    }
+
+    fn unwrap(value: Value) -> Result<Self, Value> {
+        match value {
+            Value::Count(count) => Ok(count),
+            other => Err(other),
+        }
+    }
+
+    fn view(value: &Value) -> Option<&Self> {
+        match value {
+            Value::Count(count) => Some(count),
+            Value::Name(_) => None,
+        }
+    }
+
+    fn view_mut(value: &mut Value) -> Option<&mut Self> {
+        match value {
+            Value::Count(count) => Some(count),
+            Value::Name(_) => None,
+        }
+    }
+
+    ghost use Rattle.std.proofs.Common.{refl};
+
+    ghost wrapped_kind = { λ r. refl };
+
+    ghost wrapped_once = { λ r s e. Prim.cc };
+}
+
+impl Resource<Value> for Name {
+    ghost KIND = { name_kind };
+
+    const KIND: Kind = Kind(1);
+
+    ghost wrapped = { λ n. Name n };
+
+    fn wrap(self) -> Value {
+        Value::Name(self)
+    }
+
+    fn unwrap(value: Value) -> Result<Self, Value> {
+        match value {
+            Value::Name(name) => Ok(name),
+            other => Err(other),
+        }
+    }
+
+    fn view(value: &Value) -> Option<&Self> {
+        match value {
+            Value::Name(name) => Some(name),
+            Value::Count(_) => None,
+        }
+    }
+
+    fn view_mut(value: &mut Value) -> Option<&mut Self> {
+        match value {
+            Value::Name(name) => Some(name),
+            Value::Count(_) => None,
+        }
+    }
+
+    ghost use Rattle.std.proofs.Common.{refl};
+
+    ghost wrapped_kind = { λ r. refl };
+
+    ghost wrapped_once = { λ r s e. Prim.cc };
+}

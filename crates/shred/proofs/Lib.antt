@@ -1,4 +1,6 @@
+pub mod Added
 pub mod Apart
+pub mod EntriesAt
 pub mod Ids
 pub mod Left
 pub mod Membership

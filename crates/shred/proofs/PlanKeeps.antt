@@ -10,8 +10,8 @@ use Rattle.shred_model.specs.Plan as model
 use Rattle.shred_model.specs.Plan.{group_access, group_ids, stage_ids, plan_ids}
 use Rattle.shred.specs.Placement.{IsPlaced, in_new_group, at_end_of_group}
 use Rattle.shred.specs.PlanOf.{group_plan, groups_plan}
-use Rattle.shred.specs.Search.{PlaceIs}
-use Rattle.shred.specs.Soundness.{IsSmallGroup, OthersDoNotConflict}
+use Rattle.shred.specs.Search.{OthersDoNotConflict, PlaceIs}
+use Rattle.shred.specs.Soundness.{IsSmallGroup}
 use Rattle.shred.specs.StagePlan.{stage_plan, plan_of}
 use Rattle.shred.specs.declared.dispatch.entry.Group.{Group}
 use Rattle.shred.specs.declared.dispatch.spot.Spot.{Spot}
@@ -86,6 +86,6 @@ pub known_place : {I : Type 0} (plan : model.Plan I) (barrier start : ℕ) (copi
 known_place plan barrier start copied dependencies entry answer k found spot is same e f =
     subst (λ s. PlaceIs plan barrier start dependencies entry (Some (k, s))) f (subst (λ a. PlaceIs plan barrier start dependencies entry a) e (subst (λ ids. PlaceIs plan barrier start ids entry answer) same is))
 
-pub OnOk-weaker : {T E : Type 0} {P Q : Type 0} (result : Result T E) → (P → Q) → OnOk result P → OnOk result Q
-OnOk-weaker (Ok x) weaker p = weaker p
-OnOk-weaker (Err e) weaker p = tt
+pub OnOk-both : {T E : Type 0} {P Q R : Type 0} (result : Result T E) → (P → Q → R) → OnOk result P → OnOk result Q → OnOk result R
+OnOk-both (Ok x) join p q = join p q
+OnOk-both (Err e) join p q = tt

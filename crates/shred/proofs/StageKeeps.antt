@@ -10,7 +10,8 @@ use Rattle.shred_model.specs.Access.{Conflicts}
 use Rattle.shred_model.specs.Plan as model
 use Rattle.shred_model.specs.Plan.{group_access}
 use Rattle.shred.specs.PlanOf.{access_of, entry_plan, group_plan, groups_plan, KeepsIds}
-use Rattle.shred.specs.Soundness.{AreApart, IsSmallGroup, OthersDoNotConflict}
+use Rattle.shred.specs.Search.{OthersDoNotConflict}
+use Rattle.shred.specs.Soundness.{AreApart, IsSmallGroup}
 use Rattle.shred.specs.declared.dispatch.entry.Entry.{Entry}
 use Rattle.shred.specs.declared.dispatch.entry.Group.{Group}
 use Rattle.shred.proofs.Apart.{AreApart-push, AreApart-set}

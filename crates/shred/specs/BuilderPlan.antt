@@ -1,7 +1,9 @@
 -- What a builder has planned.
-use Rattle.std.specs.Prelude.{ℕ}
+use Rattle.std.specs.Prelude.{ℕ, Option}
 use Rattle.shred_world.specs.declared.id.ResourceId.{ResourceId}
 use Rattle.shred_model.specs.Plan.{Plan}
+use Rattle.shred_model.specs.Record.{Agent}
+use Rattle.shred.specs.Plans.{plan_states}
 use Rattle.shred.specs.StagePlan.{plan_of}
 use Rattle.shred.specs.declared.dispatch.stages_builder.StagesBuilder.{StagesBuilder}
 
@@ -12,3 +14,7 @@ planned builder = plan_of builder.stages.items
 -- the stage from which on new entries are placed
 abbrev pub barrier_of : {V S : Type 0} → StagesBuilder V S → ℕ
 barrier_of builder = builder.barrier
+
+-- the states of its systems, by stage, group and position
+abbrev pub builder_states : {V S : Type 0} → StagesBuilder V S → Agent → Option S
+builder_states builder path = plan_states builder.stages.items path

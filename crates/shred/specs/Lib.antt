@@ -11,3 +11,5 @@ pub mod Steps
 pub mod Entries
 pub mod Plans
 pub mod Dispatchers
+pub mod Added
+pub mod EntriesAt

@@ -53,6 +53,7 @@ abbrev pub NoneAdmits : {I : Type 0} → Plan I → ℕ → ℕ → List ℕ →
 NoneAdmits {I} plan barrier start dependencies entry k = (j : ℕ) (stage : Stage I) → start ≤ j → j < k → slice_get plan j ≡ Some stage → Admits (dependencies_left plan barrier dependencies j) entry stage → ⊥
 
 -- The first stage from start on that admits the entry takes it, as a new last group or at the end of the group that is admitted; where no stage does, the entry stands alone in a new last stage. All else is as before.
+-- What is left of the dependencies at a stage is always counted from the barrier; only the search begins at start.
 pub data IsPlaced {I : Type 0} (plan : Plan I) (barrier start : ℕ) (dependencies : List ℕ) (entry : Entry I) (placed : Plan I) : Type 0 where
   in_new_group : (k : ℕ) (stage : Stage I) → start ≤ k → slice_get plan k ≡ Some stage → NoneAdmits plan barrier start dependencies entry k
       → AdmitsNewGroup (dependencies_left plan barrier dependencies k) entry stage → placed ≡ slice_set plan k (stage ++ (entry ∷ []) ∷ []) → IsPlaced plan barrier start dependencies entry placed

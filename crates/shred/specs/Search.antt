@@ -1,8 +1,8 @@
 -- The tests that the planner makes, as functions of plain data.
 use Rattle.std.specs.Prelude.{◌≡◌, ◌≢◌, ℕ, ◌≤◌, ◌-◌, ◌*◌, Bool, true, false, ◌||◌, ◌&&◌, not, nat_eq, ◌==◌, nat_lt, List, length, Option, Some, None, slice_get}
 use Rattle.std.specs.List.{list_any}
-use Rattle.shred_model.specs.Access.{Access}
-use Rattle.shred_model.specs.Plan.{Entry, Group, Stage, Plan, group_ids, group_time}
+use Rattle.shred_model.specs.Access.{Access, Conflicts}
+use Rattle.shred_model.specs.Plan.{Entry, Group, Stage, Plan, group_ids, group_access, group_time}
 use Rattle.shred.specs.Placement.{greatest_time, dependencies_left, Admits, AdmitsNewGroup, AdmitsAtEndOf, NoneAdmits}
 use Rattle.shred.specs.declared.dispatch.spot.Touched.{Touched}
 use Rattle.shred.specs.declared.dispatch.spot.Touched.TheVariants.{Nothing, One, Several}
@@ -36,6 +36,10 @@ waits_for_group same left access group = length left == 0 || (length left == 1 &
 -- the group has room, waits for nothing else, and is that far behind the longest
 abbrev pub may_end : {I : Type 0} → (I → I → Bool) → List ℕ → Entry I → Stage I → Group I → Bool
 may_end same left entry stage group = nat_lt (length group) 4 && (waits_for_group same left entry.access group && nat_lt entry.time (2 * (greatest_time stage - group_time group)))
+
+-- no group but this one conflicts with the access
+abbrev pub OthersDoNotConflict : {I : Type 0} → Stage I → ℕ → Access I → Type 0
+OthersDoNotConflict {I} stage g access = (h : ℕ) (other : Group I) → slice_get stage h ≡ Some other → h ≢ g → Conflicts (group_access other) access → ⊥
 
 -- what is touched of a list, by a test
 abbrev pub TouchedIs : {X : Type 0} → (X → Bool) → List X → Touched → Type 0

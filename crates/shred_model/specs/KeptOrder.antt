@@ -1,4 +1,4 @@
--- Which orders of a list of records keep the sense of it.
+-- Which permutations of a list of records keep every two dependent ones in order.
 use Rattle.std.specs.Prelude.{◌≡◌, ◌≢◌, ℕ, ◌<◌, List, ◌∷◌, length, Some, slice_get}
 use Rattle.shred_model.specs.Record.{Record, Independent, Agent}
 

@@ -1,7 +1,9 @@
 -- A plan as plain data: who runs when, and who may run beside whom.
-use Rattle.std.specs.Prelude.{ℕ, List, map, sum_by}
+use Rattle.std.specs.Prelude.{ℕ, List, Option, map, sum_by}
 use Rattle.std.specs.List.{flat_map}
 use Rattle.shred_model.specs.Access.{Access}
+use Rattle.shred_model.specs.Record.{Agent}
+use Rattle.shred_model.specs.States.{own_state, listed_states}
 
 -- an entry: its id, what it may touch, and its time
 pub record Entry (I : Type 0) : Type 0 where
@@ -40,3 +42,7 @@ stage_ids s = flat_map group_ids s
 -- the ids of a plan's entries, stage after stage
 abbrev pub plan_ids : {I : Type 0} → Plan I → List ℕ
 plan_ids p = flat_map stage_ids p
+
+-- the entry at a place, if there is one: a stage, a group of it and a position in that group
+abbrev pub entry_at : {I : Type 0} → Plan I → Agent → Option (Entry I)
+entry_at plan path = listed_states (listed_states (listed_states own_state)) plan path

@@ -12,7 +12,7 @@ abbrev pub first_fault : {F : Type 0} → Answer F → Answer F → Answer F
 first_fault (Ok done) b = b
 first_fault (Err fault) b = Err fault
 
--- the runs of the elements from place n on, joined in order up to the first that is not Done, whose answer is the answer
+-- the runs of the elements from place n on, joined in order up to the first that is not Done, whose answer is the answer; it is Done where there is none
 abbrev pub RunsUpToFault : {X I V S O F : Type 0} → (ℕ → X → List (Record Agent I V S O) → Answer F → Type 0) → ℕ → List X → List (Record Agent I V S O) → Answer F → Type 0
 RunsUpToFault Run n [] list answer = (list ≡ []) × (answer ≡ Ok tt)
 RunsUpToFault {I = I} {V = V} {S = S} {O = O} {F = F} Run n (x ∷ rest) list answer = (first : List (Record Agent I V S O)) × (a : Answer F) × Run n x first a

@@ -2,6 +2,7 @@
 ghost use Rattle.std.specs.Prelude.{◌≡◌, Err, map};
 ghost use Rattle.std.specs.Option.{option_map};
 ghost use Rattle.shred_model.specs.OneThread.{LeavesAsOneThread};
+ghost use Rattle.shred_model.specs.Record.{Agent};
 ghost use Rattle.shred_model.specs.Runs.{Ran};
 ghost use Rattle.shred_model.specs.States.{setting_of, listed_states};
 ghost use Rattle.shred_world.specs.declared.id.ResourceId.{ResourceId};
@@ -35,7 +36,8 @@ pub struct Dispatcher<V, S> {
 
 /// The dispatcher of these stages. It takes no memory.
 pub fn new_dispatcher<V, S>(stages: Vec<Stage<V, S>>) -> Dispatcher<V, S>
-    ensures { dispatcher_plan result ≡ plan_of stages.items }
+    ensures plan { dispatcher_plan result ≡ plan_of stages.items }
+    ensures states { (path : Agent) → dispatcher_states result path ≡ plan_states stages.items path }
 {
     Dispatcher { stages }
 }
@@ -51,7 +53,7 @@ fn at_stage<E>(stage: usize, fault: StageFault<E>) -> DispatchError<E>
 }
 
 // The stages' runs, in order, up to the first that is not Done.
-fn run_stages<V: ResourceValue, S: System<V, Error = E>, E: Drop>(
+fn run_stages<V: ResourceValue + Drop, S: System<V, Error = E>, E: Drop>(
     stages: &mut [Stage<V, S>],
     world: &mut World<V>,
 ) -> Result<(), DispatchError<E>>
@@ -68,7 +70,7 @@ fn run_stages<V: ResourceValue, S: System<V, Error = E>, E: Drop>(
 }
 
 // The same, of a vector of stages.
-fn run_plan<V: ResourceValue, S: System<V, Error = E>, E: Drop>(
+fn run_plan<V: ResourceValue + Drop, S: System<V, Error = E>, E: Drop>(
     stages: &mut Vec<Stage<V, S>>,
     world: &mut World<V>,
 ) -> Result<(), DispatchError<E>>
@@ -79,7 +81,7 @@ fn run_plan<V: ResourceValue, S: System<V, Error = E>, E: Drop>(
     run_stages(stages.as_mut_slice(), world)
 }
 
-impl<V: ResourceValue, S: System<V, Error = E>, E: Drop> Dispatcher<V, S> {
+impl<V: ResourceValue + Drop, S: System<V, Error = E>, E: Drop> Dispatcher<V, S> {
     /// Runs the stages, one after the other, up to the first that is not Done, on the caller's thread.
     pub fn dispatch_seq(&mut self, world: &mut World<V>) -> Result<(), DispatchError<E>>
         ensures ran { LeavesAsOneThread (λ list. PlanRun V.kind_of S.step (dispatcher_plan self.old) list result) (setting_of (dispatcher_states self.old) (world_held V.kind_of world.old)) (setting_of (dispatcher_states self.new) (world_held V.kind_of world.new)) }

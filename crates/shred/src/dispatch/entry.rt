@@ -105,6 +105,7 @@ impl<S> Group<S> {
         S: Drop,
         ensures plan { IfOk result (λ group. group_plan group ≡ entry_plan entry ∷ []) }
         ensures ids { IfOk result KeepsIds }
+        ensures entries { IfOk result (λ group. group.entries.items ≡ entry ∷ []) }
     {
         let mut ids: ArrayVec<SystemId, 4> = ArrayVec::new_in(());
         ids.push(entry.id);
@@ -124,6 +125,8 @@ impl<S> Group<S> {
         ensures ok { OnOk result (group_plan self.new ≡ group_plan self.old ++ entry_plan entry ∷ []) }
         ensures err { OnErr result (group_plan self.new ≡ group_plan self.old) }
         ensures ids { KeepsIds self.new }
+        ensures added { OnOk result (self.new.entries.items ≡ self.old.entries.items ++ entry ∷ []) }
+        ensures unchanged { OnErr result (self.new.entries.items ≡ self.old.entries.items) }
     {
         let id = entry.id;
         match self.entries.push(entry) {

@@ -5,8 +5,8 @@ ghost use Rattle.shred_model.specs.Access.{Conflicts};
 ghost use Rattle.shred_world.specs.Id.{same_id};
 ghost use Rattle.shred.specs.Placement.{difference, greatest_time};
 ghost use Rattle.shred.specs.PlanOf.{access_of, entry_plan, group_plan, groups_plan, numbers_of, KeepsIds};
-ghost use Rattle.shred.specs.Search.{is_touched, may_end, SpotIs, TouchedIs};
-ghost use Rattle.shred.specs.Soundness.{AreApart, IsSmallGroup, OthersDoNotConflict};
+ghost use Rattle.shred.specs.Search.{is_touched, may_end, OthersDoNotConflict, SpotIs, TouchedIs};
+ghost use Rattle.shred.specs.Soundness.{AreApart, IsSmallGroup};
 
 use crate::dispatch::entry::{Entry, Group, SystemId};
 use crate::dispatch::run::{StageFault, run_stage};
@@ -29,13 +29,16 @@ pub struct Stage<V, S> {
 }
 
 impl<V, S> Stage<V, S> {
+    ghost use Rattle.shred.specs.Added.{nothing_at, AreSame, IsNew};
+    ghost use Rattle.shred.specs.EntriesAt.{stage_entries};
     ghost use Rattle.shred.specs.StagePlan.{stage_plan};
 
     /// A stage with this entry alone.
     pub(crate) fn new(alloc: Global, entry: Entry<S>) -> Result<Self, OutOfMemory>
     where
         S: Drop,
-        ensures { IfOk result (λ stage. stage_plan stage ≡ (entry_plan entry ∷ []) ∷ []) }
+        ensures plan { IfOk result (λ stage. stage_plan stage ≡ (entry_plan entry ∷ []) ∷ []) }
+        ensures added { IfOk result (λ stage. IsNew nothing_at (stage_entries stage) entry) }
     {
         let mut groups = Vec::new(alloc);
         match Group::new(alloc, entry) {
@@ -133,6 +136,8 @@ impl<V, S> Stage<V, S> {
         requires { All (λ group. Conflicts (group_access group) (access_of entry) → ⊥) (stage_plan self.old) }
         ensures ok { OnOk result (stage_plan self.new ≡ stage_plan self.old ++ (entry_plan entry ∷ []) ∷ []) }
         ensures err { OnErr result (stage_plan self.new ≡ stage_plan self.old) }
+        ensures added { OnOk result (IsNew (stage_entries self.old) (stage_entries self.new) entry) }
+        ensures unchanged { OnErr result (AreSame (stage_entries self.old) (stage_entries self.new)) }
     {
         let alloc = *self.groups.allocator();
         match Group::new(alloc, entry) {
@@ -153,12 +158,14 @@ impl<V, S> Stage<V, S> {
         requires others { OthersDoNotConflict (stage_plan self.old) group (access_of entry) }
         ensures ok { OnOk result (stage_plan self.new ≡ slice_set (stage_plan self.old) group (slice_index_or (stage_plan self.old) group [] ++ entry_plan entry ∷ [])) }
         ensures err { OnErr result (stage_plan self.new ≡ stage_plan self.old) }
+        ensures added { OnOk result (IsNew (stage_entries self.old) (stage_entries self.new) entry) }
+        ensures unchanged { OnErr result (AreSame (stage_entries self.old) (stage_entries self.new)) }
     {
         self.groups[group].push(entry)
     }
 }
 
-impl<V: ResourceValue, S: System<V, Error = E>, E: Drop> Stage<V, S> {
+impl<V: ResourceValue + Drop, S: System<V, Error = E>, E: Drop> Stage<V, S> {
     ghost use Rattle.std.specs.Option.{option_map};
     ghost use Rattle.shred_model.specs.OneThread.{LeavesAsOneThread};
     ghost use Rattle.shred_model.specs.States.{setting_of};
@@ -167,7 +174,7 @@ impl<V: ResourceValue, S: System<V, Error = E>, E: Drop> Stage<V, S> {
     ghost use Rattle.shred.specs.Plans.{StageTurn, stage_states};
     ghost use Rattle.shred.specs.StagePlan.{stage_plan};
 
-    /// Runs the groups one after the other, every group's systems up to the first that is not Done, on the caller's thread.
+    /// Runs every group, one after the other, each up to its first system that is not Done, on the caller's thread.
     pub fn execute_seq(&mut self, world: &mut World<V>) -> Result<(), StageFault<E>>
         ensures ran { LeavesAsOneThread (λ list. StageTurn V.kind_of S.step (stage_plan self.old) list result) (setting_of (stage_states self.old) (world_held V.kind_of world.old)) (setting_of (stage_states self.new) (world_held V.kind_of world.new)) }
         ensures plan { stage_plan self.new ≡ stage_plan self.old }

@@ -7,8 +7,7 @@ ghost use Rattle.shred_model.specs.Plan.{group_access, plan_ids};
 ghost use Rattle.shred.specs.Kept.{IsKept};
 ghost use Rattle.shred.specs.Placement.{IsPlaced};
 ghost use Rattle.shred.specs.PlanOf.{access_of, entry_plan, numbers_of};
-ghost use Rattle.shred.specs.Search.{PlaceIs};
-ghost use Rattle.shred.specs.Soundness.{OthersDoNotConflict};
+ghost use Rattle.shred.specs.Search.{OthersDoNotConflict, PlaceIs};
 ghost use Rattle.shred.specs.StagePlan.{plan_of};
 
 use crate::dispatch::entry::{Entry, SystemId};
@@ -30,12 +29,17 @@ pub struct StagesBuilder<V, S> {
 }
 
 impl<V, S> StagesBuilder<V, S> {
-    ghost use Rattle.shred.specs.BuilderPlan.{planned, barrier_of};
+    ghost use Rattle.shred_model.specs.Record.{Agent};
+    ghost use Rattle.shred.specs.Added.{AreSame, IsNew, IsAdded};
+    ghost use Rattle.shred.specs.BuilderPlan.{planned, barrier_of, builder_states};
+    ghost use Rattle.shred.specs.EntriesAt.{builder_entries};
+    ghost use Rattle.shred.specs.Plans.{plan_states};
 
     /// An empty plan. It takes no memory.
     pub fn new(alloc: Global) -> Self
         ensures plan { planned result ≡ [] }
         ensures barrier { barrier_of result ≡ 0 }
+        ensures states { (path : Agent) → builder_states result path ≡ None }
     {
         StagesBuilder {
             stages: Vec::new(alloc),
@@ -47,6 +51,7 @@ impl<V, S> StagesBuilder<V, S> {
     pub fn default(alloc: Global) -> Self
         ensures plan { planned result ≡ [] }
         ensures barrier { barrier_of result ≡ 0 }
+        ensures states { (path : Agent) → builder_states result path ≡ None }
     {
         Self::new(alloc)
     }
@@ -56,7 +61,8 @@ impl<V, S> StagesBuilder<V, S> {
     where
         V: Drop,
         S: Drop,
-        ensures { plan_of result.items ≡ planned self }
+        ensures plan { plan_of result.items ≡ planned self }
+        ensures states { (path : Agent) → plan_states result.items path ≡ builder_states self path }
     {
         self.stages
     }
@@ -73,8 +79,10 @@ impl<V, S> StagesBuilder<V, S> {
         S: System<V> + Drop,
         requires no_dependencies { dependencies.now ≡ [] }
         ensures placed { OnOk result ((entry : model.Entry ResourceId) × IsKept id.0 (S.reads system) (S.writes system) (S.time system) entry
-            × IsPlaced (planned self.old) (barrier_of self.old) (barrier_of self.old) (numbers_of dependencies.now) entry (planned self.new)) }
+            × IsPlaced (planned self.old) (barrier_of self.old) (barrier_of self.old) (numbers_of dependencies.now) entry (planned self.new)
+            × IsAdded (planned self.old) (planned self.new) (builder_states self.old) (builder_states self.new) entry system) }
         ensures err { OnErr result (planned self.new ≡ planned self.old) }
+        ensures states { OnErr result ((path : Agent) → builder_states self.new path ≡ builder_states self.old path) }
         ensures barrier { barrier_of self.new ≡ barrier_of self.old }
     {
         let start = self.barrier;
@@ -96,6 +104,8 @@ impl<V, S> StagesBuilder<V, S> {
         requires { barrier_of self.old ≤ start }
         ensures placed { OnOk result (IsPlaced (planned self.old) (barrier_of self.old) start (numbers_of dependencies.now) (entry_plan entry) (planned self.new)) }
         ensures err { OnErr result (planned self.new ≡ planned self.old) }
+        ensures added { OnOk result (IsNew (builder_entries self.old) (builder_entries self.new) entry) }
+        ensures unchanged { OnErr result (AreSame (builder_entries self.old) (builder_entries self.new)) }
         ensures barrier { barrier_of self.new ≡ barrier_of self.old }
     {
         let alloc = *self.stages.allocator();
@@ -118,6 +128,8 @@ impl<V, S> StagesBuilder<V, S> {
         requires free { All (λ group. Conflicts (group_access group) (access_of entry) → ⊥) (slice_index_or (planned self.old) stage []) }
         ensures ok { OnOk result (planned self.new ≡ slice_set (planned self.old) stage (slice_index_or (planned self.old) stage [] ++ (entry_plan entry ∷ []) ∷ [])) }
         ensures err { OnErr result (planned self.new ≡ planned self.old) }
+        ensures added { OnOk result (IsNew (builder_entries self.old) (builder_entries self.new) entry) }
+        ensures unchanged { OnErr result (AreSame (builder_entries self.old) (builder_entries self.new)) }
         ensures barrier { barrier_of self.new ≡ barrier_of self.old }
     {
         self.stages[stage].push_group(entry)
@@ -134,6 +146,8 @@ impl<V, S> StagesBuilder<V, S> {
         ensures ok { let here = slice_index_or (planned self.old) stage [] in
             OnOk result (planned self.new ≡ slice_set (planned self.old) stage (slice_set here group (slice_index_or here group [] ++ entry_plan entry ∷ []))) }
         ensures err { OnErr result (planned self.new ≡ planned self.old) }
+        ensures added { OnOk result (IsNew (builder_entries self.old) (builder_entries self.new) entry) }
+        ensures unchanged { OnErr result (AreSame (builder_entries self.old) (builder_entries self.new)) }
         ensures barrier { barrier_of self.new ≡ barrier_of self.old }
     {
         self.stages[stage].push_entry(group, entry)
@@ -145,6 +159,8 @@ impl<V, S> StagesBuilder<V, S> {
         S: Drop,
         ensures ok { OnOk result (planned self.new ≡ planned self.old ++ ((entry_plan entry ∷ []) ∷ []) ∷ []) }
         ensures err { OnErr result (planned self.new ≡ planned self.old) }
+        ensures added { OnOk result (IsNew (builder_entries self.old) (builder_entries self.new) entry) }
+        ensures unchanged { OnErr result (AreSame (builder_entries self.old) (builder_entries self.new)) }
         ensures barrier { barrier_of self.new ≡ barrier_of self.old }
     {
         let alloc = *self.stages.allocator();
@@ -185,7 +201,8 @@ fn kept_entry<V: ResourceValue, S: System<V> + Drop>(
     id: SystemId,
     system: S,
 ) -> Result<Entry<S>, OutOfMemory>
-    ensures { IfOk result (λ entry. IsKept id.0 (S.reads system) (S.writes system) (S.time system) (entry_plan entry)) }
+    ensures kept { IfOk result (λ entry. IsKept id.0 (S.reads system) (S.writes system) (S.time system) (entry_plan entry)) }
+    ensures same { IfOk result (λ entry. entry.system ≡ system) }
 {
     let time = system.running_time();
     let accessor = match system.accessor() {

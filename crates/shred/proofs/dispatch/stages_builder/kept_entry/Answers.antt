@@ -4,8 +4,8 @@ use Rattle.shred_world.specs.Id.{IsBefore}
 use Rattle.shred.proofs.Orders.{AllPairs-from_sorted, Contains-from_same, IsBefore-from_less}
 use Rattle.shred.proofs.dispatch.stages_builder.kept_entry.Goals as goal
 
-pub returns : goal.returns
-returns g c =
+pub returns-clause-kept : goal.returns-clause-kept
+returns-clause-kept g c =
     let sorted = c.sort_without_doubles in
     let given = c.in-Ok-reads.ensures ∙ c.in-Ok.ensures.reads in
     record {

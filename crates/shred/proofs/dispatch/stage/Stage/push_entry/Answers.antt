@@ -1,6 +1,10 @@
 use Rattle.std.proofs.Common.{◌<◌, length}
 use Rattle.std.proofs.lemmas.List.{length-map}
+use Rattle.std.proofs.lemmas.Result.{on_ok_weaker, on_err_weaker}
+use Rattle.shred.specs.EntriesAt.{group_entries}
 use Rattle.shred.specs.PlanOf.{entry_plan, group_plan}
+use Rattle.shred.proofs.Added.{new_when_done, same_when_refused}
+use Rattle.shred.proofs.EntriesAt.{new_at_end_of_group, same_in_group}
 use Rattle.shred.proofs.Times.{group_read}
 use Rattle.shred.proofs.StageKeeps.{IsKeptBy, kept_after_entry, plan_when_pushed, plan_when_refused}
 use Rattle.shred.proofs.dispatch.stage.Stage.push_entry.Goals as goal
@@ -26,3 +30,15 @@ returns-clause-err g c =
     let within : c.args.group < length old.groups.items = rw (length-map old.groups.items group_plan) at c.requires.within in
     let here = group_read old.groups.items c.args.group c.index_mut.result.now within c.index_mut.ensures.value in
     plan_when_refused c.push.result old.groups.items c.args.group c.push.new.self (entry_plan c.args.entry) (rw here (c.push.ensures.ok, c.push.ensures.err))
+
+pub returns-clause-added : goal.returns-clause-added
+returns-clause-added g c =
+    let groups = c.args.self.now.groups.items in
+    let within : c.args.group < length groups = rw (length-map groups group_plan) at c.requires.within in
+    new_when_done group_entries c.push.result groups c.args.group c.index_mut.result.now c.push.new.self c.args.entry within c.index_mut.ensures.value
+    (on_ok_weaker c.push.result (new_at_end_of_group c.index_mut.result.now c.push.new.self c.args.entry) c.push.ensures.added)
+
+pub returns-clause-unchanged : goal.returns-clause-unchanged
+returns-clause-unchanged g c =
+    same_when_refused group_entries c.push.result c.args.self.now.groups.items c.args.group c.index_mut.result.now c.push.new.self c.index_mut.ensures.value
+    (on_err_weaker c.push.result (same_in_group c.index_mut.result.now c.push.new.self) c.push.ensures.unchanged)

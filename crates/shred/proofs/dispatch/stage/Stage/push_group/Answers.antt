@@ -1,7 +1,11 @@
 use Rattle.std.proofs.Common.{is_ok}
+use Rattle.shred.specs.EntriesAt.{group_entries}
+use Rattle.shred.proofs.Added.{new_after_push}
+use Rattle.shred.proofs.EntriesAt.{new_in_group}
 use Rattle.shred.proofs.Pushed.{holds_after_push}
 use Rattle.shred.proofs.StageKeeps.{IsKeptBy, kept_after_group}
 use Rattle.shred.proofs.dispatch.stage.Stage.push_group.Goals as goal
+use Rattle.shred.proofs.dispatch.stage.Stage.push_group.Goals.{in-Ok-push, in-Err-push}
 
 pub invariant_of-self : goal.invariant_of-self
 invariant_of-self g c =
@@ -9,3 +13,12 @@ invariant_of-self g c =
     let before : IsKeptBy old.groups.items = record { some_group = old.some_group; small_groups = old.small_groups; apart = old.apart; keep_ids = old.keep_ids } in
     holds_after_push IsKeptBy (is_ok c.push.result) old.groups.items c.in-Ok.group c.push.new.self.items c.push.ensures.items before
     (kept_after_group old.groups.items c.in-Ok.group c.args.entry before c.in-Ok.ensures.plan c.in-Ok.ensures.ids c.requires)
+
+pub returns-after-push-clause-added : goal.returns-after-push-clause-added
+returns-after-push-clause-added g c =
+    elim c.match-push.branch [
+      | in-Ok-push w ↦
+          rw w.result-is
+          (new_after_push group_entries c.args.self.now.groups.items c.in-Ok.group c.push.new.self.items c.args.entry w.in-Ok-push.ensures.items (new_in_group c.in-Ok.group c.args.entry c.in-Ok.ensures.entries))
+      | in-Err-push w ↦ rw w.result-is tt
+    ]

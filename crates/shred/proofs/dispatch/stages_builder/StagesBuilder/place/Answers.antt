@@ -1,8 +1,9 @@
 use Rattle.std.proofs.Common.{ap}
+use Rattle.std.proofs.lemmas.Result.{on_ok_weaker}
 use Rattle.shred.specs.BuilderPlan.{planned}
 use Rattle.shred.specs.PlanOf.{entry_plan, numbers_of}
 use Rattle.shred.specs.declared.dispatch.spot.Spot.TheVariants.{NewGroup, EndOf}
-use Rattle.shred.proofs.PlanKeeps.{known_place, found_group_free, found_end_fits, placed_in_new_group, placed_at_end, OnOk-weaker}
+use Rattle.shred.proofs.PlanKeeps.{known_place, found_group_free, found_end_fits, placed_in_new_group, placed_at_end}
 use Rattle.shred.proofs.dispatch.stages_builder.StagesBuilder.place.Goals as goal
 
 pub push_group-requires-clause-free : goal.push_group-requires-clause-free
@@ -17,7 +18,7 @@ returns-in-Some-default-NewGroup-clause-placed g c =
     let arm = c.in-Some-default-NewGroup in
     let found = known_place (planned c.args.self.now) c.args.self.now.barrier c.args.start (numbers_of c.in-Ok.left.items) (numbers_of c.args.dependencies.now) (entry_plan c.args.entry) c.find.result arm.stage arm.field-0-1 NewGroup
     c.find.ensures (ap numbers_of c.in-Ok.ensures.ok) arm.is arm.field-0-1-is in
-    OnOk-weaker c.push_group.result
+    on_ok_weaker c.push_group.result
     (placed_in_new_group (planned c.args.self.now) (planned c.push_group.new.self) c.args.self.now.barrier c.args.start (numbers_of c.args.dependencies.now) (entry_plan c.args.entry) arm.stage found)
     c.push_group.ensures.ok
 
@@ -33,6 +34,6 @@ returns-in-Some-default-EndOf-clause-placed g c =
     let arm = c.in-Some-default-EndOf in
     let found = known_place (planned c.args.self.now) c.args.self.now.barrier c.args.start (numbers_of c.in-Ok.left.items) (numbers_of c.args.dependencies.now) (entry_plan c.args.entry) c.find.result arm.stage arm.field-0-1 (EndOf arm.group)
     c.find.ensures (ap numbers_of c.in-Ok.ensures.ok) arm.is arm.field-0-1-is in
-    OnOk-weaker c.push_entry.result
+    on_ok_weaker c.push_entry.result
     (placed_at_end (planned c.args.self.now) (planned c.push_entry.new.self) c.args.self.now.barrier c.args.start (numbers_of c.args.dependencies.now) (entry_plan c.args.entry) arm.stage arm.group found)
     c.push_entry.ensures.ok

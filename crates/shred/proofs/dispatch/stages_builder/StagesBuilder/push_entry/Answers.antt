@@ -1,6 +1,8 @@
 use Rattle.std.proofs.Common.{◌<◌, arith, length, length-set}
 use Rattle.std.proofs.lemmas.List.{length-map}
+use Rattle.shred.specs.EntriesAt.{stage_entries}
 use Rattle.shred.specs.StagePlan.{stage_plan}
+use Rattle.shred.proofs.Added.{new_when_done, same_when_refused}
 use Rattle.shred.proofs.PlanKeeps.{stage_read, few_stages, plan_when_done, plan_when_refused}
 use Rattle.shred.proofs.dispatch.stages_builder.StagesBuilder.push_entry.Goals as goal
 
@@ -37,3 +39,13 @@ returns-clause-err g c =
     let stages = c.args.self.now.stages.items in
     let within : c.args.stage < length stages = rw (length-map stages stage_plan) at c.requires.within in
     plan_when_refused c.push_entry.result stages c.args.stage c.push_entry.new.self (rw (stage_read stages c.args.stage c.index_mut.result.now within c.index_mut.ensures.value) c.push_entry.ensures.err)
+
+pub returns-clause-added : goal.returns-clause-added
+returns-clause-added g c =
+    let stages = c.args.self.now.stages.items in
+    let within : c.args.stage < length stages = rw (length-map stages stage_plan) at c.requires.within in
+    new_when_done stage_entries c.push_entry.result stages c.args.stage c.index_mut.result.now c.push_entry.new.self c.args.entry within c.index_mut.ensures.value c.push_entry.ensures.added
+
+pub returns-clause-unchanged : goal.returns-clause-unchanged
+returns-clause-unchanged g c =
+    same_when_refused stage_entries c.push_entry.result c.args.self.now.stages.items c.args.stage c.index_mut.result.now c.push_entry.new.self c.index_mut.ensures.value c.push_entry.ensures.unchanged

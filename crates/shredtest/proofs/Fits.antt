@@ -1,8 +1,9 @@
 -- The slow program's tests decide what the placement rule asks.
-use Rattle.std.proofs.Common.{◌≡◌, ◌≢◌, ℕ, zero, suc, ◌+◌, ◌-◌, ◌*◌, ◌<◌, ◌≤◌, Bool, true, false, List, [], ◌∷◌, ◌++◌, length, get_or, set, take, drop, Some, refl, sym, ◌∙◌, ap, subst, ◌⊎◌, inl, inr, ⊎_elim, arith, length-take, length-drop}
+use Rattle.std.proofs.Common.{◌≡◌, ◌≢◌, ℕ, zero, suc, ◌+◌, ◌-◌, ◌*◌, ◌<◌, ◌≤◌, Bool, true, false, List, [], ◌∷◌, ◌++◌, length, get_or, set, take, drop, Some, Result, Ok, Err, refl, sym, ◌∙◌, ap, subst, ◌⊎◌, inl, inr, ⊎_elim, arith, length-take, length-drop}
 use Rattle.std.specs.Bool.{Decides}
 use Rattle.std.specs.Prelude.{nat_eq, nat_lt, ◌==◌, ◌&&◌, ◌||◌, not, min}
 use Rattle.std.specs.List.{slice_get, list_any, Contains, Any}
+use Rattle.std.specs.Result.{OnOk}
 use Rattle.std.proofs.lemmas.Bool.{cases_eq, cases_lt}
 use Rattle.std.proofs.lemmas.Bool.Decides.{Decides-and, Decides-or, Decides-not, Decides-like, Decides-eqb, Decides-ltb, not_from_Decides}
 use Rattle.std.proofs.lemmas.List.{nil_from_length, get_or-take, get_or-drop}
@@ -174,3 +175,7 @@ placed_end plan placed barrier start dependencies entry k g found is =
 pub place_within : (plan : Plan ℕ) (barrier start : ℕ) (dependencies : List ℕ) (entry : Entry ℕ) (k g : ℕ) → FoundIs plan barrier start dependencies entry (EndOf k g) → (k < length plan) × (g < length (get_or plan k []))
 place_within plan barrier start dependencies entry k g found =
     (slice_get_within plan k found.0 found.3, rw (get_or_from_slice_get plan k found.0 [] found.3) (slice_get_within found.0 g found.1 found.5.stands))
+
+pub OnOk-weaker : {T E : Type 0} {P Q : Type 0} (result : Result T E) → (P → Q) → OnOk result P → OnOk result Q
+OnOk-weaker (Ok x) weaker p = weaker p
+OnOk-weaker (Err e) weaker p = tt

@@ -1,8 +1,7 @@
 use Rattle.std.proofs.Common.{subst}
-use Rattle.shred.proofs.PlanKeeps.{OnOk-weaker}
 use Rattle.shredtest.specs.Plain.{entry_of, plan_of}
 use Rattle.shredtest.specs.Slow.{FoundIs}
-use Rattle.shredtest.proofs.Fits.{placed_new, placed_end, place_within}
+use Rattle.shredtest.proofs.Fits.{OnOk-weaker, placed_new, placed_end, place_within}
 use Rattle.shredtest.proofs.slow_placement.slow_placement.Goals as goal
 
 pub push_entry_at-requires-clause-within_stage : goal.push_entry_at-requires-clause-within_stage

@@ -1,7 +1,7 @@
 -- The records of runs change only written values.
-use Rattle.std.proofs.Common.{◌≡◌, ℕ, List, [], ◌∷◌, Result, Err, inl, inr}
+use Rattle.std.proofs.Common.{ℕ, List, [], ◌∷◌, inl, inr}
 use Rattle.shred_model.specs.Plan as model
-use Rattle.shred_model.specs.Record.{Record, Agent, IsFramed}
+use Rattle.shred_model.specs.Record.{IsFramed}
 use Rattle.shred_model.specs.Runs.{Answer}
 use Rattle.shred_model.proofs.Framed.{AllFramed, AllByRecursion-same, RunsUpToFault-framed, RunsEach-framed}
 use Rattle.shred_world.specs.declared.id.Kind.{Kind}

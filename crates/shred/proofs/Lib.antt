@@ -2,6 +2,7 @@ pub mod Added
 pub mod Apart
 pub mod EntriesAt
 pub mod Ids
+pub mod KeptLists
 pub mod Left
 pub mod Membership
 pub mod Orders

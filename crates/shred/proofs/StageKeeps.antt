@@ -9,6 +9,7 @@ use Rattle.shred_world.specs.declared.id.ResourceId.{ResourceId}
 use Rattle.shred_model.specs.Access.{Conflicts}
 use Rattle.shred_model.specs.Plan as model
 use Rattle.shred_model.specs.Plan.{group_access}
+use Rattle.shred.specs.OwnLists.{IsOwnGroup}
 use Rattle.shred.specs.PlanOf.{access_of, entry_plan, group_plan, groups_plan, KeepsIds}
 use Rattle.shred.specs.Search.{OthersDoNotConflict}
 use Rattle.shred.specs.Soundness.{AreApart, IsSmallGroup}
@@ -17,21 +18,22 @@ use Rattle.shred.specs.declared.dispatch.entry.Group.{Group}
 use Rattle.shred.proofs.Apart.{AreApart-push, AreApart-set}
 
 -- what a stage keeps of its groups
-abbrev pub IsKeptBy : {S : Type 0} → List (Group S) → Type 0
-IsKeptBy groups = record { some_group : 0 < length groups; small_groups : All IsSmallGroup (groups_plan groups); apart : AreApart (groups_plan groups); keep_ids : All KeepsIds groups }
+abbrev pub IsKeptBy : {S : Type 0} → (reads writes : S → List ResourceId) → List (Group S) → Type 0
+IsKeptBy reads writes groups = record { some_group : 0 < length groups; small_groups : All IsSmallGroup (groups_plan groups); apart : AreApart (groups_plan groups); keep_ids : All KeepsIds groups; own_lists : All (IsOwnGroup reads writes) groups }
 
 single_is_small : {I : Type 0} (entry : model.Entry I) (group : model.Group I) → group ≡ entry ∷ [] → IsSmallGroup group
 single_is_small entry group e = rw e (omega arith, omega arith)
 
-pub kept_after_group : {S : Type 0} (groups : List (Group S)) (new : Group S) (entry : Entry S) → IsKeptBy groups → group_plan new ≡ entry_plan entry ∷ [] → KeepsIds new
-    → All (λ group. Conflicts (group_access group) (access_of entry) → ⊥) (groups_plan groups) → IsKeptBy (groups ++ new ∷ [])
-kept_after_group {S} groups new entry kept single ids free =
+pub kept_after_group : {S : Type 0} (reads writes : S → List ResourceId) (groups : List (Group S)) (new : Group S) (entry : Entry S) → IsKeptBy reads writes groups → group_plan new ≡ entry_plan entry ∷ [] → KeepsIds new → IsOwnGroup reads writes new
+    → All (λ group. Conflicts (group_access group) (access_of entry) → ⊥) (groups_plan groups) → IsKeptBy reads writes (groups ++ new ∷ [])
+kept_after_group {S} reads writes groups new entry kept single ids own free =
     let plan : groups_plan (groups ++ new ∷ []) ≡ groups_plan groups ++ group_plan new ∷ [] = map_push group_plan groups new in
     record {
       some_group = omega (arith, length_push groups new);
       small_groups = rw plan (All-push IsSmallGroup (groups_plan groups) (group_plan new) kept.small_groups (single_is_small (entry_plan entry) (group_plan new) single));
       apart = rw plan (rw single (AreApart-push (groups_plan groups) (entry_plan entry) kept.apart free));
       keep_ids = All-push KeepsIds groups new kept.keep_ids ids;
+      own_lists = All-push (IsOwnGroup reads writes) groups new kept.own_lists own;
     }
 
 -- a group with the entry at its end, where the push was done, and else as before
@@ -60,15 +62,16 @@ apart_after result stage g entry after pushed within apart free =
     (λ e. rw e (rw set-get_or apart))
     (pushed_cases result (get_or stage g []) after entry pushed)
 
-pub kept_after_entry : {S E : Type 0} (result : Result (Unit {0}) E) (groups : List (Group S)) (g : ℕ) (new : Group S) (entry : Entry S) → IsKeptBy groups → g < length (groups_plan groups)
-    → length (get_or (groups_plan groups) g []) < 4 → OthersDoNotConflict (groups_plan groups) g (access_of entry) → IsPushed result (get_or (groups_plan groups) g []) (entry_plan entry) (group_plan new) → KeepsIds new
-    → IsKeptBy (set groups g new)
-kept_after_entry result groups g new entry kept within room free pushed ids = record {
+pub kept_after_entry : {S E : Type 0} (reads writes : S → List ResourceId) (result : Result (Unit {0}) E) (groups : List (Group S)) (g : ℕ) (new : Group S) (entry : Entry S) → IsKeptBy reads writes groups → g < length (groups_plan groups)
+    → length (get_or (groups_plan groups) g []) < 4 → OthersDoNotConflict (groups_plan groups) g (access_of entry) → IsPushed result (get_or (groups_plan groups) g []) (entry_plan entry) (group_plan new) → KeepsIds new → IsOwnGroup reads writes new
+    → IsKeptBy reads writes (set groups g new)
+kept_after_entry reads writes result groups g new entry kept within room free pushed ids own = record {
   some_group = omega (arith, length-set groups g new, kept.some_group);
   small_groups = rw (plan_after groups g new) (All-set IsSmallGroup (groups_plan groups) g (group_plan new)
       (small_after result (get_or (groups_plan groups) g []) (group_plan new) (entry_plan entry) pushed (kept.small_groups g [] within) room) kept.small_groups);
   apart = rw (plan_after groups g new) (apart_after result (groups_plan groups) g (entry_plan entry) (group_plan new) pushed within kept.apart free);
   keep_ids = All-set KeepsIds groups g new ids kept.keep_ids;
+  own_lists = All-set (IsOwnGroup reads writes) groups g new own kept.own_lists;
 }
 
 pub plan_when_pushed : {S E : Type 0} (result : Result (Unit {0}) E) (groups : List (Group S)) (g : ℕ) (new : Group S) (entry : model.Entry ResourceId) → IsPushed result (get_or (groups_plan groups) g []) entry (group_plan new)

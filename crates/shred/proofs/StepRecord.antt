@@ -1,10 +1,7 @@
 -- The step of an entry's system, as a record.
-use Rattle.std.proofs.Common.{◌≡◌, ◌≢◌, ℕ, Bool, true, false, cond, ◌||◌, List, [], ◌∷◌, ◌⊎◌, Option, Some, None, Result, Ok, Err, Contains, inl, inr, refl, sym, ◌∙◌, ap}
-use Rattle.std.specs.Prelude.{is_some}
+use Rattle.std.proofs.Common.{◌≡◌, Bool, true, false, cond, ◌||◌, [], Option, None, inl, inr, refl, ap}
 use Rattle.std.specs.Option.{option_map}
 use Rattle.shred_model.specs.Access.{Access, Declares}
-use Rattle.shred_model.specs.Record.{Record, Agent}
-use Rattle.shred_model.specs.Replay.{Goes}
 use Rattle.shred_model.specs.Runs.{Answer, Ran}
 use Rattle.shred_model.specs.Plan as model
 use Rattle.shred_model.specs.States.{own_state, setting_of}
@@ -12,7 +9,7 @@ use Rattle.shred_model.proofs.Ran.{Ran-one, Goes-alone}
 use Rattle.shred_world.specs.declared.id.Kind.{Kind}
 use Rattle.shred_world.specs.declared.id.ResourceId.{ResourceId}
 use Rattle.shred_world.specs.Slots.{among}
-use Rattle.shred_world.proofs.Ids.{among-true, among-contains, among-false}
+use Rattle.shred_world.proofs.Ids.{among-contains, among-false}
 use Rattle.shred.specs.declared.dispatch.run.StageFault.{StageFault}
 use Rattle.shred.specs.Steps.{Held, Outcome, Step, Written, IsStep, declared_of}
 use Rattle.shred.specs.Entries.{entry_answer, EntryRun}

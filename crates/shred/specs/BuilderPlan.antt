@@ -8,13 +8,13 @@ use Rattle.shred.specs.StagePlan.{plan_of}
 use Rattle.shred.specs.declared.dispatch.stages_builder.StagesBuilder.{StagesBuilder}
 
 -- the builder's plan
-abbrev pub planned : {V S : Type 0} → StagesBuilder V S → Plan ResourceId
+abbrev pub planned : {V S E X : Type 0} {gv gs gx : _} → StagesBuilder V S E X gv gs gx → Plan ResourceId
 planned builder = plan_of builder.stages.items
 
 -- the stage from which on new entries are placed
-abbrev pub barrier_of : {V S : Type 0} → StagesBuilder V S → ℕ
+abbrev pub barrier_of : {V S E X : Type 0} {gv gs gx : _} → StagesBuilder V S E X gv gs gx → ℕ
 barrier_of builder = builder.barrier
 
 -- the states of its systems, by stage, group and position
-abbrev pub builder_states : {V S : Type 0} → StagesBuilder V S → Agent → Option S
+abbrev pub builder_states : {V S E X : Type 0} {gv gs gx : _} → StagesBuilder V S E X gv gs gx → Agent → Option S
 builder_states builder path = plan_states builder.stages.items path

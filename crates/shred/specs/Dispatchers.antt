@@ -8,9 +8,9 @@ use Rattle.shred.specs.Plans.{plan_states}
 use Rattle.shred.specs.StagePlan.{plan_of}
 
 -- the plan that a dispatcher runs
-abbrev pub dispatcher_plan : {V S : Type 0} → Dispatcher V S → model.Plan ResourceId
+abbrev pub dispatcher_plan : {V S E X : Type 0} {gv gs gx : _} → Dispatcher V S E X gv gs gx → model.Plan ResourceId
 dispatcher_plan d = plan_of d.stages.items
 
 -- the states of its systems, by stage, group and place
-abbrev pub dispatcher_states : {V S : Type 0} → Dispatcher V S → Agent → Option S
+abbrev pub dispatcher_states : {V S E X : Type 0} {gv gs gx : _} → Dispatcher V S E X gv gs gx → Agent → Option S
 dispatcher_states d path = plan_states d.stages.items path

@@ -1,16 +1,15 @@
 -- Runs of entries and of groups.
-use Rattle.std.specs.Prelude.{◌≡◌, ℕ, List, [], ◌∷◌, Option, Some, None, Result, Ok, Err}
+use Rattle.std.specs.Prelude.{◌≡◌, ℕ, List, [], ◌∷◌, Option, Ok, Err}
 use Rattle.shred_model.specs.Plan as model
 use Rattle.shred_model.specs.Record.{Agent}
 use Rattle.shred_model.specs.Runs.{Answer, RunsUpToFault, RunsEach}
 use Rattle.shred_model.specs.States.{listed_states, own_state}
 use Rattle.shred_world.specs.declared.id.Kind.{Kind}
 use Rattle.shred_world.specs.declared.id.ResourceId.{ResourceId}
-use Rattle.shred.specs.declared.dispatch.entry.SystemId.{SystemId}
 use Rattle.shred.specs.declared.dispatch.entry.Entry.{Entry}
 use Rattle.shred.specs.declared.dispatch.entry.Group.{Group}
 use Rattle.shred.specs.declared.dispatch.run.StageFault.{StageFault}
-use Rattle.shred.specs.declared.dispatch.run.StageFault.TheVariants.{System, Memory}
+use Rattle.shred.specs.declared.dispatch.run.StageFault.TheVariants.{System}
 use Rattle.shred.specs.Steps.{Outcome, Step, Written, IsStep}
 
 -- the answer of an entry whose step had this outcome

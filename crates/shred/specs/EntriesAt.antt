@@ -12,13 +12,13 @@ abbrev pub group_entries : {S : Type 0} → Group S → Agent → Option (Entry 
 group_entries group path = listed_states own_state group.entries.items path
 
 -- a stage's entries, by group and position
-abbrev pub stage_entries : {V S : Type 0} → Stage V S → Agent → Option (Entry S)
+abbrev pub stage_entries : {V S E X : Type 0} {gv gs gx : _} → Stage V S E X gv gs gx → Agent → Option (Entry S)
 stage_entries stage path = listed_states group_entries stage.groups.items path
 
 -- the entries of some stages, by stage, group and position
-abbrev pub plan_entries : {V S : Type 0} → List (Stage V S) → Agent → Option (Entry S)
+abbrev pub plan_entries : {V S E X : Type 0} {gv gs gx : _} → List (Stage V S E X gv gs gx) → Agent → Option (Entry S)
 plan_entries stages path = listed_states stage_entries stages path
 
 -- a builder's entries, by stage, group and position
-abbrev pub builder_entries : {V S : Type 0} → StagesBuilder V S → Agent → Option (Entry S)
+abbrev pub builder_entries : {V S E X : Type 0} {gv gs gx : _} → StagesBuilder V S E X gv gs gx → Agent → Option (Entry S)
 builder_entries builder path = plan_entries builder.stages.items path

@@ -1,6 +1,7 @@
 -- What the planner keeps of a system.
 use Rattle.std.specs.Prelude.{◌≡◌, ◌↔◌, ℕ, List, Contains, AllPairs}
 use Rattle.shred_world.specs.Id.{IsBefore}
+use Rattle.shred_world.specs.Slots.{among}
 use Rattle.shred_world.specs.declared.id.ResourceId.{ResourceId}
 use Rattle.shred_model.specs.Plan.{Entry}
 use Rattle.shred.specs.Time.{count_of}
@@ -13,3 +14,8 @@ pub record IsKept (id : ℕ) (reads writes : List ResourceId) (time : RunningTim
   pub same_reads : (i : ResourceId) → Contains entry.access.reads i ↔ Contains reads i
   pub same_writes : entry.access.writes ≡ writes
   pub same_time : entry.time ≡ count_of time
+
+-- the kept lists have just the ids of the declared ones
+pub record AreOwnLists (reads writes kept_reads kept_writes : List ResourceId) : Type 0 where
+  pub same_reads : (id : ResourceId) → among kept_reads id ≡ among reads id
+  pub same_writes : (id : ResourceId) → among kept_writes id ≡ among writes id

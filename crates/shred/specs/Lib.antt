@@ -6,6 +6,7 @@ pub mod Soundness
 pub mod Placement
 pub mod Search
 pub mod Kept
+pub mod OwnLists
 pub mod BuilderPlan
 pub mod Steps
 pub mod Entries

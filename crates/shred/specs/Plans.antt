@@ -1,5 +1,5 @@
 -- Runs of plans.
-use Rattle.std.specs.Prelude.{◌≡◌, ℕ, List, [], ◌∷◌, ◌⊎◌, Option, Result, Ok, Err}
+use Rattle.std.specs.Prelude.{◌≡◌, ℕ, List, [], ◌⊎◌, Option, Ok, Err}
 use Rattle.shred_model.specs.Plan as model
 use Rattle.shred_model.specs.Record.{Agent}
 use Rattle.shred_model.specs.Runs.{Answer, RunsUpToFault}
@@ -34,9 +34,9 @@ module _ {V S E : Type 0} (kind : V → Kind) (step : Step V S E) where
   PlanRun plan list answer = RunsUpToFault PlanTurn 0 plan list answer
 
 -- the states of a stage's systems, by group and place
-abbrev pub stage_states : {V S : Type 0} → Stage V S → Agent → Option S
+abbrev pub stage_states : {V S E X : Type 0} {gv gs gx : _} → Stage V S E X gv gs gx → Agent → Option S
 stage_states stage path = listed_states group_states stage.groups.items path
 
 -- the states of a plan's systems, by stage, group and place
-abbrev pub plan_states : {V S : Type 0} → List (Stage V S) → Agent → Option S
+abbrev pub plan_states : {V S E X : Type 0} {gv gs gx : _} → List (Stage V S E X gv gs gx) → Agent → Option S
 plan_states stages path = listed_states stage_states stages path

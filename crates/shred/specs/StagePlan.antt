@@ -6,11 +6,11 @@ use Rattle.shred.specs.PlanOf.{groups_plan}
 use Rattle.shred.specs.declared.dispatch.stage.Stage.{Stage}
 
 -- a stage's groups, in order
-abbrev pub stage_plan : {V S : Type 0} → Stage V S → model.Stage ResourceId
+abbrev pub stage_plan : {V S E X : Type 0} {gv gs gx : _} → Stage V S E X gv gs gx → model.Stage ResourceId
 stage_plan stage = groups_plan stage.groups.items
 
 -- some stages, in order
-abbrev pub plan_of : {V S : Type 0} → List (Stage V S) → model.Plan ResourceId
+abbrev pub plan_of : {V S E X : Type 0} {gv gs gx : _} → List (Stage V S E X gv gs gx) → model.Plan ResourceId
 plan_of stages = map stage_plan stages
 
 -- the greatest number of groups in a stage of a plan, 0 where there is none

@@ -1,5 +1,5 @@
 -- Steps of systems: what one call of `run` does.
-use Rattle.std.specs.Prelude.{◌≡◌, ℕ, Bool, cond, ◌||◌, List, [], ◌∷◌, Option, Some, None, Result, Ok, Err}
+use Rattle.std.specs.Prelude.{◌≡◌, cond, ◌||◌, Option, None, Result}
 use Rattle.std.specs.Option.{option_map}
 use Rattle.shred_model.specs.Access.{Access, Declares}
 use Rattle.shred_model.specs.Record.{Record, Agent, IsFramed}

@@ -54,7 +54,7 @@ impl<E: From<DataError>> From<DataError> for Fault<E> {
 /// What is run over the resources that it declares.
 pub trait System<V: ResourceValue> {
     ghost use Rattle.shred.specs.Steps.{Held, Outcome, Step};
-    ghost use Rattle.shred_world.specs.Views.{view_held, declared_held, may_write, IsSameView};
+    ghost use Rattle.shred_world.specs.Views.{view_held, declared_held, may_write, IsLent, IsSameView};
     ghost use Rattle.shred_world.specs.Worlds.{world_held};
 
     type Error;
@@ -73,8 +73,9 @@ pub trait System<V: ResourceValue> {
 
     ghost disposes: { Self → Held V → Outcome Self.Error → Held V → Type 0 };
 
-    /// One step, over a view of the declared ids.
+    /// One step, over a view of just the ids that the system declares, with none of them out.
     fn run(&mut self, view: &mut View<V>) -> Result<(), Fault<Self::Error>>
+        requires lent { IsLent view.old (reads self.old) (writes self.old) }
         ensures step { step self.old (declared_held V.kind_of view.old) result self.new (declared_held V.kind_of view.new) }
         ensures table { view.new.own.ghost_name ≡ view.old.own.ghost_name }
         ensures view { IsSameView view.old view.new }

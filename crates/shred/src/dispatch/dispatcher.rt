@@ -30,16 +30,36 @@ pub enum DispatchError<E> {
 
 /// Runs the stages of a plan over a world.
 #[derive(Drop)]
-pub struct Dispatcher<V, S> {
+pub struct Dispatcher<V: ResourceValue, S: System<V>> {
     stages: Vec<Stage<V, S>>,
 }
 
 /// The dispatcher of these stages. It takes no memory.
-pub fn new_dispatcher<V, S>(stages: Vec<Stage<V, S>>) -> Dispatcher<V, S>
+pub fn new_dispatcher<V: ResourceValue, S: System<V>>(stages: Vec<Stage<V, S>>) -> Dispatcher<V, S>
     ensures plan { dispatcher_plan result ≡ plan_of stages.items }
     ensures states { (path : Agent) → dispatcher_states result path ≡ plan_states stages.items path }
 {
     Dispatcher { stages }
+}
+
+// The greatest number of groups in a stage.
+fn widest_of<V: ResourceValue, S: System<V>>(stages: &Vec<Stage<V, S>>) -> usize
+    ensures { result ≡ widest (plan_of stages.now.items) }
+{
+    let mut most: usize = 0;
+    for place in 0..stages.len() {
+        most = most.max(stages[place].max_threads());
+    }
+    most
+}
+
+impl<V: ResourceValue, S: System<V>> Dispatcher<V, S> {
+    /// The greatest number of groups in a stage, 0 where there is none.
+    pub fn max_threads(&self) -> usize
+        ensures { result ≡ widest (dispatcher_plan self.now) }
+    {
+        widest_of(&self.stages)
+    }
 }
 
 // The dispatcher's error for a fault of its stage.
@@ -89,16 +109,5 @@ impl<V: ResourceValue + Drop, S: System<V, Error = E>, E: Drop> Dispatcher<V, S>
         ensures kinds { (id : ResourceId) → option_map V.kind_of (world_held V.kind_of world.new id) ≡ option_map V.kind_of (world_held V.kind_of world.old id) }
     {
         run_plan(&mut self.stages, world)
-    }
-
-    /// The greatest number of groups in a stage, 0 where there is none.
-    pub fn max_threads(&self) -> usize
-        ensures { result ≡ widest (dispatcher_plan self.now) }
-    {
-        let mut most: usize = 0;
-        for stage in &self.stages {
-            most = most.max(stage.max_threads());
-        }
-        most
     }
 }

@@ -4,6 +4,7 @@ ghost use Rattle.shred_model.specs.Plan.{group_access, group_ids, stage_ids};
 ghost use Rattle.shred_model.specs.Access.{Conflicts};
 ghost use Rattle.shred_world.specs.Id.{same_id};
 ghost use Rattle.shred.specs.Placement.{difference, greatest_time};
+ghost use Rattle.shred.specs.OwnLists.{IsOwnEntry, IsOwnGroup};
 ghost use Rattle.shred.specs.PlanOf.{access_of, entry_plan, group_plan, groups_plan, numbers_of, KeepsIds};
 ghost use Rattle.shred.specs.Search.{is_touched, may_end, OthersDoNotConflict, SpotIs, TouchedIs};
 ghost use Rattle.shred.specs.Soundness.{AreApart, IsSmallGroup};
@@ -19,16 +20,17 @@ use std::marker::PhantomData;
 
 /// Groups that do not conflict, of one to four entries each.
 #[derive(Drop)]
-pub struct Stage<V, S> {
+pub struct Stage<V: ResourceValue, S: System<V>> {
     groups: Vec<Group<S>>,
     value: PhantomData<V>,
     ghost some_group: { 0 < length groups.items },
     ghost small_groups: { All IsSmallGroup (groups_plan groups.items) },
     ghost apart: { AreApart (groups_plan groups.items) },
     ghost keep_ids: { All KeepsIds groups.items },
+    ghost own_lists: { All (IsOwnGroup S.reads S.writes) groups.items },
 }
 
-impl<V, S> Stage<V, S> {
+impl<V: ResourceValue, S: System<V>> Stage<V, S> {
     ghost use Rattle.shred.specs.Added.{nothing_at, AreSame, IsNew};
     ghost use Rattle.shred.specs.EntriesAt.{stage_entries};
     ghost use Rattle.shred.specs.StagePlan.{stage_plan};
@@ -37,6 +39,7 @@ impl<V, S> Stage<V, S> {
     pub(crate) fn new(alloc: Global, entry: Entry<S>) -> Result<Self, OutOfMemory>
     where
         S: Drop,
+        requires own_lists { IsOwnEntry S.reads S.writes entry }
         ensures plan { IfOk result (λ stage. stage_plan stage ≡ (entry_plan entry ∷ []) ∷ []) }
         ensures added { IfOk result (λ stage. IsNew nothing_at (stage_entries stage) entry) }
     {
@@ -51,6 +54,13 @@ impl<V, S> Stage<V, S> {
             },
             Err(e) => Err(e),
         }
+    }
+
+    /// The number of groups.
+    pub fn max_threads(&self) -> usize
+        ensures { result ≡ length (stage_plan self.now) }
+    {
+        self.groups.len()
     }
 
     /// The ids of a group's systems, in order, if the stage has this group.
@@ -133,7 +143,8 @@ impl<V, S> Stage<V, S> {
     pub(crate) fn push_group(&mut self, entry: Entry<S>) -> Result<(), OutOfMemory>
     where
         S: Drop,
-        requires { All (λ group. Conflicts (group_access group) (access_of entry) → ⊥) (stage_plan self.old) }
+        requires free { All (λ group. Conflicts (group_access group) (access_of entry) → ⊥) (stage_plan self.old) }
+        requires own_lists { IsOwnEntry S.reads S.writes entry }
         ensures ok { OnOk result (stage_plan self.new ≡ stage_plan self.old ++ (entry_plan entry ∷ []) ∷ []) }
         ensures err { OnErr result (stage_plan self.new ≡ stage_plan self.old) }
         ensures added { OnOk result (IsNew (stage_entries self.old) (stage_entries self.new) entry) }
@@ -156,6 +167,7 @@ impl<V, S> Stage<V, S> {
         requires within { group < length (stage_plan self.old) }
         requires room { length (slice_index_or (stage_plan self.old) group []) < 4 }
         requires others { OthersDoNotConflict (stage_plan self.old) group (access_of entry) }
+        requires own_lists { IsOwnEntry S.reads S.writes entry }
         ensures ok { OnOk result (stage_plan self.new ≡ slice_set (stage_plan self.old) group (slice_index_or (stage_plan self.old) group [] ++ entry_plan entry ∷ [])) }
         ensures err { OnErr result (stage_plan self.new ≡ stage_plan self.old) }
         ensures added { OnOk result (IsNew (stage_entries self.old) (stage_entries self.new) entry) }
@@ -181,12 +193,5 @@ impl<V: ResourceValue + Drop, S: System<V, Error = E>, E: Drop> Stage<V, S> {
         ensures kinds { (id : ResourceId) → option_map V.kind_of (world_held V.kind_of world.new id) ≡ option_map V.kind_of (world_held V.kind_of world.old id) }
     {
         run_stage(&mut self.groups, world)
-    }
-
-    /// The number of groups.
-    pub fn max_threads(&self) -> usize
-        ensures { result ≡ length (stage_plan self.now) }
-    {
-        self.groups.len()
     }
 }

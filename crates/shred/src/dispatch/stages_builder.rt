@@ -6,6 +6,7 @@ ghost use Rattle.shred_model.specs.Access.{Conflicts};
 ghost use Rattle.shred_model.specs.Plan.{group_access, plan_ids};
 ghost use Rattle.shred.specs.Kept.{IsKept};
 ghost use Rattle.shred.specs.Placement.{IsPlaced};
+ghost use Rattle.shred.specs.OwnLists.{IsOwnEntry};
 ghost use Rattle.shred.specs.PlanOf.{access_of, entry_plan, numbers_of};
 ghost use Rattle.shred.specs.Search.{OthersDoNotConflict, PlaceIs};
 ghost use Rattle.shred.specs.StagePlan.{plan_of};
@@ -21,14 +22,14 @@ use std::alloc::Global;
 
 /// A plan that grows by one system after another.
 #[derive(Drop)]
-pub struct StagesBuilder<V, S> {
+pub struct StagesBuilder<V: ResourceValue, S: System<V>> {
     stages: Vec<Stage<V, S>>,
     barrier: usize,
     ghost barrier_within: { barrier ≤ length stages.items },
     ghost few_stages: { length stages.items ≤ length (plan_ids (plan_of stages.items)) },
 }
 
-impl<V, S> StagesBuilder<V, S> {
+impl<V: ResourceValue, S: System<V>> StagesBuilder<V, S> {
     ghost use Rattle.shred_model.specs.Record.{Agent};
     ghost use Rattle.shred.specs.Added.{AreSame, IsNew, IsAdded};
     ghost use Rattle.shred.specs.BuilderPlan.{planned, barrier_of, builder_states};
@@ -75,8 +76,7 @@ impl<V, S> StagesBuilder<V, S> {
         system: S,
     ) -> Result<(), OutOfMemory>
     where
-        V: ResourceValue,
-        S: System<V> + Drop,
+        S: Drop,
         requires no_dependencies { dependencies.now ≡ [] }
         ensures placed { OnOk result ((entry : model.Entry ResourceId) × IsKept id.0 (S.reads system) (S.writes system) (S.time system) entry
             × IsPlaced (planned self.old) (barrier_of self.old) (barrier_of self.old) (numbers_of dependencies.now) entry (planned self.new)
@@ -101,7 +101,8 @@ impl<V, S> StagesBuilder<V, S> {
     ) -> Result<(), OutOfMemory>
     where
         S: Drop,
-        requires { barrier_of self.old ≤ start }
+        requires start { barrier_of self.old ≤ start }
+        requires own_lists { IsOwnEntry S.reads S.writes entry }
         ensures placed { OnOk result (IsPlaced (planned self.old) (barrier_of self.old) start (numbers_of dependencies.now) (entry_plan entry) (planned self.new)) }
         ensures err { OnErr result (planned self.new ≡ planned self.old) }
         ensures added { OnOk result (IsNew (builder_entries self.old) (builder_entries self.new) entry) }
@@ -126,6 +127,7 @@ impl<V, S> StagesBuilder<V, S> {
         S: Drop,
         requires within { stage < length (planned self.old) }
         requires free { All (λ group. Conflicts (group_access group) (access_of entry) → ⊥) (slice_index_or (planned self.old) stage []) }
+        requires own_lists { IsOwnEntry S.reads S.writes entry }
         ensures ok { OnOk result (planned self.new ≡ slice_set (planned self.old) stage (slice_index_or (planned self.old) stage [] ++ (entry_plan entry ∷ []) ∷ [])) }
         ensures err { OnErr result (planned self.new ≡ planned self.old) }
         ensures added { OnOk result (IsNew (builder_entries self.old) (builder_entries self.new) entry) }
@@ -143,6 +145,7 @@ impl<V, S> StagesBuilder<V, S> {
         requires within_stage { group < length (slice_index_or (planned self.old) stage []) }
         requires room { length (slice_index_or (slice_index_or (planned self.old) stage []) group []) < 4 }
         requires others { OthersDoNotConflict (slice_index_or (planned self.old) stage []) group (access_of entry) }
+        requires own_lists { IsOwnEntry S.reads S.writes entry }
         ensures ok { let here = slice_index_or (planned self.old) stage [] in
             OnOk result (planned self.new ≡ slice_set (planned self.old) stage (slice_set here group (slice_index_or here group [] ++ entry_plan entry ∷ []))) }
         ensures err { OnErr result (planned self.new ≡ planned self.old) }
@@ -157,6 +160,7 @@ impl<V, S> StagesBuilder<V, S> {
     fn push_stage(&mut self, entry: Entry<S>) -> Result<(), OutOfMemory>
     where
         S: Drop,
+        requires own_lists { IsOwnEntry S.reads S.writes entry }
         ensures ok { OnOk result (planned self.new ≡ planned self.old ++ ((entry_plan entry ∷ []) ∷ []) ∷ []) }
         ensures err { OnErr result (planned self.new ≡ planned self.old) }
         ensures added { OnOk result (IsNew (builder_entries self.old) (builder_entries self.new) entry) }
@@ -203,6 +207,7 @@ fn kept_entry<V: ResourceValue, S: System<V> + Drop>(
 ) -> Result<Entry<S>, OutOfMemory>
     ensures kept { IfOk result (λ entry. IsKept id.0 (S.reads system) (S.writes system) (S.time system) (entry_plan entry)) }
     ensures same { IfOk result (λ entry. entry.system ≡ system) }
+    ensures own_lists { IfOk result (IsOwnEntry S.reads S.writes) }
 {
     let time = system.running_time();
     let accessor = match system.accessor() {

@@ -1,10 +1,9 @@
-use Rattle.std.proofs.Common.{◌≡◌, ◌<◌, ◌≤◌, ◌∙◌, length, get_or, map, Ok, Err, refl, sym, arith}
+use Rattle.std.proofs.Common.{◌∙◌, get_or, Ok, Err, refl, arith}
 use Rattle.std.proofs.Math.Seq.{map-set_same}
-use Rattle.shred_model.specs.States.{setting_of}
 use Rattle.shred_model.proofs.Ran.{Ran-as, Ran-of_one_thread}
 use Rattle.shred_model.proofs.UpToFault.{SoFar-more, SoFar-fault, SoFar-end}
 use Rattle.shred_world.specs.Worlds.{world_held}
-use Rattle.shred.specs.Plans.{StageTurn, PlanTurn, dispatch_answer, stage_states}
+use Rattle.shred.specs.Plans.{StageTurn, PlanTurn, stage_states}
 use Rattle.shred.specs.StagePlan.{stage_plan}
 use Rattle.shred.proofs.dispatch.dispatcher.run_stages.Goals as goal
 

@@ -1,8 +1,10 @@
-use Rattle.std.proofs.Common.{◌≡◌, ◌<◌, ◌≤◌, ◌∙◌, length, map, arith}
+use Rattle.std.proofs.Common.{◌∙◌, arith}
 use Rattle.std.proofs.Math.Seq.{map-set_same}
+use Rattle.std.proofs.lemmas.List.Elements.{All-set}
 use Rattle.shred_model.proofs.UpToFault.{SoFar-more, SoFar-fault, SoFar-end}
 use Rattle.shred_world.specs.Worlds.{world_held}
 use Rattle.shred.specs.Entries.{EntryRun, entry_states}
+use Rattle.shred.specs.OwnLists.{IsOwnEntry}
 use Rattle.shred.specs.PlanOf.{entry_plan}
 use Rattle.shred.proofs.dispatch.run.run_entries.Goals as goal
 
@@ -16,10 +18,18 @@ returns-in-Err-clause-plan g c = map-set_same entry_plan c.loop-entry.entries c.
 pub returns-in-Err-clause-kinds : goal.returns-in-Err-clause-kinds
 returns-in-Err-clause-kinds g c = λ id. c.in-Err.ensures.kinds id ∙ c.loop-entry.invariant.kinds id
 
+pub run_entry-requires : goal.run_entry-requires
+run_entry-requires g c = record { own_lists = c.loop-entry.invariant.own_lists c.loop-entry.entry-index c.entry-item.result (omega arith) }
+
+pub returns-in-Err-clause-own_lists : goal.returns-in-Err-clause-own_lists
+returns-in-Err-clause-own_lists g c =
+    All-set (IsOwnEntry g.S.System.reads g.S.System.writes) c.loop-entry.entries c.loop-entry.entry-index c.run_entry.new.entry c.in-Err.ensures.own_lists c.loop-entry.invariant.own_lists
+
 pub loop-entry-preserved : goal.loop-entry-preserved
 loop-entry-preserved g c = record {
   plan = map-set_same entry_plan c.loop-entry.entries c.loop-entry.entry-index c.run_entry.new.entry c.entry-item.result c.in_default.ensures.plan ∙ c.loop-entry.invariant.plan;
   kinds = λ id. c.in_default.ensures.kinds id ∙ c.loop-entry.invariant.kinds id;
+  own_lists = All-set (IsOwnEntry g.S.System.reads g.S.System.writes) c.loop-entry.entries c.loop-entry.entry-index c.run_entry.new.entry c.in_default.ensures.own_lists c.loop-entry.invariant.own_lists;
   ran = SoFar-more (EntryRun g.V.ResourceValue.kind_of g.S.System.step) entry_plan entry_states c.loop-entry.entries (world_held g.V.ResourceValue.kind_of c.loop-entry.world)
       c.loop-entry.invariant.plan c.loop-entry.invariant.ran c.entry-item.result c.run_entry.new.entry (world_held g.V.ResourceValue.kind_of c.run_entry.new.world) (omega arith) c.in_default.ensures.ran;
 }

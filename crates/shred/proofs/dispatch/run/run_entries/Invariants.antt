@@ -1,10 +1,12 @@
 use Rattle.std.proofs.Common.{◌≡◌, map}
 use Rattle.shred_model.specs.States.{setting_of, listed_states}
 use Rattle.shred_model.proofs.UpToFault.{SoFar}
+use Rattle.std.specs.List.{All}
 use Rattle.std.specs.Option.{option_map}
 use Rattle.shred_world.specs.declared.id.ResourceId.{ResourceId}
 use Rattle.shred_world.specs.Worlds.{world_held}
 use Rattle.shred.specs.Entries.{EntryRun, entry_states}
+use Rattle.shred.specs.OwnLists.{IsOwnEntry}
 use Rattle.shred.specs.PlanOf.{entry_plan}
 use Rattle.shred.proofs.dispatch.run.run_entries.Given as goal
 
@@ -12,6 +14,7 @@ abbrev pub invariant-loop-entry : goal.invariant-loop-entry
 invariant-loop-entry g l = record {
   plan : map entry_plan l.entries ≡ map entry_plan l.initial.entries;
   kinds : (id : ResourceId) → option_map g.V.ResourceValue.kind_of (world_held g.V.ResourceValue.kind_of l.world id) ≡ option_map g.V.ResourceValue.kind_of (world_held g.V.ResourceValue.kind_of l.initial.world id);
+  own_lists : All (IsOwnEntry g.S.System.reads g.S.System.writes) l.entries;
   ran : SoFar (EntryRun g.V.ResourceValue.kind_of g.S.System.step) l.entry-index (map entry_plan l.initial.entries)
       (setting_of (listed_states entry_states l.initial.entries) (world_held g.V.ResourceValue.kind_of l.initial.world)) (setting_of (listed_states entry_states l.entries) (world_held g.V.ResourceValue.kind_of l.world));
 }

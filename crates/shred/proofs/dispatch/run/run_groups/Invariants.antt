@@ -1,10 +1,12 @@
 use Rattle.std.proofs.Common.{◌≡◌, map}
 use Rattle.shred_model.specs.States.{setting_of, listed_states}
 use Rattle.shred_model.proofs.Each.{EachSoFar}
+use Rattle.std.specs.List.{All}
 use Rattle.std.specs.Option.{option_map}
 use Rattle.shred_world.specs.declared.id.ResourceId.{ResourceId}
 use Rattle.shred_world.specs.Worlds.{world_held}
 use Rattle.shred.specs.Entries.{GroupRun, group_states}
+use Rattle.shred.specs.OwnLists.{IsOwnGroup}
 use Rattle.shred.specs.PlanOf.{group_plan, group_numbers}
 use Rattle.shred.proofs.dispatch.run.run_groups.Given as goal
 
@@ -13,6 +15,7 @@ invariant-loop-group g l = record {
   plan : map group_plan l.groups ≡ map group_plan l.initial.groups;
   ids : map group_numbers l.groups ≡ map group_numbers l.initial.groups;
   kinds : (id : ResourceId) → option_map g.V.ResourceValue.kind_of (world_held g.V.ResourceValue.kind_of l.world id) ≡ option_map g.V.ResourceValue.kind_of (world_held g.V.ResourceValue.kind_of l.initial.world id);
+  own_lists : All (IsOwnGroup g.S.System.reads g.S.System.writes) l.groups;
   ran : EachSoFar (GroupRun g.V.ResourceValue.kind_of g.S.System.step) l.group-index (map group_plan l.initial.groups)
       (setting_of (listed_states group_states l.initial.groups) (world_held g.V.ResourceValue.kind_of l.initial.world)) l.answer (setting_of (listed_states group_states l.groups) (world_held g.V.ResourceValue.kind_of l.world));
 }

@@ -6,16 +6,18 @@ use Rattle.shred.specs.PlanOf.{entry_plan, group_plan}
 use Rattle.shred.proofs.Added.{new_when_done, same_when_refused}
 use Rattle.shred.proofs.EntriesAt.{new_at_end_of_group, same_in_group}
 use Rattle.shred.proofs.Times.{group_read}
+use Rattle.shred.proofs.KeptLists.{own_after_push}
 use Rattle.shred.proofs.StageKeeps.{IsKeptBy, kept_after_entry, plan_when_pushed, plan_when_refused}
 use Rattle.shred.proofs.dispatch.stage.Stage.push_entry.Goals as goal
 
 pub invariant_of-self : goal.invariant_of-self
 invariant_of-self g c =
     let old = c.args.self.now in
-    let before : IsKeptBy old.groups.items = record { some_group = old.some_group; small_groups = old.small_groups; apart = old.apart; keep_ids = old.keep_ids } in
+    let before : IsKeptBy g.S.System.reads g.S.System.writes old.groups.items = record { some_group = old.some_group; small_groups = old.small_groups; apart = old.apart; keep_ids = old.keep_ids; own_lists = old.own_lists } in
     let within : c.args.group < length old.groups.items = rw (length-map old.groups.items group_plan) at c.requires.within in
     let here = group_read old.groups.items c.args.group c.index_mut.result.now within c.index_mut.ensures.value in
-    kept_after_entry c.push.result old.groups.items c.args.group c.push.new.self c.args.entry before c.requires.within c.requires.room c.requires.others (rw here (c.push.ensures.ok, c.push.ensures.err)) c.push.ensures.ids
+    kept_after_entry g.S.System.reads g.S.System.writes c.push.result old.groups.items c.args.group c.push.new.self c.args.entry before c.requires.within c.requires.room c.requires.others (rw here (c.push.ensures.ok, c.push.ensures.err)) c.push.ensures.ids
+    (own_after_push g.S.System.reads g.S.System.writes c.push.result c.index_mut.result.now c.push.new.self c.args.entry c.push.ensures.added c.push.ensures.unchanged (rw c.index_mut.ensures.value (old.own_lists c.args.group c.index_mut.result.now within)) c.requires.own_lists)
 
 pub returns-clause-ok : goal.returns-clause-ok
 returns-clause-ok g c =

@@ -2,6 +2,7 @@ use Rattle.std.proofs.Common.{is_ok}
 use Rattle.shred.specs.EntriesAt.{group_entries}
 use Rattle.shred.proofs.Added.{new_after_push}
 use Rattle.shred.proofs.EntriesAt.{new_in_group}
+use Rattle.shred.proofs.KeptLists.{own_alone}
 use Rattle.shred.proofs.Pushed.{holds_after_push}
 use Rattle.shred.proofs.StageKeeps.{IsKeptBy, kept_after_group}
 use Rattle.shred.proofs.dispatch.stage.Stage.push_group.Goals as goal
@@ -10,9 +11,9 @@ use Rattle.shred.proofs.dispatch.stage.Stage.push_group.Goals.{in-Ok-push, in-Er
 pub invariant_of-self : goal.invariant_of-self
 invariant_of-self g c =
     let old = c.args.self.now in
-    let before : IsKeptBy old.groups.items = record { some_group = old.some_group; small_groups = old.small_groups; apart = old.apart; keep_ids = old.keep_ids } in
-    holds_after_push IsKeptBy (is_ok c.push.result) old.groups.items c.in-Ok.group c.push.new.self.items c.push.ensures.items before
-    (kept_after_group old.groups.items c.in-Ok.group c.args.entry before c.in-Ok.ensures.plan c.in-Ok.ensures.ids c.requires)
+    let before : IsKeptBy g.S.System.reads g.S.System.writes old.groups.items = record { some_group = old.some_group; small_groups = old.small_groups; apart = old.apart; keep_ids = old.keep_ids; own_lists = old.own_lists } in
+    holds_after_push (IsKeptBy g.S.System.reads g.S.System.writes) (is_ok c.push.result) old.groups.items c.in-Ok.group c.push.new.self.items c.push.ensures.items before
+    (kept_after_group g.S.System.reads g.S.System.writes old.groups.items c.in-Ok.group c.args.entry before c.in-Ok.ensures.plan c.in-Ok.ensures.ids (own_alone g.S.System.reads g.S.System.writes c.in-Ok.group c.args.entry c.in-Ok.ensures.entries c.requires.own_lists) c.requires.free)
 
 pub returns-after-push-clause-added : goal.returns-after-push-clause-added
 returns-after-push-clause-added g c =

@@ -6,8 +6,8 @@ use Rattle.shred.proofs.Added.{new_when_done, same_when_refused}
 use Rattle.shred.proofs.PlanKeeps.{stage_read, few_stages, plan_when_done, plan_when_refused}
 use Rattle.shred.proofs.dispatch.stages_builder.StagesBuilder.push_group.Goals as goal
 
-pub push_group-requires : goal.push_group-requires
-push_group-requires g c =
+pub push_group-requires-clause-free : goal.push_group-requires-clause-free
+push_group-requires-clause-free g c =
     let stages = c.args.self.now.stages.items in
     let within : c.args.stage < length stages = rw (length-map stages stage_plan) at c.requires.within in
     rw (stage_read stages c.args.stage c.index_mut.result.now within c.index_mut.ensures.value) at c.requires.free

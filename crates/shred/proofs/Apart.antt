@@ -7,7 +7,7 @@ use Rattle.std.proofs.lemmas.List.Quantifiers.{all_pairs_push}
 use Rattle.std.proofs.lemmas.Option.{slice_get-get_or, slice_get_within, get_or_from_slice_get}
 use Rattle.shred_model.specs.Access.{Access, Conflicts}
 use Rattle.shred_model.specs.Plan.{Entry, Group, Stage, group_access}
-use Rattle.shred.specs.Soundness.{AreApart}
+use Rattle.shred_model.specs.Beside.{AreApart}
 use Rattle.shred.proofs.Membership.{Contains-nil}
 use Rattle.shred.proofs.Tests.{Conflicts-of_entry, Conflicts-by_entry}
 
@@ -29,7 +29,7 @@ Conflicts-single {I} entry access h =
     let none : Conflicts (group_access []) access → Conflicts entry.access access = λ c. absurd (let member = Conflicts-by_entry [] access c in Contains-nil member.0 member.1) in
     ⊎_elim none (λ c. c) (Conflicts-push_cases [] entry access h)
 
-pub AreApart-push : {I : Type 0} (stage : Stage I) (entry : Entry I) → AreApart stage → All (λ group. Conflicts (group_access group) entry.access → ⊥) stage → AreApart (stage ++ (entry ∷ []) ∷ [])
+pub AreApart-push : {I : Type 0} (stage : Stage I) (entry : Entry I) → AreApart group_access stage → All (λ group. Conflicts (group_access group) entry.access → ⊥) stage → AreApart group_access (stage ++ (entry ∷ []) ∷ [])
 AreApart-push {I} stage entry apart free =
     all_pairs_push (λ (first second : Group I). Conflicts (group_access first) (group_access second) → ⊥) stage (entry ∷ []) apart
     (λ k d lt h. free k d lt (Conflicts-flip entry.access (group_access (get_or stage k d)) (Conflicts-single entry (group_access (get_or stage k d)) (Conflicts-flip (group_access (get_or stage k d)) (group_access (entry ∷ [])) h))))
@@ -40,8 +40,8 @@ grown_apart : {I : Type 0} (group other : Group I) (entry : Entry I) → (Confli
 grown_apart group other entry apart free h =
     ⊎_elim apart (λ c. free (Conflicts-flip entry.access (group_access other) c)) (Conflicts-push_cases group entry (group_access other) h)
 
-pub AreApart-set : {I : Type 0} (stage : Stage I) (entry : Entry I) (g : ℕ) (group : Group I) → AreApart stage → slice_get stage g ≡ Some group
-    → ((h : ℕ) (other : Group I) → slice_get stage h ≡ Some other → h ≢ g → Conflicts (group_access other) entry.access → ⊥) → AreApart (set stage g (group ++ entry ∷ []))
+pub AreApart-set : {I : Type 0} (stage : Stage I) (entry : Entry I) (g : ℕ) (group : Group I) → AreApart group_access stage → slice_get stage g ≡ Some group
+    → ((h : ℕ) (other : Group I) → slice_get stage h ≡ Some other → h ≢ g → Conflicts (group_access other) entry.access → ⊥) → AreApart group_access (set stage g (group ++ entry ∷ []))
 AreApart-set {I} stage entry g group apart at free i j d lt within h =
     let g_within : g < length stage = slice_get_within stage g group at in
     let j_within : j < length stage = rw (length-set stage g (group ++ entry ∷ [])) at within in

@@ -7,19 +7,20 @@ use Rattle.std.proofs.lemmas.List.Elements.{All-push, All-set}
 use Rattle.std.proofs.lemmas.Option.{slice_get-get_or}
 use Rattle.shred_world.specs.declared.id.ResourceId.{ResourceId}
 use Rattle.shred_model.specs.Access.{Conflicts}
+use Rattle.shred_model.specs.Beside.{AreApart}
 use Rattle.shred_model.specs.Plan as model
 use Rattle.shred_model.specs.Plan.{group_access}
 use Rattle.shred.specs.OwnLists.{IsOwnGroup}
 use Rattle.shred.specs.PlanOf.{access_of, entry_plan, group_plan, groups_plan, KeepsIds}
 use Rattle.shred.specs.Search.{OthersDoNotConflict}
-use Rattle.shred.specs.Soundness.{AreApart, IsSmallGroup}
+use Rattle.shred.specs.Soundness.{IsSmallGroup}
 use Rattle.shred.specs.declared.dispatch.entry.Entry.{Entry}
 use Rattle.shred.specs.declared.dispatch.entry.Group.{Group}
 use Rattle.shred.proofs.Apart.{AreApart-push, AreApart-set}
 
 -- what a stage keeps of its groups
 abbrev pub IsKeptBy : {S : Type 0} → (reads writes : S → List ResourceId) → List (Group S) → Type 0
-IsKeptBy reads writes groups = record { some_group : 0 < length groups; small_groups : All IsSmallGroup (groups_plan groups); apart : AreApart (groups_plan groups); keep_ids : All KeepsIds groups; own_lists : All (IsOwnGroup reads writes) groups }
+IsKeptBy reads writes groups = record { some_group : 0 < length groups; small_groups : All IsSmallGroup (groups_plan groups); apart : AreApart group_access (groups_plan groups); keep_ids : All KeepsIds groups; own_lists : All (IsOwnGroup reads writes) groups }
 
 single_is_small : {I : Type 0} (entry : model.Entry I) (group : model.Group I) → group ≡ entry ∷ [] → IsSmallGroup group
 single_is_small entry group e = rw e (omega arith, omega arith)
@@ -55,7 +56,7 @@ plan_after : {S : Type 0} (groups : List (Group S)) (g : ℕ) (new : Group S) �
 plan_after groups g new = map-set group_plan groups g new
 
 apart_after : {I E : Type 0} (result : Result (Unit {0}) E) (stage : model.Stage I) (g : ℕ) (entry : model.Entry I) (after : model.Group I) → IsPushed result (get_or stage g []) entry after → g < length stage
-    → AreApart stage → OthersDoNotConflict stage g entry.access → AreApart (set stage g after)
+    → AreApart group_access stage → OthersDoNotConflict stage g entry.access → AreApart group_access (set stage g after)
 apart_after result stage g entry after pushed within apart free =
     ⊎_elim
     (λ e. rw e (AreApart-set stage entry g (get_or stage g []) apart (slice_get-get_or stage g [] within) free))

@@ -1,17 +1,15 @@
 -- What a stage keeps stays where its plan and its ids stay.
-use Rattle.std.proofs.Common.{◌≡◌, zero, suc, ◌<◌, List, [], ◌∷◌, length, map, sym, ◌∙◌, ap, subst, arith}
+use Rattle.std.proofs.Common.{◌≡◌, zero, suc, List, [], ◌∷◌, length, map, sym, ◌∙◌, ap, subst, arith}
 use Rattle.std.specs.List.{All}
 use Rattle.std.proofs.lemmas.List.{length-map}
 use Rattle.shred_model.specs.Plan as model
 use Rattle.shred_world.specs.declared.id.ResourceId.{ResourceId}
 use Rattle.shred.specs.OwnLists.{IsOwnGroup}
 use Rattle.shred.specs.PlanOf.{group_plan, group_numbers, groups_plan, KeepsIds}
-use Rattle.shred.specs.Soundness.{AreApart, IsSmallGroup}
+use Rattle.shred_model.specs.Beside.{AreApart}
+use Rattle.shred.specs.Soundness.{IsSmallGroup}
+use Rattle.shred.proofs.StageKeeps.{IsKeptBy}
 use Rattle.shred.specs.declared.dispatch.entry.Group.{Group}
-
--- what a stage keeps of its groups
-abbrev pub IsKeptBy : {S : Type 0} → (reads writes : S → List ResourceId) → List (Group S) → Type 0
-IsKeptBy reads writes groups = record { some_group : 0 < length groups; small_groups : All IsSmallGroup (groups_plan groups); apart : AreApart (groups_plan groups); keep_ids : All KeepsIds groups; own_lists : All (IsOwnGroup reads writes) groups }
 
 keeps_alike : {S : Type 0} (x z : Group S) → group_plan x ≡ group_plan z → group_numbers x ≡ group_numbers z → KeepsIds z → KeepsIds x
 keeps_alike x z plan ids keep = ids ∙ keep ∙ ap model.group_ids (sym plan)
@@ -32,7 +30,7 @@ stays {S} reads writes new old plan ids own kept =
     record {
       some_group = let h = kept.some_group in omega arith;
       small_groups = subst (λ (p : model.Stage ResourceId). All IsSmallGroup p) (sym plan) kept.small_groups;
-      apart = subst (λ (p : model.Stage ResourceId). AreApart p) (sym plan) kept.apart;
+      apart = subst (λ (p : model.Stage ResourceId). AreApart model.group_access p) (sym plan) kept.apart;
       keep_ids = ids_stay new old plan ids kept.keep_ids;
       own_lists = own;
     }

@@ -54,7 +54,7 @@ impl<E: From<DataError>> From<DataError> for Fault<E> {
 /// What is run over the resources that it declares.
 pub trait System<V: ResourceValue> {
     ghost use Rattle.shred.specs.Steps.{Held, Outcome, Step};
-    ghost use Rattle.shred_world.specs.Views.{view_held, declared_held, may_write, IsLent, IsSameView};
+    ghost use Rattle.shred_world.specs.Views.{view_held, declared_held, may_write, table_of, IsLent, IsSameView};
     ghost use Rattle.shred_world.specs.Worlds.{world_held};
 
     type Error;
@@ -77,7 +77,7 @@ pub trait System<V: ResourceValue> {
     fn run(&mut self, view: &mut View<V>) -> Result<(), Fault<Self::Error>>
         requires lent { IsLent view.old (reads self.old) (writes self.old) }
         ensures step { step self.old (declared_held V.kind_of view.old) result self.new (declared_held V.kind_of view.new) }
-        ensures table { view.new.own.ghost_name ≡ view.old.own.ghost_name }
+        ensures table { table_of view.new ≡ table_of view.old }
         ensures view { IsSameView view.old view.new }
         ensures ids { (id : ResourceId) → is_some (view_held V.kind_of view.new id) ≡ is_some (view_held V.kind_of view.old id) }
         ensures frame { (id : ResourceId) → may_write view.old id ≡ false → view_held V.kind_of view.new id ≡ view_held V.kind_of view.old id }

@@ -1,6 +1,5 @@
 -- Ids told apart, and looked for in lists.
-use Rattle.std.proofs.Common.{◌≡◌, ◌≢◌, ℕ, zero, suc, ◌<◌, Bool, true, false, ◌||◌, List, [], ◌∷◌, length, get_or, ◌⊎◌, Contains, inl, inr, refl, sym, ◌∙◌, arith}
-use Rattle.std.proofs.lemmas.Bool.Decides.{nat_tests}
+use Rattle.std.proofs.Common.{◌≡◌, ◌≢◌, zero, suc, Bool, true, false, ◌||◌, List, [], ◌∷◌, ◌⊎◌, Contains, inl, inr, refl, sym, ◌∙◌, arith}
 use Rattle.shred_model.proofs.Telling.{Tells}
 use Rattle.shred_model.proofs.Membership.{Contains-later}
 use Rattle.shred_world.specs.declared.id.ResourceId.{ResourceId}

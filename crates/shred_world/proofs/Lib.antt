@@ -1,3 +1,4 @@
+pub mod Finite
 pub mod Slots
 pub mod Ids
 pub mod Views

@@ -1,15 +1,13 @@
 -- The tests of a part of the data.
-use Rattle.std.proofs.Common.{◌≡◌, ℕ, Bool, true, false, Option, Some, None, cond, nat_eq, ◌&&◌, refl, sym, ◌∙◌, ap, arith}
-use Rattle.std.specs.Prelude.{is_some}
+use Rattle.std.proofs.Common.{◌≡◌, Bool, true, false, Option, Some, None, cond, nat_eq, ◌&&◌, refl, arith}
 use Rattle.std.proofs.lemmas.Bool.Decides.{nat_tests}
 use Rattle.shred_world.specs.declared.id.Kind.{Kind}
 use Rattle.shred_world.specs.declared.id.ResourceId.{ResourceId}
 use Rattle.shred_world.specs.declared.table.Slot.{Slot}
-use Rattle.shred_world.specs.declared.world.data.DataError.{DataError}
 use Rattle.shred_world.specs.declared.world.data.DataError.TheVariants.{Missing, Undeclared, Taken, WrongKind}
 use Rattle.shred_world.specs.declared.world.data.View.{View}
 use Rattle.shred_world.specs.Slots.{slot_at, slot_held, held, among, or_slot}
-use Rattle.shred_world.specs.Views.{view_held, view_slot, lent_slot, may_write, refusal}
+use Rattle.shred_world.specs.Views.{view_held, may_write, refusal}
 
 -- what has passed the first three tests has the id's kind, is declared and is not out
 pub refusal-passed : (asked : Kind) (id : ResourceId) (declared out : Bool) → refusal asked id declared out true ≡ None → (asked ≡ id.kind) × (declared ≡ true) × (out ≡ false)

@@ -1,5 +1,5 @@
 -- Slots, written and looked up.
-use Rattle.std.proofs.Common.{◌≡◌, ℕ, Bool, true, false, Option, Some, None, cond, nat_eq, ◌&&◌, refl, sym, ◌∙◌, ap, arith, rules}
+use Rattle.std.proofs.Common.{◌≡◌, Bool, true, false, Option, Some, None, cond, nat_eq, refl, sym, ◌∙◌, ap, arith}
 use Rattle.std.proofs.lemmas.Bool.Decides.{nat_tests}
 use Rattle.std.specs.Prelude.{OnSome, IfSome, IfNone, MatchOption, ◌≢◌}
 use Rattle.shred_world.specs.declared.id.Kind.{Kind}

@@ -1,5 +1,5 @@
 -- Views whose own table is written.
-use Rattle.std.proofs.Common.{◌≡◌, ℕ, Bool, true, false, Option, Some, None, cond, nat_eq, ◌&&◌, refl, sym, ◌∙◌, ap, arith, rules, subst}
+use Rattle.std.proofs.Common.{◌≡◌, Bool, true, false, Option, Some, None, cond, nat_eq, ◌&&◌, refl, sym, ◌∙◌, ap, arith}
 use Rattle.std.specs.Prelude.{is_some}
 use Rattle.std.proofs.lemmas.Bool.Decides.{nat_tests}
 use Rattle.shred_world.specs.declared.id.Kind.{Kind}
@@ -7,9 +7,9 @@ use Rattle.shred_world.specs.declared.id.ResourceId.{ResourceId}
 use Rattle.shred_world.specs.declared.table.Slot.{Slot}
 use Rattle.shred_world.specs.declared.world.data.View.{View}
 use Rattle.shred_world.specs.Id.{same_id}
-use Rattle.shred_world.specs.Slots.{slot_at, slot_held, with_at, among, or_slot, of_kind}
-use Rattle.shred_world.specs.Views.{lent_slot, view_slot, view_held, may_write, is_out, IsSameView}
-use Rattle.shred_world.proofs.Slots.{same_id-true, same_id-refl}
+use Rattle.shred_world.specs.Slots.{slot_at, slot_held, with_at, among, or_slot}
+use Rattle.shred_world.specs.Views.{lent_slot, view_slot, view_held, IsSameView}
+use Rattle.shred_world.proofs.Slots.{same_id-true}
 
 module _ {V : Type 0} (kind : V → Kind) (s n : View V) (reads : n.reads ≡ s.reads) (writes : n.writes ≡ s.writes) (owned : n.owned ≡ s.owned)
     (out : n.out ≡ s.out) (shelf : n.shelf ≡ s.shelf) (table : n.own.ghost_name ≡ s.own.ghost_name) where

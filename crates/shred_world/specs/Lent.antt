@@ -1,5 +1,5 @@
 -- What a table ends as where a part of it is lent to be written.
-use Rattle.std.specs.Prelude.{◌≡◌, ℕ, Option, Some, None, IfSome, OnSome}
+use Rattle.std.specs.Prelude.{◌≡◌, ℕ, Option, Some, OnSome}
 use Rattle.std.specs.Borrow.{Lends, LendsIf, LendsSo, LendsSoOk, MutBor, Fml, RattleType}
 use Rattle.std.specs.Prelude.{Result, []}
 use Rattle.shred_world.specs.declared.world.World.{World}
@@ -13,7 +13,7 @@ use Rattle.shred_world.specs.contracts.table.Slot.{the_row as slot_row}
 use Rattle.shred_world.specs.contracts.table.Table.{the_row as table_row}
 use Rattle.shred_world.specs.declared.world.data.View.{View}
 use Rattle.shred_world.specs.contracts.world.data.View.{the_row as view_row}
-use Rattle.shred_world.specs.Slots.{slot_at, held, with_at}
+use Rattle.shred_world.specs.Slots.{slot_at, with_at}
 use Rattle.shred_world.specs.Views.{view_held, IsSameView}
 
 -- the slot with this value

@@ -1,5 +1,5 @@
 -- What the slots of a table hold.
-use Rattle.std.specs.Prelude.{◌≡◌, ℕ, Bool, Option, Some, None, cond, nat_eq, ◌&&◌, List}
+use Rattle.std.specs.Prelude.{Bool, Option, Some, None, cond, nat_eq, List}
 use Rattle.std.specs.List.{list_any}
 use Rattle.std.specs.HashMap.{get}
 use Rattle.shred_world.specs.declared.id.Kind.{Kind}

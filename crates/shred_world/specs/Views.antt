@@ -1,6 +1,5 @@
 -- Views: the declared ids, what is held under them, and what is out.
-use Rattle.std.specs.Prelude.{◌≡◌, ℕ, Bool, true, false, Option, Some, None, cond, nat_eq, not, ◌&&◌, ◌||◌, List, [], ◌∷◌, is_some}
-use Rattle.std.specs.List.{list_any}
+use Rattle.std.specs.Prelude.{◌≡◌, ℕ, Bool, false, Option, Some, None, cond, nat_eq, ◌&&◌, ◌||◌, List, [], ◌∷◌, is_some}
 use Rattle.shred_world.specs.declared.id.Kind.{Kind}
 use Rattle.shred_world.specs.declared.id.ResourceId.{ResourceId}
 use Rattle.shred_world.specs.declared.table.Slot.{Slot}

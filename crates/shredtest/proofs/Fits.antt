@@ -175,7 +175,3 @@ placed_end plan placed barrier start dependencies entry k g found is =
 pub place_within : (plan : Plan ℕ) (barrier start : ℕ) (dependencies : List ℕ) (entry : Entry ℕ) (k g : ℕ) → FoundIs plan barrier start dependencies entry (EndOf k g) → (k < length plan) × (g < length (get_or plan k []))
 place_within plan barrier start dependencies entry k g found =
     (slice_get_within plan k found.0 found.3, rw (get_or_from_slice_get plan k found.0 [] found.3) (slice_get_within found.0 g found.1 found.5.stands))
-
-pub OnOk-weaker : {T E : Type 0} {P Q : Type 0} (result : Result T E) → (P → Q) → OnOk result P → OnOk result Q
-OnOk-weaker (Ok x) weaker p = weaker p
-OnOk-weaker (Err e) weaker p = tt

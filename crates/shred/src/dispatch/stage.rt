@@ -2,12 +2,13 @@
 ghost use Rattle.std.specs.Prelude.{◌≡◌, ◌↔◌, ◌<◌, ◌≤◌, ℕ, length, All, IfOk, OnOk, OnErr, IsSome, IfSome, ◌++◌, ◌∷◌, [], slice_set, slice_index_or};
 ghost use Rattle.shred_model.specs.Plan.{group_access, group_ids, stage_ids};
 ghost use Rattle.shred_model.specs.Access.{Conflicts};
+ghost use Rattle.shred_model.specs.Beside.{AreApart};
 ghost use Rattle.shred_world.specs.Id.{same_id};
 ghost use Rattle.shred.specs.Placement.{difference, greatest_time};
 ghost use Rattle.shred.specs.OwnLists.{IsOwnEntry, IsOwnGroup};
 ghost use Rattle.shred.specs.PlanOf.{access_of, entry_plan, group_plan, groups_plan, numbers_of, KeepsIds};
 ghost use Rattle.shred.specs.Search.{is_touched, may_end, OthersDoNotConflict, SpotIs, TouchedIs};
-ghost use Rattle.shred.specs.Soundness.{AreApart, IsSmallGroup};
+ghost use Rattle.shred.specs.Soundness.{IsSmallGroup};
 
 use crate::dispatch::entry::{Entry, Group, SystemId};
 use crate::dispatch::run::{StageFault, run_stage};
@@ -25,7 +26,7 @@ pub struct Stage<V: ResourceValue, S: System<V>> {
     value: PhantomData<V>,
     ghost some_group: { 0 < length groups.items },
     ghost small_groups: { All IsSmallGroup (groups_plan groups.items) },
-    ghost apart: { AreApart (groups_plan groups.items) },
+    ghost apart: { AreApart group_access (groups_plan groups.items) },
     ghost keep_ids: { All KeepsIds groups.items },
     ghost own_lists: { All (IsOwnGroup S.reads S.writes) groups.items },
 }

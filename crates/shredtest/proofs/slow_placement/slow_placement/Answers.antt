@@ -1,7 +1,8 @@
 use Rattle.std.proofs.Common.{subst}
+use Rattle.std.proofs.lemmas.Result.{on_ok_weaker}
 use Rattle.shredtest.specs.Plain.{entry_of, plan_of}
 use Rattle.shredtest.specs.Slow.{FoundIs}
-use Rattle.shredtest.proofs.Fits.{OnOk-weaker, placed_new, placed_end, place_within}
+use Rattle.shredtest.proofs.Fits.{placed_new, placed_end, place_within}
 use Rattle.shredtest.proofs.slow_placement.slow_placement.Goals as goal
 
 pub push_entry_at-requires-clause-within_stage : goal.push_entry_at-requires-clause-within_stage
@@ -14,10 +15,10 @@ pub returns-in-Ok-NewGroup-clause-placed : goal.returns-in-Ok-NewGroup-clause-pl
 returns-in-Ok-NewGroup-clause-placed c =
     let arm = c.in-Ok-NewGroup in
     let found = subst (FoundIs (plan_of c.args.plan.now) c.args.barrier c.args.start c.args.dependencies.now (entry_of c.args.entry)) arm.field-0-is arm.ensures in
-    OnOk-weaker c.push_group_at.result (placed_new (plan_of c.args.plan.now) (plan_of c.push_group_at.new.plan) c.args.barrier c.args.start c.args.dependencies.now (entry_of c.args.entry) arm.stage found) c.push_group_at.ensures.ok
+    on_ok_weaker c.push_group_at.result (placed_new (plan_of c.args.plan.now) (plan_of c.push_group_at.new.plan) c.args.barrier c.args.start c.args.dependencies.now (entry_of c.args.entry) arm.stage found) c.push_group_at.ensures.ok
 
 pub returns-in-Ok-EndOf-clause-placed : goal.returns-in-Ok-EndOf-clause-placed
 returns-in-Ok-EndOf-clause-placed c =
     let arm = c.in-Ok-EndOf in
     let found = subst (FoundIs (plan_of c.args.plan.now) c.args.barrier c.args.start c.args.dependencies.now (entry_of c.args.entry)) arm.field-0-is arm.ensures in
-    OnOk-weaker c.push_entry_at.result (placed_end (plan_of c.args.plan.now) (plan_of c.push_entry_at.new.plan) c.args.barrier c.args.start c.args.dependencies.now (entry_of c.args.entry) arm.stage arm.group found) c.push_entry_at.ensures.ok
+    on_ok_weaker c.push_entry_at.result (placed_end (plan_of c.args.plan.now) (plan_of c.push_entry_at.new.plan) c.args.barrier c.args.start c.args.dependencies.now (entry_of c.args.entry) arm.stage arm.group found) c.push_entry_at.ensures.ok

@@ -1,10 +1,8 @@
-use Rattle.std.proofs.Common.{rules, ◌≡◌, Option, Some, None, Bool, true, false, cond, refl, sym, ap, ◌∙◌}
+use Rattle.std.proofs.Common.{◌≡◌, Option, Some, None, true, cond, refl, sym, ap, ◌∙◌}
 use Rattle.std.specs.Prelude.{is_some}
 use Rattle.shred_world.specs.declared.world.data.DataError.TheVariants.{Missing}
-use Rattle.shred_world.specs.declared.id.ResourceId.{ResourceId}
-use Rattle.shred_world.specs.Lent.{LendsWritten, LendsHeld}
-use Rattle.shred_world.specs.Slots.{slot_at, slot_held, with_at, among}
-use Rattle.shred_world.specs.Views.{shelf_slot, view_slot, view_held, may_read, may_write, is_out, refusal, IsSameView}
+use Rattle.shred_world.specs.Slots.{slot_held}
+use Rattle.shred_world.specs.Views.{view_held, may_write, is_out}
 use Rattle.shred_world.proofs.Refusals.{refusal-passed, refusal-rest, written-held, slot-held}
 use Rattle.shred_world.proofs.Slots.{OnSome-here}
 use Rattle.shred_world.proofs.Views.{view_kept, view_written}

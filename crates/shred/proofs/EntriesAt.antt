@@ -15,14 +15,14 @@ use Rattle.shred.specs.declared.dispatch.entry.Group.{Group}
 use Rattle.shred.specs.declared.dispatch.stage.Stage.{Stage}
 use Rattle.shred.proofs.Added.{own_is_new, new_alone, new_at_end, listed_states-map, listed_states-of, new_mapped}
 
-pub new_in_group : {S : Type 0} (group : Group S) (entry : Entry S) → group.entries.items ≡ entry ∷ [] → IsNew nothing_at (group_entries group) entry
+pub new_in_group : {V S : Type 0} (group : Group V S) (entry : Entry S) → group.entries.items ≡ entry ∷ [] → IsNew nothing_at (group_entries group) entry
 new_in_group {S} group entry e = subst (λ (items : List (Entry S)). IsNew nothing_at (listed_states own_state items) entry) (sym e) (new_alone own_state entry entry (own_is_new entry))
 
-pub new_at_end_of_group : {S : Type 0} (old new : Group S) (entry : Entry S) → new.entries.items ≡ old.entries.items ++ entry ∷ [] → IsNew (group_entries old) (group_entries new) entry
+pub new_at_end_of_group : {V S : Type 0} (old new : Group V S) (entry : Entry S) → new.entries.items ≡ old.entries.items ++ entry ∷ [] → IsNew (group_entries old) (group_entries new) entry
 new_at_end_of_group {S} old new entry e =
     subst (λ (items : List (Entry S)). IsNew (group_entries old) (listed_states own_state items) entry) (sym e) (new_at_end own_state old.entries.items entry entry (own_is_new entry))
 
-pub same_in_group : {S : Type 0} (old new : Group S) → new.entries.items ≡ old.entries.items → AreSame (group_entries old) (group_entries new)
+pub same_in_group : {V S : Type 0} (old new : Group V S) → new.entries.items ≡ old.entries.items → AreSame (group_entries old) (group_entries new)
 same_in_group {S} old new e path = ap (λ (items : List (Entry S)). listed_states own_state items path) e
 
 own_mapped : {S X : Type 0} (f : Entry S → X) (entry : Entry S) (path : Agent) → own_state (f entry) path ≡ option_map f (own_state entry path)

@@ -1,7 +1,10 @@
+pub mod Alone
 pub mod Added
 pub mod Apart
 pub mod EntriesAt
+pub mod Hands
 pub mod Ids
+pub mod OwnSlots
 pub mod KeptLists
 pub mod Left
 pub mod Membership
@@ -16,5 +19,10 @@ pub mod Times
 pub mod Touching
 pub mod StepRecord
 pub mod StageStays
+pub mod Sweeps
 pub mod FramedRuns
 pub mod Widest
+pub mod Zips
+pub mod Forked
+pub mod ForkedRuns
+pub mod GroupsWithin

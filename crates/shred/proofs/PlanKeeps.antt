@@ -25,7 +25,7 @@ stage_read stages i x lt is = get_or-map stage_plan stages i x [] lt ∙ ap stag
 ids_in_group : {I : Type 0} (group : model.Group I) → 0 < length group → 0 < length (group_ids group)
 ids_in_group group some = omega (arith, length-map group (λ e. e.id), some)
 
-ids_in_stage : {S : Type 0} (groups : List (Group S)) → 0 < length groups → All IsSmallGroup (groups_plan groups) → 0 < length (stage_ids (groups_plan groups))
+ids_in_stage : {V S : Type 0} (groups : List (Group V S)) → 0 < length groups → All IsSmallGroup (groups_plan groups) → 0 < length (stage_ids (groups_plan groups))
 ids_in_stage [] some small = absurd (omega (arith, some))
 ids_in_stage (group ∷ groups) some small =
     let here : 0 < length (group_ids (group_plan group)) = ids_in_group (group_plan group) (small 0 [] (omega arith)).0 in

@@ -35,5 +35,5 @@ abbrev pub entry_states : {S : Type 0} → Entry S → Agent → Option S
 entry_states entry path = own_state entry.system path
 
 -- the states of a group's systems, by place
-abbrev pub group_states : {S : Type 0} → Group S → Agent → Option S
+abbrev pub group_states : {V S : Type 0} → Group V S → Agent → Option S
 group_states group path = listed_states entry_states group.entries.items path

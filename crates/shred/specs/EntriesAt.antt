@@ -8,7 +8,7 @@ use Rattle.shred.specs.declared.dispatch.stage.Stage.{Stage}
 use Rattle.shred.specs.declared.dispatch.stages_builder.StagesBuilder.{StagesBuilder}
 
 -- a group's entries, by position
-abbrev pub group_entries : {S : Type 0} → Group S → Agent → Option (Entry S)
+abbrev pub group_entries : {V S : Type 0} → Group V S → Agent → Option (Entry S)
 group_entries group path = listed_states own_state group.entries.items path
 
 -- a stage's entries, by group and position

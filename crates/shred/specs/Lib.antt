@@ -6,7 +6,10 @@ pub mod Soundness
 pub mod Placement
 pub mod Search
 pub mod Kept
+pub mod Hands
 pub mod OwnLists
+pub mod OwnSlots
+pub mod Lanes
 pub mod BuilderPlan
 pub mod Steps
 pub mod Entries

@@ -11,5 +11,5 @@ module _ {S : Type 0} (reads writes : S → List ResourceId) where
   IsOwnEntry entry = AreOwnLists (reads entry.system) (writes entry.system) entry.reads.items entry.writes.items
 
   -- each entry's kept lists are those of its system
-  abbrev pub IsOwnGroup : Group S → Type 0
+  abbrev pub IsOwnGroup : {V : Type 0} → Group V S → Type 0
   IsOwnGroup group = All IsOwnEntry group.entries.items

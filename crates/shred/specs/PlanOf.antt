@@ -21,17 +21,17 @@ abbrev pub entry_plan : {S : Type 0} → Entry S → model.Entry ResourceId
 entry_plan entry = record { id = entry.id.0; access = access_of entry; time = count_of entry.time }
 
 -- the numbers of the ids beside a group's entries
-abbrev pub group_numbers : {S : Type 0} → Group S → List ℕ
+abbrev pub group_numbers : {V S : Type 0} → Group V S → List ℕ
 group_numbers group = numbers_of group.ids.items
 
 -- a group's entries, in order
-abbrev pub group_plan : {S : Type 0} → Group S → model.Group ResourceId
+abbrev pub group_plan : {V S : Type 0} → Group V S → model.Group ResourceId
 group_plan group = map entry_plan group.entries.items
 
 -- the groups of a stage, in order
-abbrev pub groups_plan : {S : Type 0} → List (Group S) → model.Stage ResourceId
+abbrev pub groups_plan : {V S : Type 0} → List (Group V S) → model.Stage ResourceId
 groups_plan groups = map group_plan groups
 
 -- the ids beside a group's entries are those of the entries
-abbrev pub KeepsIds : {S : Type 0} → Group S → Type 0
+abbrev pub KeepsIds : {V S : Type 0} → Group V S → Type 0
 KeepsIds group = numbers_of group.ids.items ≡ model.group_ids (group_plan group)

@@ -10,7 +10,8 @@ pub use dispatch::run::StageFault;
 pub use dispatch::stage::Stage;
 pub use dispatch::stages_builder::StagesBuilder;
 pub use shred_world::{
-    Accessor, DataError, Fetch, Kind, OutOfMemory, Resource, ResourceId, ResourceValue, View,
-    World, WorldError, check_intersection,
+    Accessor, DataError, DefaultProvider, Entry, Fetch, FetchMut, Kind, OutOfMemory, PanicHandler,
+    ReplaceError, Resource, ResourceId, ResourceValue, Resources, SetupHandler, View, World,
+    WorldError, check_intersection,
 };
 pub use system::{Fault, RunningTime, System};

@@ -1,3 +1,4 @@
+pub mod AllWent
 pub mod Telling
 pub mod Membership
 pub mod Swap

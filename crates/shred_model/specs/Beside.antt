@@ -30,3 +30,9 @@ RanBeside {F = F} Run view states seen (y ∷ ys) (p ∷ ps) answer (z ∷ zs) (
     × Ran (Run (view y)) (setting_of (states y) (seen p)) a (setting_of (states z) (seen q)) × (view z ≡ view y)
     × RanBeside Run view states seen ys ps b zs qs × (answer ≡ first_fault a b)
 RanBeside Run view states seen _ _ answer _ _ = ⊥
+
+-- each element went its way, with the answer of the first that is not Done
+abbrev pub AllWent : {Y F : Type 0} → (Y → Answer F → Y → Type 0) → List Y → Answer F → List Y → Type 0
+AllWent Went [] answer [] = answer ≡ Ok tt
+AllWent {F = F} Went (y ∷ ys) answer (z ∷ zs) = (a : Answer F) × (b : Answer F) × Went y a z × AllWent Went ys b zs × (answer ≡ first_fault a b)
+AllWent Went _ answer _ = ⊥

@@ -1,6 +1,11 @@
 pub mod Finite
 pub mod Slots
+pub mod Tables
 pub mod Ids
 pub mod Views
 pub mod Refusals
 pub mod HeldKinds
+pub mod Moves
+pub mod Shown
+pub mod Pairs
+pub mod Beside

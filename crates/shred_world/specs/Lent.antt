@@ -15,6 +15,7 @@ use Rattle.shred_world.specs.declared.world.data.View.{View}
 use Rattle.shred_world.specs.contracts.world.data.View.{the_row as view_row}
 use Rattle.shred_world.specs.Slots.{slot_at, with_at}
 use Rattle.shred_world.specs.Views.{view_held, IsSameView}
+use Rattle.shred_world.specs.Worlds.{world_held}
 
 -- the slot with this value
 abbrev pub with_value : {V : Type 0} → Slot V → V → Slot V
@@ -61,3 +62,23 @@ LendsWorld V s r = Lends (world_row V) (table_row V) s r.own (λ t. record s.now
 -- the world ends with the table last written
 abbrev pub LendsTable : (V : RattleType) → MutBor (World V.Denot) → MutBor (Table V.Denot) → Fml
 LendsTable V s r = Lends (world_row V) (table_row V) s r (λ t. record s.now { table = t })
+
+-- the world n holds the value under the id, and all else as the world s
+abbrev pub EndsWith : {V : Type 0} → (V → Kind) → World V → ResourceId → V → World V → Type 0
+EndsWith kind s id v n = (q : ResourceId) → world_held kind n q ≡ with_at (world_held kind s) id (Some v) q
+
+-- the world n holds what the world s holds
+abbrev pub EndsSame : {V : Type 0} → (V → Kind) → World V → World V → Type 0
+EndsSame kind s n = (q : ResourceId) → world_held kind n q ≡ world_held kind s q
+
+-- the world ends with the resource last written under the id, and all else as it was
+abbrev pub LendsGot : (V R : RattleType) → (V.Denot → Kind) → (R.Denot → V.Denot) → MutBor (World V.Denot) → ResourceId → Option (MutBor R.Denot) → Fml
+LendsGot V R kind wrapped s id r = LendsSo (world_row V) R s r
+    (λ n w. OnSome r (EndsWith kind s.now id (wrapped w) n))
+    (EndsSame kind s.now)
+
+-- the world ends with the resource last written under the id, and all else as it was
+abbrev pub LendsGotOk : (V R : RattleType) → (V.Denot → Kind) → (R.Denot → V.Denot) → MutBor (World V.Denot) → ResourceId → {E : Type 0} → Result (MutBor R.Denot) E → Fml
+LendsGotOk V R kind wrapped s id r = LendsSoOk (world_row V) R s r
+    (λ n w. EndsWith kind s.now id (wrapped w) n)
+    (EndsSame kind s.now)

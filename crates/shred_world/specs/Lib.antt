@@ -1,5 +1,11 @@
 pub mod Id
 pub mod Slots
 pub mod Lent
+pub mod Fetched
 pub mod Views
 pub mod Worlds
+pub mod Shown
+pub mod Parting
+pub mod Parts
+pub mod Beside
+pub mod Entries

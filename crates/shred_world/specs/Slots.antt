@@ -30,6 +30,10 @@ held kind t id = slot_held kind id (slot_at t id)
 abbrev pub with_at : {X : Type 0} → (ResourceId → Option X) → ResourceId → Option X → ResourceId → Option X
 with_at m id w q = cond (same_id id q) w (m q)
 
+-- the map m with nothing at the id
+abbrev pub without_at : {X : Type 0} → (ResourceId → Option X) → ResourceId → ResourceId → Option X
+without_at m id = with_at m id None
+
 -- whether the id is in the list
 abbrev pub among : List ResourceId → ResourceId → Bool
 among ids id = list_any (λ x. same_id x id) ids

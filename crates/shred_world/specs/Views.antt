@@ -10,10 +10,10 @@ use Rattle.shred_world.specs.declared.world.data.Shelf.{Shelf, Last, Before'}
 use Rattle.shred_world.specs.declared.world.data.View.{View}
 use Rattle.shred_world.specs.Slots.{among, slot_at, slot_held, or_slot}
 
--- the slot that a shelf shows for an id: that of the nearest table which has one
+-- the slot that a shelf shows for an id: that of the nearest table which has one, where no table before it owns the id
 abbrev pub shelf_slot : {V : Type 0} → Shelf V → ResourceId → Option (Slot V)
 shelf_slot (Last table) id = slot_at table.now id
-shelf_slot (Before' table p rest) id = or_slot (slot_at table.now id) (shelf_slot rest id)
+shelf_slot (Before' table owned p rest) id = or_slot (slot_at table.now id) (cond (among owned.now id) None (shelf_slot rest id))
 
 -- the slot that is lent shared for an id, where there is a shelf
 abbrev pub lent_slot : {V : Type 0} → List (Shelf V) → ResourceId → Option (Slot V)

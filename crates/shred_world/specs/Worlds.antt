@@ -1,11 +1,10 @@
 -- Worlds: finite maps from ids to values of their id's kind.
-use Rattle.std.specs.Prelude.{◌≡◌, false, List, Option, None}
+use Rattle.std.specs.Prelude.{◌≡◌, false, List, Option, Some, None, MatchOption}
 use Rattle.shred_world.specs.declared.id.Kind.{Kind}
 use Rattle.shred_world.specs.declared.id.ResourceId.{ResourceId}
 use Rattle.shred_world.specs.declared.table.Table.{Table}
-use Rattle.shred_world.specs.declared.world.Fetch.{Fetch}
 use Rattle.shred_world.specs.declared.world.World.{World}
-use Rattle.shred_world.specs.Slots.{among, held}
+use Rattle.shred_world.specs.Slots.{among, held, with_at}
 
 -- the table behind a world
 abbrev pub table_of_world : {V : Type 0} → World V → Table V
@@ -15,10 +14,16 @@ table_of_world w = w.table
 abbrev pub world_held : {V : Type 0} → (V → Kind) → World V → ResourceId → Option V
 world_held kind w id = held kind w.table id
 
--- what a fetch shows
-abbrev pub fetched : {R : Type 0} → Fetch R → R
-fetched f = f.resource.now
-
 -- some list has every id under which a value is held
 abbrev pub IsFinite : {V : Type 0} → (ResourceId → Option V) → Type 0
 IsFinite held = (ids : List ResourceId) × ((id : ResourceId) → among ids id ≡ false → held id ≡ None)
+
+-- the resource is the one that was held, or else one of those that may be made
+abbrev pub IsKeptOrMade : {V R : Type 0} → (R → V) → Option V → (R → Type 0) → R → Type 0
+IsKeptOrMade wrapped before Made r = MatchOption before (Made r) (λ v. wrapped r ≡ v)
+
+-- The map after is the map before where that holds a value at the id, or else the map before with one of the resources that may be made.
+abbrev pub IsFilled : {V R : Type 0} → (R → V) → (R → Type 0) → ResourceId → (ResourceId → Option V) → (ResourceId → Option V) → Type 0
+IsFilled {V} {R} wrapped Made id before after = MatchOption (before id)
+    ((r : R) × Made r × ((q : ResourceId) → after q ≡ with_at before id (Some (wrapped r)) q))
+    (λ v. (q : ResourceId) → after q ≡ before q)

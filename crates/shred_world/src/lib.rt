@@ -3,6 +3,7 @@
 
 pub mod accessor;
 pub mod id;
+pub mod parting;
 pub mod resource;
 pub mod table;
 pub mod util;
@@ -14,4 +15,8 @@ pub use resource::{Resource, ResourceValue};
 pub use table::Table;
 pub use util::check_intersection;
 pub use world::data::{DataError, Shelf, View};
-pub use world::{Fetch, World, WorldError};
+pub use world::entry::Entry;
+pub use world::fetch::{Fetch, FetchMut};
+pub use world::parts::Parts;
+pub use world::setup::{DefaultProvider, PanicHandler, SetupHandler};
+pub use world::{ReplaceError, Resources, World, WorldError};

@@ -1,9 +1,10 @@
 //! A table of slots, each of one id; the value of a slot may be moved out of it and back.
-ghost use Rattle.std.specs.Prelude.{◌≡◌, ◌≢◌, IfNone, IfSome, None, Some, MatchOption, OnOk, OnErr};
+ghost use Rattle.std.specs.Prelude.{◌≡◌, ◌≢◌, IfNone, IfSome, None, Some, MatchOption, OnOk, OnErr, IfOk, IfErr};
 ghost use Rattle.std.specs.Option.{option_copied, option_copied_mut};
 ghost use Rattle.std.specs.Borrow.{sem};
 ghost use Rattle.shred_world.specs.Slots.{slot_at, of_kind, held, slot_held, with_at};
 ghost use Rattle.shred_world.specs.Id.{kind_of};
+ghost use Rattle.shred_world.specs.Parting.{emptied, slot_value, filled};
 ghost use Rattle.shred_world.specs.Lent.{LendsSlot, LendsValue, LendsResource, LendsHeld};
 ghost use Rattle.shred_world.specs.declared.id.ResourceId.{ResourceId};
 
@@ -12,6 +13,7 @@ use crate::id::ResourceId;
 use crate::resource::{Resource, ResourceValue};
 use std::alloc::Global;
 use std::collections::HashMap;
+use std::mem;
 
 /// The place of a value; it stays while the value is moved out.
 #[derive(Drop)]
@@ -54,6 +56,21 @@ impl<V> Slot<V> {
         let value = self.value_mut()?;
         R::view_mut(value)
     }
+
+    // The resource that the slot has, out of it.
+    pub(crate) fn into_resource<R: Resource<V>>(self) -> Option<R>
+    where
+        V: ResourceValue + Drop,
+        ensures { MatchOption result (IfSome self.value (λ v. V.kind_of v ≢ R.KIND)) (λ r. self.value ≡ Some (R.wrapped r)) }
+    {
+        let Some(value) = self.value else {
+            return None;
+        };
+        match R::unwrap(value) {
+            Ok(resource) => Some(resource),
+            Err(_) => None,
+        }
+    }
 }
 
 #[derive(Drop)]
@@ -62,8 +79,8 @@ pub struct Table<V> {
 }
 
 impl<V> Table<V> {
-    // No slots.
-    pub(crate) fn new(alloc: Global) -> Self
+    /// No slots. It takes no memory.
+    pub fn new(alloc: Global) -> Self
         ensures { (id : ResourceId) → slot_at result id ≡ None }
     {
         Table {
@@ -102,6 +119,77 @@ impl<V> Table<V> {
         match self.slots.insert(id, slot) {
             Ok(_) => Ok(()),
             Err(_) => Err(OutOfMemory),
+        }
+    }
+
+    // Makes the slot of an id empty; the slot is made where there is none.
+    pub(crate) fn open(&mut self, id: ResourceId) -> Result<(), OutOfMemory>
+    where
+        V: Drop,
+        ensures ok { OnOk result ((q : ResourceId) → slot_at self.new q ≡ with_at (slot_at self.old) id (Some (record { value = None })) q) }
+        ensures err { OnErr result ((q : ResourceId) → slot_at self.new q ≡ slot_at self.old q) }
+        ensures no_room { OnErr result (slot_at self.old id ≡ None) }
+    {
+        match self.slots.insert(id, Slot { value: None }) {
+            Ok(_) => Ok(()),
+            Err(_) => Err(OutOfMemory),
+        }
+    }
+
+    // Takes the slot of an id away, with its value.
+    pub(crate) fn close(&mut self, id: ResourceId)
+    where
+        V: Drop,
+        ensures { (q : ResourceId) → slot_at self.new q ≡ with_at (slot_at self.old) id None q }
+    {
+        let _ = self.slots.remove(&id);
+    }
+
+    // Takes the value out of the slot of an id; the slot stays.
+    pub(crate) fn take(&mut self, id: ResourceId) -> Option<V>
+        ensures value { result ≡ slot_value (slot_at self.old id) }
+        ensures slots { (q : ResourceId) → slot_at self.new q ≡ with_at (slot_at self.old) id (emptied (slot_at self.old id)) q }
+    {
+        match self.slot_mut(id) {
+            Some(slot) => slot.value.take(),
+            None => None,
+        }
+    }
+
+    // Puts a value into the slot of an id, where there is one.
+    pub(crate) fn fill(&mut self, id: ResourceId, value: V)
+    where
+        V: Drop,
+        ensures { (q : ResourceId) → slot_at self.new q ≡ with_at (slot_at self.old) id (filled value (slot_at self.old id)) q }
+    {
+        if let Some(slot) = self.slot_mut(id) {
+            slot.value = Some(value);
+        }
+    }
+
+    // Takes the slot of an id away.
+    pub(crate) fn remove(&mut self, id: ResourceId) -> Option<Slot<V>>
+        ensures value { result ≡ slot_at self.old id }
+        ensures after { (q : ResourceId) → slot_at self.new q ≡ with_at (slot_at self.old) id None q }
+    {
+        self.slots.remove(&id)
+    }
+
+    // Puts the value in the place of the one that the slot of an id has, and gives back the old one; or the value
+    // itself, where there is none to give.
+    pub(crate) fn replace(&mut self, id: ResourceId, value: V) -> Result<V, V>
+        ensures ok { IfOk result (λ old. slot_at self.old id ≡ Some (record { value = Some old })) }
+        ensures replaced { OnOk result ((q : ResourceId) → slot_at self.new q ≡ with_at (slot_at self.old) id (Some (record { value = Some value })) q) }
+        ensures err { IfErr result (λ back. back ≡ value) }
+        ensures empty { OnErr result (IfSome (slot_at self.old id) (λ s. s.value ≡ None)) }
+        ensures unchanged { OnErr result ((q : ResourceId) → slot_at self.new q ≡ slot_at self.old q) }
+    {
+        let Some(slot) = self.slot_mut(id) else {
+            return Err(value);
+        };
+        match &mut slot.value {
+            Some(held) => Ok(mem::replace(held, value)),
+            None => Err(value),
         }
     }
 

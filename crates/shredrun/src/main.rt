@@ -6,6 +6,7 @@ use std::process::ExitCode;
 
 fn main(rt: HostRuntime) -> ExitCode {
     let status = run(
+        &rt,
         rt.alloc(),
         &mut rt.stdin(),
         &mut rt.stdout(),

@@ -1,0 +1,4 @@
+pub mod Changed
+pub mod Declares
+pub mod Shown
+pub mod Trimmed

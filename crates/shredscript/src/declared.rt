@@ -1,5 +1,8 @@
 //! What the steps of a system declare.
-ghost use Rattle.std.specs.Prelude.{◌≡◌, IfOk};
+ghost use Rattle.std.specs.Prelude.{◌≡◌, ◌++◌, IfOk, OnOk};
+ghost use Rattle.std.specs.Option.{option_map, option_to_list};
+ghost use Rattle.shredscript.specs.Declares.{read_place, write_place, read_ids, write_ids};
+ghost use Rattle.shredscript.specs.Place.{id_at};
 
 use crate::step::Step;
 use crate::value::id_at;
@@ -15,18 +18,26 @@ pub(crate) struct Declared {
 
 impl Declared {
     /// What the steps declare, in their order.
-    pub(crate) fn of_steps(alloc: Global, steps: &[Step]) -> Result<Declared, AllocError> {
+    pub(crate) fn of_steps(alloc: Global, steps: &[Step]) -> Result<Declared, AllocError>
+        ensures reads { IfOk result (λ declared. declared.reads.items ≡ read_ids steps.now) }
+        ensures writes { IfOk result (λ declared. declared.writes.items ≡ write_ids steps.now) }
+    {
         let mut declared = Declared {
             reads: Vec::new(alloc),
             writes: Vec::new(alloc),
         };
         for step in steps {
-            declared.add(*step)?;
+            if let Err(error) = declared.add(*step) {
+                return Err(error);
+            }
         }
         Ok(declared)
     }
 
-    fn add(&mut self, step: Step) -> Result<(), AllocError> {
+    fn add(&mut self, step: Step) -> Result<(), AllocError>
+        ensures reads { OnOk result (self.new.reads.items ≡ self.old.reads.items ++ option_to_list (option_map id_at (read_place step))) }
+        ensures writes { OnOk result (self.new.writes.items ≡ self.old.writes.items ++ option_to_list (option_map id_at (write_place step))) }
+    {
         if let Some(place) = step.read_place() {
             self.reads.push(id_at(place))?;
         }

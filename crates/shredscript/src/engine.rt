@@ -7,16 +7,18 @@ use crate::script::Script;
 use std::alloc::Global;
 use std::io;
 use std::io::{BufWriter, Read, Write};
+use std::thread::Threads;
 
 /// Reads a script, runs it and prints what it left to `out`, or why it is not run to `err`. Gives the exit status:
 /// 0 where all is well, 1 for a fault of the script, a failed read or a failed write to `out`, 2 for a refusal.
-pub fn run<R: Read, O: Write, E: Write>(
+pub fn run<T: Threads + Sync, R: Read, O: Write, E: Write>(
+    rt: &T,
     alloc: Global,
     reader: &mut R,
     out: &mut O,
     err: &mut E,
 ) -> u8 {
-    match run_script(alloc, reader, out) {
+    match run_script(rt, alloc, reader, out) {
         Ok(outcome) => outcome.status(),
         Err(error) => {
             let _ = tell(err, error);
@@ -25,7 +27,8 @@ pub fn run<R: Read, O: Write, E: Write>(
     }
 }
 
-fn run_script<R: Read, O: Write>(
+fn run_script<T: Threads + Sync, R: Read, O: Write>(
+    rt: &T,
     alloc: Global,
     reader: &mut R,
     out: &mut O,
@@ -35,7 +38,7 @@ fn run_script<R: Read, O: Write>(
     let Ok(mut out) = BufWriter::new(alloc, out) else {
         return Err(ScriptError::OutOfMemory);
     };
-    let ran = run_plan(alloc, script, &mut out);
+    let ran = run_plan(rt, alloc, script, &mut out);
     // What a failed write left in the buffer stays unwritten.
     let _ = out.into_parts();
     ran

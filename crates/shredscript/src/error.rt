@@ -1,4 +1,7 @@
 //! Why a script is not run to its outcome.
+ghost use Rattle.std.specs.Prelude.{◌≡◌};
+ghost use Rattle.shredscript.specs.declared.error.ScriptError.TheVariants.{OutOfMemory as NoMemory};
+
 use shred::OutOfMemory;
 use std::alloc::AllocError;
 use thiserror::Error;
@@ -48,12 +51,16 @@ pub(crate) enum ScriptError {
 }
 
 impl From<AllocError> for ScriptError {
+    ghost from_gives = { λ _ error. error ≡ NoMemory };
+
     fn from(_error: AllocError) -> ScriptError {
         ScriptError::OutOfMemory
     }
 }
 
 impl From<OutOfMemory> for ScriptError {
+    ghost from_gives = { λ _ error. error ≡ NoMemory };
+
     fn from(_error: OutOfMemory) -> ScriptError {
         ScriptError::OutOfMemory
     }

@@ -1,4 +1,7 @@
 //! What a run left, as standard output tells it.
+ghost use Rattle.std.specs.Prelude.{◌≡◌};
+ghost use Rattle.shredscript.specs.declared.outcome.Refusal.TheVariants.{Undeclared};
+
 use shred::{DataError, DispatchError, Fault};
 use std::io::Write;
 use std::{fmt, io};
@@ -21,6 +24,8 @@ pub(crate) enum Refusal {
 }
 
 impl From<DataError> for Refusal {
+    ghost from_gives = { λ _ refusal. refusal ≡ Undeclared };
+
     fn from(_error: DataError) -> Refusal {
         Refusal::Undeclared
     }

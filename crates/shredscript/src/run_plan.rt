@@ -9,9 +9,11 @@ use shred::{Stage, StagesBuilder, SystemId, World, new_dispatcher};
 use std::alloc::Global;
 use std::io;
 use std::io::Write;
+use std::thread::Threads;
 
 /// Runs the systems over the resources, and prints what they left.
-pub(crate) fn run_plan<W: Write>(
+pub(crate) fn run_plan<T: Threads + Sync, W: Write>(
+    rt: &T,
     alloc: Global,
     script: Script<'_>,
     out: &mut W,
@@ -19,7 +21,7 @@ pub(crate) fn run_plan<W: Write>(
     let Script { resources, systems } = script;
     let mut world = world_of(alloc, &resources)?;
     let mut dispatcher = new_dispatcher(stages_of(alloc, systems)?);
-    let outcome = Outcome::of(dispatcher.dispatch_seq(&mut world));
+    let outcome = Outcome::of(dispatcher.dispatch_par(rt, &mut world));
     match write_report(out, &resources, &world, outcome) {
         Ok(()) => Ok(outcome),
         Err(_) => Err(ScriptError::OutputFailed),

@@ -1,6 +1,7 @@
 //! The steps of a system: what they declare, how they are written and what they compute.
-ghost use Rattle.std.specs.Prelude.{SomeIff, FitsSigned};
+ghost use Rattle.std.specs.Prelude.{◌≡◌, SomeIff, FitsSigned};
 ghost use Rattle.std.specs.Int.{w64};
+ghost use Rattle.shredscript.specs.Declares.{read_place, write_place};
 ghost use Rattle.shredscript.specs.Operation.{value_of};
 
 use crate::error::LineFault;
@@ -87,7 +88,9 @@ impl Step {
     }
 
     /// The resource that the step declares to read.
-    pub(crate) fn read_place(self) -> Option<usize> {
+    pub(crate) fn read_place(self) -> Option<usize>
+        ensures { result ≡ read_place self }
+    {
         match self {
             Step::Read(place)
             | Step::Change {
@@ -99,7 +102,9 @@ impl Step {
     }
 
     /// The resource that the step declares to write.
-    pub(crate) fn write_place(self) -> Option<usize> {
+    pub(crate) fn write_place(self) -> Option<usize>
+        ensures { result ≡ write_place self }
+    {
         match self {
             Step::Write(place) | Step::Change { target: place, .. } => Some(place),
             _ => None,

@@ -1,5 +1,17 @@
 //! A script's systems, as they are dispatched.
+ghost use Rattle.std.specs.Prelude.{◌≡◌, false, true, Ok, Some, IfOk, IsSome};
+ghost use Rattle.std.specs.List.{All};
+ghost use Rattle.std.specs.Option.{ok_or};
+ghost use Rattle.shred.specs.declared.system.Fault.TheVariants.{Refused};
+ghost use Rattle.shred_world.specs.declared.id.ResourceId.{ResourceId};
+ghost use Rattle.shred_world.specs.Slots.{with_at};
+ghost use Rattle.shred_world.specs.Views.{is_out, may_write};
+ghost use Rattle.shredscript.specs.declared.outcome.Refusal.TheVariants.{Undeclared};
+ghost use Rattle.shredscript.specs.Change.{changed, operand_number};
+ghost use Rattle.shredscript.specs.Declares.{MayWrite, read_ids, write_ids};
 ghost use Rattle.shredscript.specs.Frame.{ChangesWritten};
+ghost use Rattle.shredscript.specs.Place.{id_at, number_at, shown};
+ghost use Rattle.shredscript.specs.Steps.{change_outcome, change_left, step_outcome, step_left, steps_outcome, steps_left};
 
 use crate::declared::Declared;
 use crate::outcome::Refusal;
@@ -15,11 +27,16 @@ pub(crate) struct ScriptSystem {
     declared: Declared,
     time: RunningTime,
     steps: Vec<Step>,
+    ghost reads_of_steps: { declared.reads.items ≡ read_ids steps.items },
+    ghost writes_of_steps: { declared.writes.items ≡ write_ids steps.items },
 }
 
 impl ScriptSystem {
     /// The system that a line adds.
-    pub(crate) fn new(alloc: Global, line: SystemLine<'_>) -> Result<Self, AllocError> {
+    pub(crate) fn new(alloc: Global, line: SystemLine<'_>) -> Result<Self, AllocError>
+        ensures steps { IfOk result (λ system. system.steps.items ≡ line.entry.steps.items) }
+        ensures time { IfOk result (λ system. system.time ≡ line.entry.time) }
+    {
         let SystemLine { time, steps, .. } = line;
         let declared = Declared::of_steps(alloc, steps.as_slice())?;
         Ok(ScriptSystem {
@@ -41,11 +58,12 @@ impl System<Value> for ScriptSystem {
 
     ghost time = { λ system. system.time };
 
-    ghost step = { λ _ _ _ _ _. Unit {0} };
+    // A run keeps the system, and ends and leaves what its steps make of what it sees.
+    ghost step = { λ before seen outcome after left. (after ≡ before) × (outcome ≡ steps_outcome before.steps.items seen) × (left ≡ steps_left before.steps.items seen) };
 
-    ghost sets_up = { λ _ _ _ _ _. Unit {0} };
+    ghost sets_up = { λ before seen outcome after left. (after ≡ before) × (outcome ≡ Ok tt) × (left ≡ seen) };
 
-    ghost disposes = { λ _ _ _ _. Unit {0} };
+    ghost disposes = { λ _ seen outcome left. (outcome ≡ Ok tt) × (left ≡ seen) };
 
     fn run(&mut self, view: &mut View<Value>) -> Result<(), Fault<Refusal>> {
         run_steps(self.steps.as_slice(), view)
@@ -69,17 +87,27 @@ impl System<Value> for ScriptSystem {
 }
 
 fn run_steps(steps: &[Step], view: &mut View<Value>) -> Result<(), Fault<Refusal>>
-    ensures { ChangesWritten view.old view.new }
+    requires writes { All (MayWrite view.old) steps.now }
+    requires nothing_out { (id : ResourceId) → is_out view.old id ≡ false }
+    ensures outcome { result ≡ steps_outcome steps.now (shown view.old) }
+    ensures left { shown view.new ≡ steps_left steps.now (shown view.old) }
+    ensures changes { ChangesWritten view.old view.new }
 {
     for step in steps {
-        run_step(*step, view)?;
+        if let Err(fault) = run_step(*step, view) {
+            return Err(fault);
+        }
     }
     Ok(())
 }
 
 /// Runs one step. The steps of a system name declared resources alone.
 fn run_step(step: Step, view: &mut View<Value>) -> Result<(), Fault<Refusal>>
-    ensures { ChangesWritten view.old view.new }
+    requires writes { MayWrite view.old step }
+    requires nothing_out { (id : ResourceId) → is_out view.old id ≡ false }
+    ensures outcome { result ≡ step_outcome step (shown view.old) }
+    ensures left { shown view.new ≡ step_left step (shown view.old) }
+    ensures changes { ChangesWritten view.old view.new }
 {
     match step {
         Step::Read(_) | Step::Write(_) => Ok(()),
@@ -98,43 +126,77 @@ fn change(
     operation: Operation,
     operand: Operand,
 ) -> Result<(), Fault<Refusal>>
-    ensures { ChangesWritten view.old view.new }
+    requires writes { may_write view.old (id_at target) ≡ true }
+    requires nothing_out { (id : ResourceId) → is_out view.old id ≡ false }
+    ensures outcome { result ≡ change_outcome (changed (shown view.old) target operation operand) }
+    ensures left { shown view.new ≡ change_left (shown view.old) target (changed (shown view.old) target operation operand) }
+    ensures changes { ChangesWritten view.old view.new }
 {
-    let value = changed(view, target, operation, operand)?;
-    write(view, target, value)
+    match changed(view, target, operation, operand) {
+        Ok(number) => {
+            write(view, target, number);
+            Ok(())
+        }
+        Err(fault) => Err(fault),
+    }
 }
 
-/// The value that a change gives its target.
+/// The number that a change gives its target.
 fn changed(
     view: &View<Value>,
     target: usize,
     operation: Operation,
     operand: Operand,
-) -> Result<i64, Fault<Refusal>> {
-    let operand = match operand {
-        Operand::Number(number) => number,
-        Operand::Resource(source) => read(view, source)?,
+) -> Result<i64, Fault<Refusal>>
+    requires nothing_out { (id : ResourceId) → is_out view.now id ≡ false }
+    ensures { result ≡ changed (shown view.now) target operation operand }
+{
+    let operand = match operand_number(view, operand) {
+        Ok(number) => number,
+        Err(fault) => return Err(fault),
     };
-    let value = read(view, target)?;
+    let value = match read(view, target) {
+        Ok(number) => number,
+        Err(fault) => return Err(fault),
+    };
     match operation.apply(value, operand) {
         Some(next) => Ok(next),
         None => Err(Fault::Refused(Refusal::Overflow)),
     }
 }
 
-fn read(view: &View<Value>, place: usize) -> Result<i64, Fault<Refusal>> {
-    let number = view.read::<i64>(id_at(place))?;
-    Ok(*number)
+/// The number that an operand stands for.
+fn operand_number(view: &View<Value>, operand: Operand) -> Result<i64, Fault<Refusal>>
+    requires nothing_out { (id : ResourceId) → is_out view.now id ≡ false }
+    ensures { result ≡ ok_or (operand_number (shown view.now) operand) (Refused Undeclared) }
+{
+    match operand {
+        Operand::Number(number) => Ok(number),
+        Operand::Resource(source) => read(view, source),
+    }
 }
 
-fn write(view: &mut View<Value>, place: usize, value: i64) -> Result<(), Fault<Refusal>>
-    ensures { ChangesWritten view.old view.new }
+/// The number that is held at a place.
+fn read(view: &View<Value>, place: usize) -> Result<i64, Fault<Refusal>>
+    requires nothing_out { (id : ResourceId) → is_out view.now id ≡ false }
+    ensures { result ≡ ok_or (number_at (shown view.now) place) (Refused Undeclared) }
 {
-    match view.write::<i64>(id_at(place)) {
-        Ok(number) => {
-            *number = value;
-            Ok(())
-        }
+    match view.read::<i64>(id_at(place)) {
+        Ok(number) => Ok(*number),
         Err(error) => Err(Fault::from(error)),
     }
+}
+
+/// Puts a number in the place of the one that is held.
+fn write(view: &mut View<Value>, place: usize, number: i64)
+    requires writes { may_write view.old (id_at place) ≡ true }
+    requires nothing_out { (id : ResourceId) → is_out view.old id ≡ false }
+    requires held { IsSome (number_at (shown view.old) place) }
+    ensures left { shown view.new ≡ with_at (shown view.old) (id_at place) (Some (record { 0 = number })) }
+    ensures changes { ChangesWritten view.old view.new }
+{
+    let Ok(held) = view.write::<i64>(id_at(place)) else {
+        unreachable!()
+    };
+    *held = number;
 }

@@ -1,5 +1,7 @@
 //! The one kind of value that a script's world holds.
+ghost use Rattle.std.specs.Prelude.{◌≡◌};
 ghost use Rattle.std.proofs.Common.{refl, rules};
+ghost use Rattle.shredscript.specs.Place.{id_at};
 
 use shred::{Kind, Resource, ResourceId, ResourceValue};
 
@@ -10,7 +12,9 @@ const NUMBER: Kind = Kind(0);
 pub(crate) struct Value(i64);
 
 /// The id of the resource at this place among the declared ones.
-pub(crate) fn id_at(place: usize) -> ResourceId {
+pub(crate) fn id_at(place: usize) -> ResourceId
+    ensures { result ≡ id_at place }
+{
     ResourceId::from_type_id_and_dynamic_id(NUMBER, place as u64)
 }
 

@@ -1,6 +1,8 @@
 //! The words of a line, and the forms that a word may have.
-ghost use Rattle.std.specs.Prelude.{length};
+ghost use Rattle.std.specs.Prelude.{◌≡◌, length, IsSome, MatchResult};
 ghost use Rattle.std.specs.Iterator.{at_most};
+ghost use Rattle.std.specs.Option.{option_copied};
+ghost use Rattle.shredscript.specs.Words.{next_word, after_word};
 
 use crate::error::LineFault;
 use shred::RunningTime;
@@ -27,12 +29,17 @@ impl<'text> Words<'text> {
     }
 
     /// The next word, which is not to be missing.
-    pub(crate) fn required(&mut self) -> Result<&'text str, LineFault> {
+    pub(crate) fn required(&mut self) -> Result<&'text str, LineFault>
+        ensures word { MatchResult result (λ word. next_word self.old.rest.now ≡ Some word.now) (λ _. next_word self.old.rest.now ≡ None) }
+        ensures rest { self.new.rest.now ≡ after_word self.old.rest.now }
+    {
         self.next().ok_or(LineFault::BadWord)
     }
 
     /// No word is to be left.
-    pub(crate) fn end(&mut self) -> Result<(), LineFault> {
+    pub(crate) fn end(&mut self) -> Result<(), LineFault>
+        ensures { MatchResult result (λ _. next_word self.old.rest.now ≡ None) (λ _. IsSome (next_word self.old.rest.now)) }
+    {
         match self.next() {
             None => Ok(()),
             Some(_) => Err(LineFault::BadWord),
@@ -45,15 +52,25 @@ impl<'text> Iterator for Words<'text> {
 
     ghost remaining = { λ words. at_most (length words.rest.now) };
 
+    // The next word of the text, and what is left of the text after it.
+    ghost next_gives = { λ before word after. (option_copied word ≡ next_word before.rest.now) × (after.rest.now ≡ after_word before.rest.now) };
+
     fn next(&mut self) -> Option<&'text str> {
         let rest = self.rest.trim_start_matches(' ');
         if rest.is_empty() {
             self.rest = rest;
             return None;
         }
-        let (word, rest) = rest.split_once(' ').unwrap_or((rest, ""));
-        self.rest = rest;
-        Some(word)
+        match rest.split_once(' ') {
+            Some((word, rest)) => {
+                self.rest = rest;
+                Some(word)
+            }
+            None => {
+                self.rest = "";
+                Some(rest)
+            }
+        }
     }
 }
 

@@ -1,3 +1,4 @@
 pub mod Values
 pub mod Plain
 pub mod Slow
+pub mod Parted

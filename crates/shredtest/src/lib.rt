@@ -1,6 +1,9 @@
 //! Tests of the public calls, across the crates.
 #![tactic(auto)]
 
+#[cfg(test)]
+mod gate;
+pub mod parted;
 pub mod plain_plan;
 #[cfg(test)]
 mod planner_tests;
@@ -10,3 +13,4 @@ pub mod slow_placement;
 pub mod values;
 #[cfg(test)]
 mod world;
+pub mod world_calls;

@@ -4,6 +4,7 @@ use shredscript::run;
 use std::alloc::Global;
 use std::io::Read;
 use std::process::Abort;
+use std::thread::Threads;
 
 mod cases;
 mod fakes;
@@ -16,25 +17,35 @@ struct Printed {
     status: u8,
 }
 
-fn run_on<R: Read>(alloc: Global, reader: &mut R) -> Printed {
+fn run_on<T: Threads + Sync, R: Read>(rt: &T, alloc: Global, reader: &mut R) -> Printed {
     let mut out = Vec::new(alloc);
     let mut err = Vec::new(alloc);
-    let status = run(alloc, reader, &mut out, &mut err);
+    let status = run(rt, alloc, reader, &mut out, &mut err);
     Printed { out, err, status }
 }
 
 /// The script is read whole, and prints this.
-fn assert_prints(rt: &(impl Abort + AllocGlobal), script: &str, out: &str, err: &str, status: u8) {
+fn assert_prints(
+    rt: &(impl Abort + AllocGlobal + Threads + Sync),
+    script: &str,
+    out: &str,
+    err: &str,
+    status: u8,
+) {
     let mut reader = script.as_bytes();
-    let printed = run_on(rt.alloc(), &mut reader);
+    let printed = run_on(rt, rt.alloc(), &mut reader);
     assert_eq!(rt; printed.out.as_slice(), out.as_bytes(), "out of {script:?}");
     assert_eq!(rt; printed.err.as_slice(), err.as_bytes(), "err of {script:?}");
     assert_eq!(rt; printed.status, status, "status of {script:?}");
 }
 
 /// Nothing is run, and this is told.
-fn assert_tells<R: Read>(rt: &(impl Abort + AllocGlobal), reader: &mut R, err: &str) {
-    let printed = run_on(rt.alloc(), reader);
+fn assert_tells<R: Read>(
+    rt: &(impl Abort + AllocGlobal + Threads + Sync),
+    reader: &mut R,
+    err: &str,
+) {
+    let printed = run_on(rt, rt.alloc(), reader);
     assert_eq!(rt; printed.out.len(), 0);
     assert_eq!(rt; printed.err.as_slice(), err.as_bytes());
     assert_eq!(rt; printed.status, 1);
@@ -84,7 +95,7 @@ const PRINTED: &str = "X=11\nY=20\nsystem 0 refused 7\n";
 fn reads_in_pieces_of_any_length(rt: HostRuntime) {
     for most in 1..SCRIPT.len() {
         let mut reader = FailingReader::never(SCRIPT.as_bytes(), most);
-        let printed = run_on(rt.alloc(), &mut reader);
+        let printed = run_on(&rt, rt.alloc(), &mut reader);
         assert_eq!(rt;
             printed.out.as_slice(),
             PRINTED.as_bytes(),
@@ -97,7 +108,7 @@ fn reads_in_pieces_of_any_length(rt: HostRuntime) {
 #[test]
 fn reads_on_after_an_interruption(rt: HostRuntime) {
     let mut reader = InterruptedReader::new(SCRIPT.as_bytes());
-    let printed = run_on(rt.alloc(), &mut reader);
+    let printed = run_on(&rt, rt.alloc(), &mut reader);
     assert_eq!(rt; printed.out.as_slice(), PRINTED.as_bytes());
     assert_eq!(rt; printed.status, 2);
 }
@@ -123,7 +134,7 @@ fn tells_a_failed_write_wherever_it_comes(rt: HostRuntime) {
         let mut reader = SCRIPT.as_bytes();
         let mut out = FailingWriter::after(rt.alloc(), after);
         let mut err = Vec::new(rt.alloc());
-        let status = run(rt.alloc(), &mut reader, &mut out, &mut err);
+        let status = run(&rt, rt.alloc(), &mut reader, &mut out, &mut err);
         assert_eq!(rt;
             out.written(),
             &PRINTED.as_bytes()[..after],
@@ -143,7 +154,7 @@ fn tells_a_failed_flush(rt: HostRuntime) {
     let mut reader = SCRIPT.as_bytes();
     let mut out = FailingWriter::at_flush(rt.alloc());
     let mut err = Vec::new(rt.alloc());
-    assert_eq!(rt; run(rt.alloc(), &mut reader, &mut out, &mut err), 1);
+    assert_eq!(rt; run(&rt, rt.alloc(), &mut reader, &mut out, &mut err), 1);
     assert_eq!(rt; out.written(), PRINTED.as_bytes());
     assert_eq!(rt; err.as_slice(), "output failed\n".as_bytes());
 }
@@ -154,14 +165,17 @@ fn a_failed_write_of_a_fault_changes_no_status(rt: HostRuntime) {
         let mut reader = script.as_bytes();
         let mut out = Vec::new(rt.alloc());
         let mut err = FailingWriter::after(rt.alloc(), 0);
-        assert_eq!(rt; run(rt.alloc(), &mut reader, &mut out, &mut err), status);
+        assert_eq!(rt;
+            run(&rt, rt.alloc(), &mut reader, &mut out, &mut err),
+            status
+        );
     }
 }
 
 #[test]
 fn bounds_the_length_of_a_script(rt: HostRuntime) {
     let mut longest = RepeatingReader::of_spaces(1_048_576);
-    let printed = run_on(rt.alloc(), &mut longest);
+    let printed = run_on(&rt, rt.alloc(), &mut longest);
     assert_eq!(rt; printed.out.as_slice(), "ok\n".as_bytes());
     assert_eq!(rt; printed.status, 0);
     let mut too_long = RepeatingReader::of_spaces(1_048_577);

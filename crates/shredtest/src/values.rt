@@ -15,7 +15,7 @@ pub enum Value {
 }
 
 /// A resource of kind 0.
-#[derive(Clone, Copy, Debug, PartialEq)]
+#[derive(Clone, Copy, Debug, Default, PartialEq)]
 pub struct Count(pub i64);
 
 /// A resource of kind 1.

@@ -16,6 +16,7 @@ use crate::dispatch::run::StageFault;
 use crate::dispatch::stage::Stage;
 use crate::system::{Fault, System};
 use shred_world::{ResourceValue, World};
+use std::thread::Threads;
 
 /// Why a dispatch did not end as Done.
 #[derive(Debug, Drop)]
@@ -72,7 +73,7 @@ fn at_stage<E>(stage: usize, fault: StageFault<E>) -> DispatchError<E>
     }
 }
 
-// The stages' runs, in order, up to the first that is not Done.
+// The stages' runs, in order, up to the first that is not Done, on the caller's thread.
 fn run_stages<V: ResourceValue + Drop, S: System<V, Error = E>, E: Drop>(
     stages: &mut [Stage<V, S>],
     world: &mut World<V>,
@@ -101,6 +102,43 @@ fn run_plan<V: ResourceValue + Drop, S: System<V, Error = E>, E: Drop>(
     run_stages(stages.as_mut_slice(), world)
 }
 
+// The stages' runs, in order, up to the first that is not Done, on threads.
+fn fork_stages<
+    R: Threads + Sync,
+    V: ResourceValue + Drop + Send + Sync,
+    S: System<V, Error = E> + Send,
+    E: Drop + Send,
+>(rt: &R, stages: &mut [Stage<V, S>], world: &mut World<V>) -> Result<(), DispatchError<E>>
+where
+    S::Accessor: Send,
+    ensures ran { Ran (PlanRun V.kind_of S.step (plan_of stages.old)) (setting_of (plan_states stages.old) (world_held V.kind_of world.old)) result (setting_of (plan_states stages.new) (world_held V.kind_of world.new)) }
+    ensures plan { plan_of stages.new ≡ plan_of stages.old }
+    ensures kinds { (id : ResourceId) → option_map V.kind_of (world_held V.kind_of world.new id) ≡ option_map V.kind_of (world_held V.kind_of world.old id) }
+{
+    for (place, stage) in stages.iter_mut().enumerate() {
+        if let Err(fault) = stage.execute(rt, world) {
+            return Err(at_stage(place, fault));
+        }
+    }
+    Ok(())
+}
+
+// The same, of a vector of stages.
+fn fork_plan<
+    R: Threads + Sync,
+    V: ResourceValue + Drop + Send + Sync,
+    S: System<V, Error = E> + Send,
+    E: Drop + Send,
+>(rt: &R, stages: &mut Vec<Stage<V, S>>, world: &mut World<V>) -> Result<(), DispatchError<E>>
+where
+    S::Accessor: Send,
+    ensures ran { Ran (PlanRun V.kind_of S.step (plan_of stages.old.items)) (setting_of (plan_states stages.old.items) (world_held V.kind_of world.old)) result (setting_of (plan_states stages.new.items) (world_held V.kind_of world.new)) }
+    ensures plan { plan_of stages.new.items ≡ plan_of stages.old.items }
+    ensures kinds { (id : ResourceId) → option_map V.kind_of (world_held V.kind_of world.new id) ≡ option_map V.kind_of (world_held V.kind_of world.old id) }
+{
+    fork_stages(rt, stages.as_mut_slice(), world)
+}
+
 impl<V: ResourceValue + Drop, S: System<V, Error = E>, E: Drop> Dispatcher<V, S> {
     /// Runs the stages, one after the other, up to the first that is not Done, on the caller's thread.
     pub fn dispatch_seq(&mut self, world: &mut World<V>) -> Result<(), DispatchError<E>>
@@ -109,5 +147,28 @@ impl<V: ResourceValue + Drop, S: System<V, Error = E>, E: Drop> Dispatcher<V, S>
         ensures kinds { (id : ResourceId) → option_map V.kind_of (world_held V.kind_of world.new id) ≡ option_map V.kind_of (world_held V.kind_of world.old id) }
     {
         run_plan(&mut self.stages, world)
+    }
+}
+
+impl<
+    V: ResourceValue + Drop + Send + Sync,
+    S: System<V, Error = E> + Send,
+    E: Drop + Send,
+> Dispatcher<V, S>
+where
+    S::Accessor: Send,
+{
+    /// Runs the stages, one after the other, up to the first that is not Done, the groups of each beside each other on
+    /// threads. A stage whose memory is refused is told as `StageMemory`; it has not begun, and those before it are done.
+    pub fn dispatch_par<R: Threads + Sync>(
+        &mut self,
+        rt: &R,
+        world: &mut World<V>,
+    ) -> Result<(), DispatchError<E>>
+        ensures ran { LeavesAsOneThread (λ list. PlanRun V.kind_of S.step (dispatcher_plan self.old) list result) (setting_of (dispatcher_states self.old) (world_held V.kind_of world.old)) (setting_of (dispatcher_states self.new) (world_held V.kind_of world.new)) }
+        ensures plan { dispatcher_plan self.new ≡ dispatcher_plan self.old }
+        ensures kinds { (id : ResourceId) → option_map V.kind_of (world_held V.kind_of world.new id) ≡ option_map V.kind_of (world_held V.kind_of world.old id) }
+    {
+        fork_plan(rt, &mut self.stages, world)
     }
 }

@@ -2,13 +2,14 @@
 ghost use Rattle.std.specs.Prelude.{◌≡◌, ◌≤◌, ◌<◌, ℕ, List, [], ◌∷◌, ◌++◌, map, length, remove, IfOk, OnOk, OnErr, IfSome, IfNone};
 ghost use Rattle.shred_model.specs.Plan.{group_ids, group_time};
 ghost use Rattle.shred_world.specs.Id.{same_id};
+ghost use Rattle.shred.specs.Hands.{KeepsRoom};
 ghost use Rattle.shred.specs.PlanOf.{access_of, entry_plan, group_plan, numbers_of, KeepsIds};
 ghost use Rattle.shred.specs.Placement.{difference, without};
 ghost use Rattle.shred.specs.Search.{share_item, accesses_conflict, group_conflicts, holds_any, is_touched};
 
 use crate::system::{RunningTime, System};
 use arrayvec::ArrayVec;
-use shred_world::{OutOfMemory, ResourceId, check_intersection};
+use shred_world::{OutOfMemory, ResourceId, Table, check_intersection};
 use smallvec::SmallVec;
 use std::alloc::Global;
 use std::default::MadeWith;
@@ -33,11 +34,14 @@ pub(crate) struct Entry<S> {
     pub(crate) system: S,
 }
 
-/// Entries that run one after the other, with their ids beside them.
+/// Entries that run one after the other. Beside them stand their ids, the ids that they write, and the slots into which
+/// the written values are moved while the group runs beside others.
 #[derive(Drop)]
-pub(crate) struct Group<S> {
+pub(crate) struct Group<V, S> {
     pub(crate) ids: ArrayVec<SystemId, 4>,
     pub(crate) entries: Vec<Entry<S>>,
+    pub(crate) written: Vec<ResourceId>,
+    pub(crate) hand: Table<V>,
 }
 
 fn shares_resource(first: &Vec<ResourceId>, second: &Vec<ResourceId>) -> bool
@@ -57,7 +61,7 @@ impl<S> Entry<S> {
     }
 }
 
-impl<S> Group<S> {
+impl<V, S> Group<V, S> {
     /// Whether an entry of the group conflicts with this one.
     pub(crate) fn conflicts(&self, entry: &Entry<S>) -> bool
         ensures { result ≡ group_conflicts same_id (access_of entry.now) (group_plan self.now) }
@@ -106,12 +110,21 @@ impl<S> Group<S> {
         ensures plan { IfOk result (λ group. group_plan group ≡ entry_plan entry ∷ []) }
         ensures ids { IfOk result KeepsIds }
         ensures entries { IfOk result (λ group. group.entries.items ≡ entry ∷ []) }
+        ensures room { IfOk result KeepsRoom }
     {
         let mut ids: ArrayVec<SystemId, 4> = ArrayVec::new_in(());
         ids.push(entry.id);
+        let Ok(written) = Vec::from_slice(alloc, entry.writes.as_slice()) else {
+            return Err(OutOfMemory);
+        };
         let mut entries = Vec::new(alloc);
         match entries.push(entry) {
-            Ok(()) => Ok(Group { ids, entries }),
+            Ok(()) => Ok(Group {
+                ids,
+                entries,
+                written,
+                hand: Table::new(alloc),
+            }),
             Err(_) => Err(OutOfMemory),
         }
     }
@@ -120,21 +133,34 @@ impl<S> Group<S> {
     pub(crate) fn push(&mut self, entry: Entry<S>) -> Result<(), OutOfMemory>
     where
         S: Drop,
-        requires room { length self.old.entries.items < 4 }
+        requires few { length self.old.entries.items < 4 }
         requires ids { KeepsIds self.old }
+        requires room { KeepsRoom self.old }
         ensures ok { OnOk result (group_plan self.new ≡ group_plan self.old ++ entry_plan entry ∷ []) }
         ensures err { OnErr result (group_plan self.new ≡ group_plan self.old) }
         ensures ids { KeepsIds self.new }
         ensures added { OnOk result (self.new.entries.items ≡ self.old.entries.items ++ entry ∷ []) }
         ensures unchanged { OnErr result (self.new.entries.items ≡ self.old.entries.items) }
+        ensures room { KeepsRoom self.new }
     {
         let id = entry.id;
+        let written = self.written.len();
+        if self
+            .written
+            .extend_from_slice(entry.writes.as_slice())
+            .is_err()
+        {
+            return Err(OutOfMemory);
+        }
         match self.entries.push(entry) {
             Ok(()) => {
                 self.ids.push(id);
                 Ok(())
             }
-            Err(_) => Err(OutOfMemory),
+            Err(_) => {
+                self.written.truncate(written);
+                Err(OutOfMemory)
+            }
         }
     }
 

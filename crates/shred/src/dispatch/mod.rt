@@ -1,7 +1,10 @@
 //! Plans of systems, and their runs.
 
+pub mod beside;
 pub mod dispatcher;
 pub mod entry;
+pub mod fork;
+pub mod hands;
 pub mod run;
 pub mod sorted;
 pub mod spot;

@@ -1,20 +1,23 @@
-//! Runs on the caller's thread.
+//! Runs on the caller's thread, over a table and what is lent shared beside it.
 ghost use Rattle.std.specs.Prelude.{◌≡◌, false, map, All};
 ghost use Rattle.std.specs.Option.{option_map};
 ghost use Rattle.shred_model.specs.Runs.{Ran, first_fault};
 ghost use Rattle.shred_model.specs.States.{setting_of, listed_states};
-ghost use Rattle.shred_world.specs.Worlds.{world_held};
 ghost use Rattle.shred.specs.Entries.{EntryRun, GroupRun, StageRun, entry_states, group_states};
 ghost use Rattle.shred.specs.Kept.{AreOwnLists};
+ghost use Rattle.shred.specs.Hands.{KeepsRoom};
 ghost use Rattle.shred.specs.OwnLists.{IsOwnEntry, IsOwnGroup};
+ghost use Rattle.shred.specs.OwnSlots.{HasGroupSlots, HasStageSlots};
 ghost use Rattle.shred.specs.PlanOf.{access_of, entry_plan, group_plan, group_numbers, groups_plan};
 ghost use Rattle.shred.specs.Steps.{declared_of};
 ghost use Rattle.shred_world.specs.declared.id.ResourceId.{ResourceId};
-ghost use Rattle.shred_world.specs.Slots.{among, held};
+ghost use Rattle.shred_world.specs.Shown.{shown, HasOwnSlots, IsSameSlots};
+ghost use Rattle.shred_world.specs.Slots.{among};
+ghost use Rattle.shred_world.specs.Views.{lent_slot};
 
 use crate::dispatch::entry::{Entry, Group, SystemId};
 use crate::system::{Fault, System};
-use shred_world::{ResourceId, ResourceValue, Table, View, World};
+use shred_world::{ResourceId, ResourceValue, Shelf, Table, View};
 
 /// Why a stage did not end as Done.
 #[derive(Debug, Drop)]
@@ -25,39 +28,45 @@ pub enum StageFault<E> {
     Memory,
 }
 
-// One step of a system over the table of a world.
+// One step of a system.
 fn step_over<'s, V: ResourceValue, S: System<V>>(
     reads: &'s [ResourceId],
     writes: &'s [ResourceId],
+    shelf: &'s [Shelf<'s, V>],
     system: &mut S,
     own: &mut Table<V>,
 ) -> Result<(), Fault<S::Error>>
     requires own_lists { AreOwnLists (S.reads system.old) (S.writes system.old) reads.now writes.now }
-    ensures step { S.step system.old (declared_of (record { reads = reads.now; writes = writes.now }) (held V.kind_of own.old)) result system.new (declared_of (record { reads = reads.now; writes = writes.now }) (held V.kind_of own.new)) }
-    ensures kinds { (id : ResourceId) → option_map V.kind_of (held V.kind_of own.new id) ≡ option_map V.kind_of (held V.kind_of own.old id) }
-    ensures frame { (id : ResourceId) → among writes.now id ≡ false → held V.kind_of own.new id ≡ held V.kind_of own.old id }
+    requires own_slots { HasOwnSlots writes.now (lent_slot shelf.now) own.old }
+    ensures step { S.step system.old (declared_of (record { reads = reads.now; writes = writes.now }) (shown V.kind_of (lent_slot shelf.now) own.old)) result system.new (declared_of (record { reads = reads.now; writes = writes.now }) (shown V.kind_of (lent_slot shelf.now) own.new)) }
+    ensures kinds { (id : ResourceId) → option_map V.kind_of (shown V.kind_of (lent_slot shelf.now) own.new id) ≡ option_map V.kind_of (shown V.kind_of (lent_slot shelf.now) own.old id) }
+    ensures slots { IsSameSlots own.old own.new }
+    ensures frame { (id : ResourceId) → among writes.now id ≡ false → shown V.kind_of (lent_slot shelf.now) own.new id ≡ shown V.kind_of (lent_slot shelf.now) own.old id }
     ensures own_lists { AreOwnLists (S.reads system.new) (S.writes system.new) reads.now writes.now }
 {
-    let mut view = View::over(reads, writes, &[], own);
+    let mut view = View::over(reads, writes, shelf, own);
     system.run(&mut view)
 }
 
-// One step of the entry's system over the world.
+// One step of the entry's system.
 fn step<V: ResourceValue, S: System<V>>(
     entry: &mut Entry<S>,
-    world: &mut World<V>,
+    shelf: &[Shelf<V>],
+    own: &mut Table<V>,
 ) -> Result<(), Fault<S::Error>>
     requires own_lists { IsOwnEntry S.reads S.writes entry.old }
-    ensures step { S.step entry.old.system (declared_of (access_of entry.old) (world_held V.kind_of world.old)) result entry.new.system (declared_of (access_of entry.old) (world_held V.kind_of world.new)) }
-    ensures kinds { (id : ResourceId) → option_map V.kind_of (world_held V.kind_of world.new id) ≡ option_map V.kind_of (world_held V.kind_of world.old id) }
-    ensures frame { (id : ResourceId) → among entry.old.writes.items id ≡ false → world_held V.kind_of world.new id ≡ world_held V.kind_of world.old id }
+    requires own_slots { HasOwnSlots entry.old.writes.items (lent_slot shelf.now) own.old }
+    ensures step { S.step entry.old.system (declared_of (access_of entry.old) (shown V.kind_of (lent_slot shelf.now) own.old)) result entry.new.system (declared_of (access_of entry.old) (shown V.kind_of (lent_slot shelf.now) own.new)) }
+    ensures kinds { (id : ResourceId) → option_map V.kind_of (shown V.kind_of (lent_slot shelf.now) own.new id) ≡ option_map V.kind_of (shown V.kind_of (lent_slot shelf.now) own.old id) }
+    ensures slots { IsSameSlots own.old own.new }
+    ensures frame { (id : ResourceId) → among entry.old.writes.items id ≡ false → shown V.kind_of (lent_slot shelf.now) own.new id ≡ shown V.kind_of (lent_slot shelf.now) own.old id }
     ensures kept { entry_plan entry.new ≡ entry_plan entry.old }
     ensures own_lists { IsOwnEntry S.reads S.writes entry.new }
 {
-    let own = world.table_mut();
     step_over(
         entry.reads.as_slice(),
         entry.writes.as_slice(),
+        shelf,
         &mut entry.system,
         own,
     )
@@ -65,15 +74,18 @@ fn step<V: ResourceValue, S: System<V>>(
 
 pub(crate) fn run_entry<V: ResourceValue, S: System<V>>(
     entry: &mut Entry<S>,
-    world: &mut World<V>,
+    shelf: &[Shelf<V>],
+    own: &mut Table<V>,
 ) -> Result<(), StageFault<S::Error>>
     requires own_lists { IsOwnEntry S.reads S.writes entry.old }
-    ensures ran { Ran (EntryRun V.kind_of S.step 0 (entry_plan entry.old)) (setting_of (entry_states entry.old) (world_held V.kind_of world.old)) result (setting_of (entry_states entry.new) (world_held V.kind_of world.new)) }
+    requires own_slots { HasOwnSlots entry.old.writes.items (lent_slot shelf.now) own.old }
+    ensures ran { Ran (EntryRun V.kind_of S.step 0 (entry_plan entry.old)) (setting_of (entry_states entry.old) (shown V.kind_of (lent_slot shelf.now) own.old)) result (setting_of (entry_states entry.new) (shown V.kind_of (lent_slot shelf.now) own.new)) }
     ensures plan { entry_plan entry.new ≡ entry_plan entry.old }
     ensures own_lists { IsOwnEntry S.reads S.writes entry.new }
-    ensures kinds { (id : ResourceId) → option_map V.kind_of (world_held V.kind_of world.new id) ≡ option_map V.kind_of (world_held V.kind_of world.old id) }
+    ensures kinds { (id : ResourceId) → option_map V.kind_of (shown V.kind_of (lent_slot shelf.now) own.new id) ≡ option_map V.kind_of (shown V.kind_of (lent_slot shelf.now) own.old id) }
+    ensures slots { IsSameSlots own.old own.new }
 {
-    match step(entry, world) {
+    match step(entry, shelf, own) {
         Ok(()) => Ok(()),
         Err(fault) => Err(StageFault::System {
             id: entry.id,
@@ -85,16 +97,19 @@ pub(crate) fn run_entry<V: ResourceValue, S: System<V>>(
 // The entries' steps, in order, up to the first that is not Done.
 pub(crate) fn run_entries<V: ResourceValue, S: System<V>>(
     entries: &mut [Entry<S>],
-    world: &mut World<V>,
+    shelf: &[Shelf<V>],
+    own: &mut Table<V>,
 ) -> Result<(), StageFault<S::Error>>
     requires own_lists { All (IsOwnEntry S.reads S.writes) entries.old }
-    ensures ran { Ran (GroupRun V.kind_of S.step 0 (map entry_plan entries.old)) (setting_of (listed_states entry_states entries.old) (world_held V.kind_of world.old)) result (setting_of (listed_states entry_states entries.new) (world_held V.kind_of world.new)) }
+    requires own_slots { HasGroupSlots (lent_slot shelf.now) own.old (map entry_plan entries.old) }
+    ensures ran { Ran (GroupRun V.kind_of S.step 0 (map entry_plan entries.old)) (setting_of (listed_states entry_states entries.old) (shown V.kind_of (lent_slot shelf.now) own.old)) result (setting_of (listed_states entry_states entries.new) (shown V.kind_of (lent_slot shelf.now) own.new)) }
     ensures plan { map entry_plan entries.new ≡ map entry_plan entries.old }
     ensures own_lists { All (IsOwnEntry S.reads S.writes) entries.new }
-    ensures kinds { (id : ResourceId) → option_map V.kind_of (world_held V.kind_of world.new id) ≡ option_map V.kind_of (world_held V.kind_of world.old id) }
+    ensures kinds { (id : ResourceId) → option_map V.kind_of (shown V.kind_of (lent_slot shelf.now) own.new id) ≡ option_map V.kind_of (shown V.kind_of (lent_slot shelf.now) own.old id) }
+    ensures slots { IsSameSlots own.old own.new }
 {
     for entry in entries.iter_mut() {
-        if let Err(fault) = run_entry(entry, world) {
+        if let Err(fault) = run_entry(entry, shelf, own) {
             return Err(fault);
         }
     }
@@ -102,21 +117,26 @@ pub(crate) fn run_entries<V: ResourceValue, S: System<V>>(
 }
 
 pub(crate) fn run_group<V: ResourceValue, S: System<V>>(
-    group: &mut Group<S>,
-    world: &mut World<V>,
+    group: &mut Group<V, S>,
+    shelf: &[Shelf<V>],
+    own: &mut Table<V>,
 ) -> Result<(), StageFault<S::Error>>
     requires own_lists { IsOwnGroup S.reads S.writes group.old }
-    ensures ran { Ran (GroupRun V.kind_of S.step 0 (group_plan group.old)) (setting_of (group_states group.old) (world_held V.kind_of world.old)) result (setting_of (group_states group.new) (world_held V.kind_of world.new)) }
+    requires own_slots { HasGroupSlots (lent_slot shelf.now) own.old (group_plan group.old) }
+    ensures ran { Ran (GroupRun V.kind_of S.step 0 (group_plan group.old)) (setting_of (group_states group.old) (shown V.kind_of (lent_slot shelf.now) own.old)) result (setting_of (group_states group.new) (shown V.kind_of (lent_slot shelf.now) own.new)) }
     ensures plan { group_plan group.new ≡ group_plan group.old }
     ensures own_lists { IsOwnGroup S.reads S.writes group.new }
     ensures ids { group.new.ids ≡ group.old.ids }
-    ensures kinds { (id : ResourceId) → option_map V.kind_of (world_held V.kind_of world.new id) ≡ option_map V.kind_of (world_held V.kind_of world.old id) }
+    ensures written { group.new.written ≡ group.old.written }
+    ensures hand { group.new.hand ≡ group.old.hand }
+    ensures kinds { (id : ResourceId) → option_map V.kind_of (shown V.kind_of (lent_slot shelf.now) own.new id) ≡ option_map V.kind_of (shown V.kind_of (lent_slot shelf.now) own.old id) }
+    ensures slots { IsSameSlots own.old own.new }
 {
-    run_entries(group.entries.as_mut_slice(), world)
+    run_entries(group.entries.as_mut_slice(), shelf, own)
 }
 
 // The first answer that is not Done.
-fn first<E: Drop>(
+pub(crate) fn first<E: Drop>(
     a: Result<(), StageFault<E>>,
     b: Result<(), StageFault<E>>,
 ) -> Result<(), StageFault<E>>
@@ -130,19 +150,24 @@ fn first<E: Drop>(
 
 // The groups' runs, one after the other, every group's.
 pub(crate) fn run_groups<V: ResourceValue, S: System<V, Error = E>, E: Drop>(
-    groups: &mut [Group<S>],
-    world: &mut World<V>,
+    groups: &mut [Group<V, S>],
+    shelf: &[Shelf<V>],
+    own: &mut Table<V>,
 ) -> Result<(), StageFault<E>>
     requires own_lists { All (IsOwnGroup S.reads S.writes) groups.old }
-    ensures ran { Ran (StageRun V.kind_of S.step (groups_plan groups.old)) (setting_of (listed_states group_states groups.old) (world_held V.kind_of world.old)) result (setting_of (listed_states group_states groups.new) (world_held V.kind_of world.new)) }
+    requires own_slots { HasStageSlots (lent_slot shelf.now) own.old (groups_plan groups.old) }
+    requires room { All KeepsRoom groups.old }
+    ensures ran { Ran (StageRun V.kind_of S.step (groups_plan groups.old)) (setting_of (listed_states group_states groups.old) (shown V.kind_of (lent_slot shelf.now) own.old)) result (setting_of (listed_states group_states groups.new) (shown V.kind_of (lent_slot shelf.now) own.new)) }
     ensures plan { groups_plan groups.new ≡ groups_plan groups.old }
     ensures own_lists { All (IsOwnGroup S.reads S.writes) groups.new }
     ensures ids { map group_numbers groups.new ≡ map group_numbers groups.old }
-    ensures kinds { (id : ResourceId) → option_map V.kind_of (world_held V.kind_of world.new id) ≡ option_map V.kind_of (world_held V.kind_of world.old id) }
+    ensures room { All KeepsRoom groups.new }
+    ensures kinds { (id : ResourceId) → option_map V.kind_of (shown V.kind_of (lent_slot shelf.now) own.new id) ≡ option_map V.kind_of (shown V.kind_of (lent_slot shelf.now) own.old id) }
+    ensures slots { IsSameSlots own.old own.new }
 {
     let mut answer = Ok(());
     for group in groups.iter_mut() {
-        let ended = run_group(group, world);
+        let ended = run_group(group, shelf, own);
         answer = first(answer, ended);
     }
     answer
@@ -150,15 +175,20 @@ pub(crate) fn run_groups<V: ResourceValue, S: System<V, Error = E>, E: Drop>(
 
 // The same, of the groups of a stage.
 pub(crate) fn run_stage<V: ResourceValue, S: System<V, Error = E>, E: Drop>(
-    groups: &mut Vec<Group<S>>,
-    world: &mut World<V>,
+    groups: &mut Vec<Group<V, S>>,
+    shelf: &[Shelf<V>],
+    own: &mut Table<V>,
 ) -> Result<(), StageFault<E>>
     requires own_lists { All (IsOwnGroup S.reads S.writes) groups.old.items }
-    ensures ran { Ran (StageRun V.kind_of S.step (groups_plan groups.old.items)) (setting_of (listed_states group_states groups.old.items) (world_held V.kind_of world.old)) result (setting_of (listed_states group_states groups.new.items) (world_held V.kind_of world.new)) }
+    requires own_slots { HasStageSlots (lent_slot shelf.now) own.old (groups_plan groups.old.items) }
+    requires room { All KeepsRoom groups.old.items }
+    ensures ran { Ran (StageRun V.kind_of S.step (groups_plan groups.old.items)) (setting_of (listed_states group_states groups.old.items) (shown V.kind_of (lent_slot shelf.now) own.old)) result (setting_of (listed_states group_states groups.new.items) (shown V.kind_of (lent_slot shelf.now) own.new)) }
     ensures plan { groups_plan groups.new.items ≡ groups_plan groups.old.items }
     ensures own_lists { All (IsOwnGroup S.reads S.writes) groups.new.items }
     ensures ids { map group_numbers groups.new.items ≡ map group_numbers groups.old.items }
-    ensures kinds { (id : ResourceId) → option_map V.kind_of (world_held V.kind_of world.new id) ≡ option_map V.kind_of (world_held V.kind_of world.old id) }
+    ensures room { All KeepsRoom groups.new.items }
+    ensures kinds { (id : ResourceId) → option_map V.kind_of (shown V.kind_of (lent_slot shelf.now) own.new id) ≡ option_map V.kind_of (shown V.kind_of (lent_slot shelf.now) own.old id) }
+    ensures slots { IsSameSlots own.old own.new }
 {
-    run_groups(groups.as_mut_slice(), world)
+    run_groups(groups.as_mut_slice(), shelf, own)
 }

@@ -5,11 +5,13 @@ ghost use Rattle.shred_model.specs.Access.{Conflicts};
 ghost use Rattle.shred_model.specs.Beside.{AreApart};
 ghost use Rattle.shred_world.specs.Id.{same_id};
 ghost use Rattle.shred.specs.Placement.{difference, greatest_time};
+ghost use Rattle.shred.specs.Hands.{KeepsRoom};
 ghost use Rattle.shred.specs.OwnLists.{IsOwnEntry, IsOwnGroup};
 ghost use Rattle.shred.specs.PlanOf.{access_of, entry_plan, group_plan, groups_plan, numbers_of, KeepsIds};
 ghost use Rattle.shred.specs.Search.{is_touched, may_end, OthersDoNotConflict, SpotIs, TouchedIs};
 ghost use Rattle.shred.specs.Soundness.{IsSmallGroup};
 
+use crate::dispatch::beside::fork_stage;
 use crate::dispatch::entry::{Entry, Group, SystemId};
 use crate::dispatch::run::{StageFault, run_stage};
 use crate::dispatch::spot::{Spot, Touched};
@@ -17,17 +19,17 @@ use crate::system::System;
 use shred_world::{OutOfMemory, ResourceValue, World};
 use smallvec::SmallVec;
 use std::alloc::Global;
-use std::marker::PhantomData;
+use std::thread::Threads;
 
 /// Groups that do not conflict, of one to four entries each.
 #[derive(Drop)]
 pub struct Stage<V: ResourceValue, S: System<V>> {
-    groups: Vec<Group<S>>,
-    value: PhantomData<V>,
+    groups: Vec<Group<V, S>>,
     ghost some_group: { 0 < length groups.items },
     ghost small_groups: { All IsSmallGroup (groups_plan groups.items) },
     ghost apart: { AreApart group_access (groups_plan groups.items) },
     ghost keep_ids: { All KeepsIds groups.items },
+    ghost keep_room: { All KeepsRoom groups.items },
     ghost own_lists: { All (IsOwnGroup S.reads S.writes) groups.items },
 }
 
@@ -39,6 +41,7 @@ impl<V: ResourceValue, S: System<V>> Stage<V, S> {
     /// A stage with this entry alone.
     pub(crate) fn new(alloc: Global, entry: Entry<S>) -> Result<Self, OutOfMemory>
     where
+        V: Drop,
         S: Drop,
         requires own_lists { IsOwnEntry S.reads S.writes entry }
         ensures plan { IfOk result (λ stage. stage_plan stage ≡ (entry_plan entry ∷ []) ∷ []) }
@@ -47,10 +50,7 @@ impl<V: ResourceValue, S: System<V>> Stage<V, S> {
         let mut groups = Vec::new(alloc);
         match Group::new(alloc, entry) {
             Ok(group) => match groups.push(group) {
-                Ok(()) => Ok(Stage {
-                    groups,
-                    value: PhantomData,
-                }),
+                Ok(()) => Ok(Stage { groups }),
                 Err(_) => Err(OutOfMemory),
             },
             Err(e) => Err(e),
@@ -143,6 +143,7 @@ impl<V: ResourceValue, S: System<V>> Stage<V, S> {
     /// Gives the entry a new last group.
     pub(crate) fn push_group(&mut self, entry: Entry<S>) -> Result<(), OutOfMemory>
     where
+        V: Drop,
         S: Drop,
         requires free { All (λ group. Conflicts (group_access group) (access_of entry) → ⊥) (stage_plan self.old) }
         requires own_lists { IsOwnEntry S.reads S.writes entry }
@@ -193,6 +194,43 @@ impl<V: ResourceValue + Drop, S: System<V, Error = E>, E: Drop> Stage<V, S> {
         ensures plan { stage_plan self.new ≡ stage_plan self.old }
         ensures kinds { (id : ResourceId) → option_map V.kind_of (world_held V.kind_of world.new id) ≡ option_map V.kind_of (world_held V.kind_of world.old id) }
     {
-        run_stage(&mut self.groups, world)
+        run_stage(&mut self.groups, &[], world.table_mut())
+    }
+}
+
+// On how many threads a stage is run, the caller's among them.
+const WORKERS: usize = 2;
+
+impl<V: ResourceValue + Drop + Send + Sync, S: System<V, Error = E> + Send, E: Drop + Send> Stage<
+    V,
+    S,
+>
+where
+    S::Accessor: Send,
+{
+    ghost use Rattle.std.specs.Option.{option_map};
+    ghost use Rattle.shred_model.specs.OneThread.{LeavesAsOneThread};
+    ghost use Rattle.shred_model.specs.States.{setting_of};
+    ghost use Rattle.shred_world.specs.declared.id.ResourceId.{ResourceId};
+    ghost use Rattle.shred_world.specs.Worlds.{world_held};
+    ghost use Rattle.shred.specs.Plans.{StageTurn, stage_states};
+    ghost use Rattle.shred.specs.StagePlan.{stage_plan};
+
+    /// Runs every group, each up to its first system that is not Done, beside each other in two halves on two threads. A
+    /// half whose thread cannot be started runs on the caller's thread. The memory that the stage needs is taken before
+    /// any group begins; where it is refused, the answer is `Memory`, and nothing has run.
+    pub fn execute<R: Threads + Sync>(
+        &mut self,
+        rt: &R,
+        world: &mut World<V>,
+    ) -> Result<(), StageFault<E>>
+        ensures ran { LeavesAsOneThread (λ list. StageTurn V.kind_of S.step (stage_plan self.old) list result) (setting_of (stage_states self.old) (world_held V.kind_of world.old)) (setting_of (stage_states self.new) (world_held V.kind_of world.new)) }
+        ensures plan { stage_plan self.new ≡ stage_plan self.old }
+        ensures kinds { (id : ResourceId) → option_map V.kind_of (world_held V.kind_of world.new id) ≡ option_map V.kind_of (world_held V.kind_of world.old id) }
+    {
+        if self.groups.len() < 2 {
+            return self.execute_seq(world);
+        }
+        fork_stage(rt, &mut self.groups, world.table_mut(), WORKERS)
     }
 }

@@ -76,6 +76,7 @@ impl<V: ResourceValue, S: System<V>> StagesBuilder<V, S> {
         system: S,
     ) -> Result<(), OutOfMemory>
     where
+        V: Drop,
         S: Drop,
         requires no_dependencies { dependencies.now ≡ [] }
         ensures placed { OnOk result ((entry : model.Entry ResourceId) × IsKept id.0 (S.reads system) (S.writes system) (S.time system) entry
@@ -100,6 +101,7 @@ impl<V: ResourceValue, S: System<V>> StagesBuilder<V, S> {
         entry: Entry<S>,
     ) -> Result<(), OutOfMemory>
     where
+        V: Drop,
         S: Drop,
         requires start { barrier_of self.old ≤ start }
         requires own_lists { IsOwnEntry S.reads S.writes entry }
@@ -124,6 +126,7 @@ impl<V: ResourceValue, S: System<V>> StagesBuilder<V, S> {
     /// Gives the entry a new last group of this stage.
     fn push_group(&mut self, stage: usize, entry: Entry<S>) -> Result<(), OutOfMemory>
     where
+        V: Drop,
         S: Drop,
         requires within { stage < length (planned self.old) }
         requires free { All (λ group. Conflicts (group_access group) (access_of entry) → ⊥) (slice_index_or (planned self.old) stage []) }
@@ -159,6 +162,7 @@ impl<V: ResourceValue, S: System<V>> StagesBuilder<V, S> {
     /// Gives the entry a new last stage.
     fn push_stage(&mut self, entry: Entry<S>) -> Result<(), OutOfMemory>
     where
+        V: Drop,
         S: Drop,
         requires own_lists { IsOwnEntry S.reads S.writes entry }
         ensures ok { OnOk result (planned self.new ≡ planned self.old ++ ((entry_plan entry ∷ []) ∷ []) ∷ []) }

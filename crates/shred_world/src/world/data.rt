@@ -26,11 +26,12 @@ pub enum DataError {
     WrongKind { asked: Kind, found: Kind },
 }
 
-/// Tables lent shared, one behind another, of which the nearest that has a slot for an id shows it.
+/// Tables lent shared, one behind another, of which the nearest that has a slot for an id shows it. Behind a table the
+/// ids that are listed beside it are not looked for.
 #[derive_where(Clone, Copy)]
 pub enum Shelf<'s, V> {
     Last(&'s Table<V>),
-    Before(&'s Table<V>, &'s Shelf<'s, V>),
+    Before(&'s Table<V>, &'s [ResourceId], &'s Shelf<'s, V>),
 }
 
 impl<'s, V> Shelf<'s, V> {
@@ -40,9 +41,15 @@ impl<'s, V> Shelf<'s, V> {
     {
         match self {
             Shelf::Last(table) => table.slot(id),
-            Shelf::Before(table, rest) => match table.slot(id) {
+            Shelf::Before(table, owned, rest) => match table.slot(id) {
                 Some(slot) => Some(slot),
-                None => rest.slot(id),
+                None => {
+                    if owned.contains(&id) {
+                        None
+                    } else {
+                        rest.slot(id)
+                    }
+                }
             },
         }
     }
@@ -53,10 +60,10 @@ impl<'s, V> Shelf<'s, V> {
 pub struct View<'s, 'a, V> {
     reads: &'s [ResourceId],
     writes: &'s [ResourceId],
-    owned: &'s [ResourceId],
+    pub(crate) owned: &'s [ResourceId],
     out: &'s [ResourceId],
-    shelf: &'s [Shelf<'s, V>],
-    own: &'a mut Table<V>,
+    pub(crate) shelf: &'s [Shelf<'s, V>],
+    pub(crate) own: &'a mut Table<V>,
 }
 
 impl<'s, 'a, V: ResourceValue> View<'s, 'a, V> {

@@ -3,17 +3,22 @@ ghost use Rattle.std.specs.Prelude.{◌≡◌, ◌≢◌, ◌↔◌, ◌⊎◌, 
 ghost use Rattle.std.specs.Borrow.{sem};
 ghost use Rattle.std.specs.Option.{option_map};
 ghost use Rattle.shred_world.specs.declared.id.ResourceId.{ResourceId};
-ghost use Rattle.shred_world.specs.Worlds.{fetched};
+ghost use Rattle.shred_world.specs.Fetched.{fetched};
 
 use crate::accessor::OutOfMemory;
 use crate::id::{Kind, ResourceId};
 use crate::resource::{Resource, ResourceValue};
 use crate::table::Table;
 use crate::world::data::View;
-use std::alloc::{AllocError, Global};
-use std::ops::Deref;
+use crate::world::entry::Entry;
+use crate::world::fetch::{Fetch, FetchMut};
+use std::alloc::Global;
 
 pub mod data;
+pub mod entry;
+pub mod fetch;
+pub mod parts;
+pub mod setup;
 
 /// Why a call of a world was refused.
 #[derive(Clone, Copy, Debug, PartialEq, Eq)]
@@ -25,24 +30,31 @@ pub enum WorldError {
     Missing(ResourceId),
 }
 
+/// Why `replace_raw` was refused; it hands the value back.
+#[derive(Debug, Drop, PartialEq)]
+pub enum ReplaceError<V> {
+    /// The value has the kind `asked`, and the id the kind `found`.
+    WrongKind { asked: Kind, found: Kind, value: V },
+    /// No value is held under the id.
+    Missing { id: ResourceId, value: V },
+}
+
 /// Values, each held under an id of its kind.
 #[derive(Drop)]
 pub struct World<V> {
     table: Table<V>,
 }
 
-/// A held resource, to read.
-#[derive(Drop)]
-pub struct Fetch<'a, R> {
-    resource: &'a R,
-}
+/// `World`.
+pub type Resources<V> = World<V>;
 
 impl<V: ResourceValue> World<V> {
-    ghost use Rattle.shred_world.specs.Worlds.{world_held, table_of_world};
-    ghost use Rattle.shred_world.specs.Id.{kind_of};
-    ghost use Rattle.shred_world.specs.Slots.{with_at, among};
+    ghost use Rattle.shred_world.specs.Worlds.{world_held, table_of_world, IsFilled};
+    ghost use Rattle.shred_world.specs.Id.{id_of, kind_of};
+    ghost use Rattle.shred_world.specs.Slots.{with_at, without_at, among};
+    ghost use Rattle.shred_world.specs.Entries.{lent_world, entry_world};
     ghost use Rattle.shred_world.specs.Views.{view_held, may_read, may_write, is_out, table_in, shelves_of};
-    ghost use Rattle.shred_world.specs.Lent.{LendsTable, LendsWorld};
+    ghost use Rattle.shred_world.specs.Lent.{LendsTable, LendsWorld, LendsGot, LendsGotOk};
 
     /// Holds nothing.
     pub fn empty(alloc: Global) -> Self
@@ -65,6 +77,25 @@ impl<V: ResourceValue> World<V> {
         ensures { result ≡ is_some (world_held V.kind_of self.now id) }
     {
         self.table.get(id).is_some()
+    }
+
+    /// Whether a resource of the type is held.
+    pub fn has_value<R: Resource<V>>(&self) -> bool
+        ensures { result ≡ is_some (world_held V.kind_of self.now (id_of R.KIND 0)) }
+    {
+        self.has_value_raw(ResourceId::new::<V, R>())
+    }
+
+    /// Holds the resource, in the place of the one that was held.
+    pub fn insert<R: Resource<V>>(&mut self, resource: R) -> Result<(), WorldError>
+    where
+        V: Drop,
+        R: Drop,
+        ensures ok { OnOk result ((q : ResourceId) → world_held V.kind_of self.new q ≡ with_at (world_held V.kind_of self.old) (id_of R.KIND 0) (Some (R.wrapped resource)) q) }
+        ensures err { OnErr result ((q : ResourceId) → world_held V.kind_of self.new q ≡ world_held V.kind_of self.old q) }
+        ensures out_of_memory { IfErr result (λ e. (e ≡ WorldError.OutOfMemory) × (world_held V.kind_of self.old (id_of R.KIND 0) ≡ None)) }
+    {
+        self.insert_by_id(ResourceId::new::<V, R>(), resource)
     }
 
     /// Holds the resource under the id, in the place of what was held there.
@@ -93,6 +124,122 @@ impl<V: ResourceValue> World<V> {
         }
     }
 
+    // Holds what the closure gives, under an id of its kind where nothing is held. Room is made before the closure is
+    // called.
+    pub(crate) fn fill<R: Resource<V>, F: FnOnce() -> R>(
+        &mut self,
+        id: ResourceId,
+        make: F,
+    ) -> Result<(), WorldError>
+    where
+        V: Drop,
+        F: Drop,
+        requires kind { R.KIND ≡ kind_of id }
+        requires callable { world_held V.kind_of self.old id ≡ None → F.pre make }
+        ensures ok { OnOk result (IsFilled R.wrapped (F.post make) id (world_held V.kind_of self.old) (world_held V.kind_of self.new)) }
+        ensures err { OnErr result ((q : ResourceId) → world_held V.kind_of self.new q ≡ world_held V.kind_of self.old q) }
+        ensures out_of_memory { IfErr result (λ e. (e ≡ WorldError.OutOfMemory) × (world_held V.kind_of self.old id ≡ None)) }
+    {
+        if self.has_value_raw(id) {
+            return Ok(());
+        }
+        if let Err(OutOfMemory) = self.table.open(id) {
+            return Err(WorldError::OutOfMemory);
+        }
+        match self.table.put(id, make().wrap()) {
+            Ok(()) => Ok(()),
+            Err(OutOfMemory) => Err(WorldError::OutOfMemory),
+        }
+    }
+
+    /// The resource that was held, if one was, which leaves the world.
+    pub fn remove<R: Resource<V>>(&mut self) -> Option<R>
+    where
+        V: Drop,
+        ensures removed { option_map R.wrapped result ≡ world_held V.kind_of self.old (id_of R.KIND 0) }
+        ensures after { (q : ResourceId) → world_held V.kind_of self.new q ≡ without_at (world_held V.kind_of self.old) (id_of R.KIND 0) q }
+    {
+        self.take(ResourceId::new::<V, R>())
+    }
+
+    /// The resource that was held under the id, if one was, which leaves the world.
+    pub fn remove_by_id<R: Resource<V>>(&mut self, id: ResourceId) -> Result<Option<R>, WorldError>
+    where
+        V: Drop,
+        ensures ok { IfOk result (λ removed. (R.KIND ≡ kind_of id) × (option_map R.wrapped removed ≡ world_held V.kind_of self.old id)) }
+        ensures after { OnOk result ((q : ResourceId) → world_held V.kind_of self.new q ≡ without_at (world_held V.kind_of self.old) id q) }
+        ensures err { OnErr result ((q : ResourceId) → world_held V.kind_of self.new q ≡ world_held V.kind_of self.old q) }
+        ensures wrong_kind { IfErr result (λ e. (R.KIND ≢ kind_of id) × (e ≡ WorldError.WrongKind R.KIND (kind_of id))) }
+    {
+        if R::KIND != id.kind() {
+            return Err(WorldError::WrongKind {
+                asked: R::KIND,
+                found: id.kind(),
+            });
+        }
+        Ok(self.take(id))
+    }
+
+    // Takes the resource that is held under an id of its kind, with its slot.
+    fn take<R: Resource<V>>(&mut self, id: ResourceId) -> Option<R>
+    where
+        V: Drop,
+        requires kind { R.KIND ≡ kind_of id }
+        ensures removed { option_map R.wrapped result ≡ world_held V.kind_of self.old id }
+        ensures after { (q : ResourceId) → world_held V.kind_of self.new q ≡ without_at (world_held V.kind_of self.old) id q }
+    {
+        let Some(slot) = self.table.remove(id) else {
+            return None;
+        };
+        slot.into_resource()
+    }
+
+    /// Puts the value in the place of the one that is held under the id, and gives back the old one.
+    pub fn replace_raw(&mut self, id: ResourceId, value: V) -> Result<V, ReplaceError<V>>
+        ensures ok { IfOk result (λ old. (V.kind_of value ≡ kind_of id) × (world_held V.kind_of self.old id ≡ Some old)) }
+        ensures replaced { OnOk result ((q : ResourceId) → world_held V.kind_of self.new q ≡ with_at (world_held V.kind_of self.old) id (Some value) q) }
+        ensures err { OnErr result ((q : ResourceId) → world_held V.kind_of self.new q ≡ world_held V.kind_of self.old q) }
+        ensures wrong_kind { (V.kind_of value ≢ kind_of id) → result ≡ Err (ReplaceError.WrongKind (V.kind_of value) (kind_of id) value) }
+        ensures missing { (V.kind_of value ≡ kind_of id) → IfErr result (λ e. (e ≡ ReplaceError.Missing id value) × (world_held V.kind_of self.old id ≡ None)) }
+    {
+        let asked = value.kind();
+        if asked != id.kind() {
+            return Err(ReplaceError::WrongKind {
+                asked,
+                found: id.kind(),
+                value,
+            });
+        }
+        if !self.has_value_raw(id) {
+            return Err(ReplaceError::Missing { id, value });
+        }
+        match self.table.replace(id, value) {
+            Ok(old) => Ok(old),
+            Err(value) => Err(ReplaceError::Missing { id, value }),
+        }
+    }
+
+    /// The resource that is held.
+    pub fn fetch<R: Resource<V>>(&self) -> Result<Fetch<'_, R>, WorldError>
+        ensures shown { IfOk result (λ f. world_held V.kind_of self.now (id_of R.KIND 0) ≡ Some (R.wrapped (fetched f))) }
+        ensures missing { IfErr result (λ e. (e ≡ WorldError.Missing (id_of R.KIND 0)) × (world_held V.kind_of self.now (id_of R.KIND 0) ≡ None)) }
+    {
+        match self.try_fetch() {
+            Some(fetch) => Ok(fetch),
+            None => Err(WorldError::Missing(ResourceId::new::<V, R>())),
+        }
+    }
+
+    /// The resource that is held, if one is.
+    pub fn try_fetch<R: Resource<V>>(&self) -> Option<Fetch<'_, R>>
+        ensures { option_map (λ f. R.wrapped (fetched f)) result ≡ world_held V.kind_of self.now (id_of R.KIND 0) }
+    {
+        match self.try_fetch_by_id(ResourceId::new::<V, R>()) {
+            Ok(found) => found,
+            Err(_) => None,
+        }
+    }
+
     /// The resource that is held under the id, if one is.
     pub fn try_fetch_by_id<R: Resource<V>>(
         &self,
@@ -114,6 +261,73 @@ impl<V: ResourceValue> World<V> {
             Some(resource) => Ok(Some(Fetch { resource })),
             None => Ok(None),
         }
+    }
+
+    /// The place of the resource of the type.
+    pub fn entry<R: Resource<V>>(&mut self) -> Entry<'_, V, R>
+        ensures name { (lent_world result).ghost_name ≡ self.entry.ghost_name }
+        ensures shown { entry_world result ≡ self.old }
+    {
+        Entry::over(self)
+    }
+
+    // The resource that is held under an id of its kind, to write.
+    fn resource_mut<R: Resource<V>>(&mut self, id: ResourceId) -> Option<&mut R>
+        requires kind { R.KIND ≡ kind_of id }
+        ensures shown { option_map (λ r. R.wrapped r.now) result ≡ world_held V.kind_of self.old id }
+        ensures* written { sem 𝓛 (LendsGot V.row R.row V.kind_of R.wrapped self.entry id result) }
+    {
+        self.table.resource_mut(id)
+    }
+
+    /// The resource that is held, if one is, to write.
+    pub fn get_mut<R: Resource<V>>(&mut self) -> Option<&mut R>
+        ensures shown { option_map (λ r. R.wrapped r.now) result ≡ world_held V.kind_of self.old (id_of R.KIND 0) }
+        ensures* written { sem 𝓛 (LendsGot V.row R.row V.kind_of R.wrapped self.entry (id_of R.KIND 0) result) }
+    {
+        self.resource_mut(ResourceId::new::<V, R>())
+    }
+
+    /// The resource that is held, if one is, to write.
+    pub fn try_fetch_mut<R: Resource<V>>(&mut self) -> Option<FetchMut<'_, R>>
+        ensures shown { option_map (λ r. R.wrapped r.now) result ≡ world_held V.kind_of self.old (id_of R.KIND 0) }
+        ensures* written { sem 𝓛 (LendsGot V.row R.row V.kind_of R.wrapped self.entry (id_of R.KIND 0) result) }
+    {
+        self.get_mut::<R>()
+    }
+
+    /// The resource that is held, to write.
+    pub fn fetch_mut<R: Resource<V>>(&mut self) -> Result<FetchMut<'_, R>, WorldError>
+        ensures shown { IfOk result (λ r. world_held V.kind_of self.old (id_of R.KIND 0) ≡ Some (R.wrapped r.now)) }
+        ensures missing { IfErr result (λ e. (e ≡ WorldError.Missing (id_of R.KIND 0)) × (world_held V.kind_of self.old (id_of R.KIND 0) ≡ None)) }
+        ensures* written { sem 𝓛 (LendsGotOk V.row R.row V.kind_of R.wrapped self.entry (id_of R.KIND 0) result) }
+    {
+        let Some(resource) = self.get_mut::<R>() else {
+            return Err(WorldError::Missing(ResourceId::new::<V, R>()));
+        };
+        Ok(resource)
+    }
+
+    /// The resource that is held under the id, to write.
+    pub fn try_fetch_mut_by_id<R: Resource<V>>(
+        &mut self,
+        id: ResourceId,
+    ) -> Result<FetchMut<'_, R>, WorldError>
+        ensures shown { IfOk result (λ r. (R.KIND ≡ kind_of id) × (world_held V.kind_of self.old id ≡ Some (R.wrapped r.now))) }
+        ensures wrong_kind { (R.KIND ≢ kind_of id) → result ≡ Err (WorldError.WrongKind R.KIND (kind_of id)) }
+        ensures missing { (R.KIND ≡ kind_of id) → IfErr result (λ e. (e ≡ WorldError.Missing id) × (world_held V.kind_of self.old id ≡ None)) }
+        ensures* written { sem 𝓛 (LendsGotOk V.row R.row V.kind_of R.wrapped self.entry id result) }
+    {
+        if R::KIND != id.kind() {
+            return Err(WorldError::WrongKind {
+                asked: R::KIND,
+                found: id.kind(),
+            });
+        }
+        let Some(resource) = self.resource_mut::<R>(id) else {
+            return Err(WorldError::Missing(id));
+        };
+        Ok(resource)
     }
 
     /// The table behind the world, for those who lend views of it.
@@ -139,27 +353,5 @@ impl<V: ResourceValue> World<V> {
         ensures* back { sem 𝓛 (LendsWorld V.row self.entry result) }
     {
         View::over(reads, writes, &[], &mut self.table)
-    }
-}
-
-impl<'a, R> Deref for Fetch<'a, R> {
-    type Target = R;
-
-    ghost deref_gives = { λ fetch resource. resource ≡ fetched fetch };
-
-    fn deref(&self) -> &R {
-        self.resource
-    }
-}
-
-impl<'a, R> Clone for Fetch<'a, R> {
-    ghost is_clone = { λ fetch other. fetched other ≡ fetched fetch };
-
-    ghost is_infallible = { λ fetch. ⊤ };
-
-    fn clone(&self) -> Result<Self, AllocError> {
-        Ok(Fetch {
-            resource: self.resource,
-        })
     }
 }

@@ -4,7 +4,8 @@ use Rattle.shred_model.proofs.UpToFault.{SoFar}
 use Rattle.std.specs.List.{All}
 use Rattle.std.specs.Option.{option_map}
 use Rattle.shred_world.specs.declared.id.ResourceId.{ResourceId}
-use Rattle.shred_world.specs.Worlds.{world_held}
+use Rattle.shred_world.specs.Shown.{shown, IsSameSlots}
+use Rattle.shred_world.specs.Views.{lent_slot}
 use Rattle.shred.specs.Entries.{EntryRun, entry_states}
 use Rattle.shred.specs.OwnLists.{IsOwnEntry}
 use Rattle.shred.specs.PlanOf.{entry_plan}
@@ -13,8 +14,9 @@ use Rattle.shred.proofs.dispatch.run.run_entries.Given as goal
 abbrev pub invariant-loop-entry : goal.invariant-loop-entry
 invariant-loop-entry g l = record {
   plan : map entry_plan l.entries ≡ map entry_plan l.initial.entries;
-  kinds : (id : ResourceId) → option_map g.V.ResourceValue.kind_of (world_held g.V.ResourceValue.kind_of l.world id) ≡ option_map g.V.ResourceValue.kind_of (world_held g.V.ResourceValue.kind_of l.initial.world id);
+  kinds : (id : ResourceId) → option_map g.V.ResourceValue.kind_of (shown g.V.ResourceValue.kind_of (lent_slot l.shelf) l.own id) ≡ option_map g.V.ResourceValue.kind_of (shown g.V.ResourceValue.kind_of (lent_slot l.shelf) l.initial.own id);
+  slots : IsSameSlots l.initial.own l.own;
   own_lists : All (IsOwnEntry g.S.System.reads g.S.System.writes) l.entries;
   ran : SoFar (EntryRun g.V.ResourceValue.kind_of g.S.System.step) l.entry-index (map entry_plan l.initial.entries)
-      (setting_of (listed_states entry_states l.initial.entries) (world_held g.V.ResourceValue.kind_of l.initial.world)) (setting_of (listed_states entry_states l.entries) (world_held g.V.ResourceValue.kind_of l.world));
+      (setting_of (listed_states entry_states l.initial.entries) (shown g.V.ResourceValue.kind_of (lent_slot l.shelf) l.initial.own)) (setting_of (listed_states entry_states l.entries) (shown g.V.ResourceValue.kind_of (lent_slot l.shelf) l.own));
 }

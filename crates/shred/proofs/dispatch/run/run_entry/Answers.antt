@@ -1,5 +1,6 @@
 use Rattle.std.proofs.Common.{refl, Ok, Err}
-use Rattle.shred_world.specs.Worlds.{world_held}
+use Rattle.shred_world.specs.Shown.{shown}
+use Rattle.shred_world.specs.Views.{lent_slot}
 use Rattle.shred.specs.declared.dispatch.run.StageFault.TheVariants.{System}
 use Rattle.shred.specs.PlanOf.{entry_plan}
 use Rattle.shred.proofs.StepRecord.{step-ran}
@@ -7,8 +8,8 @@ use Rattle.shred.proofs.dispatch.run.run_entry.Goals as goal
 
 pub returns-in-Ok-clause-ran : goal.returns-in-Ok-clause-ran
 returns-in-Ok-clause-ran g c = step-ran g.V.ResourceValue.kind_of g.S.System.step (entry_plan c.args.entry.now) c.args.entry.now.system c.step.new.entry.system
-    (world_held g.V.ResourceValue.kind_of c.args.world.now) (world_held g.V.ResourceValue.kind_of c.step.new.world) _ c.in-Ok.ensures.step c.in-Ok.ensures.kinds c.in-Ok.ensures.frame (Ok tt) refl
+    (shown g.V.ResourceValue.kind_of (lent_slot c.args.shelf.now) c.args.own.now) (shown g.V.ResourceValue.kind_of (lent_slot c.args.shelf.now) c.step.new.own) _ c.in-Ok.ensures.step c.in-Ok.ensures.kinds c.in-Ok.ensures.frame (Ok tt) refl
 
 pub returns-in-Err-clause-ran : goal.returns-in-Err-clause-ran
 returns-in-Err-clause-ran g c = step-ran g.V.ResourceValue.kind_of g.S.System.step (entry_plan c.args.entry.now) c.args.entry.now.system c.step.new.entry.system
-    (world_held g.V.ResourceValue.kind_of c.args.world.now) (world_held g.V.ResourceValue.kind_of c.step.new.world) _ c.in-Err.ensures.step c.in-Err.ensures.kinds c.in-Err.ensures.frame _ (λ i. Err (System (record { 0 = (c.in-Err.ensures.kept i).id }) c.in-Err.fault))
+    (shown g.V.ResourceValue.kind_of (lent_slot c.args.shelf.now) c.args.own.now) (shown g.V.ResourceValue.kind_of (lent_slot c.args.shelf.now) c.step.new.own) _ c.in-Err.ensures.step c.in-Err.ensures.kinds c.in-Err.ensures.frame _ (λ i. Err (System (record { 0 = (c.in-Err.ensures.kept i).id }) c.in-Err.fault))

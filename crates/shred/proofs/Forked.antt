@@ -1,0 +1,130 @@
+-- Groups whose written values were moved into their hands, that ran, and whose values were moved back.
+use Rattle.std.proofs.Common.{◌≡◌, ℕ, zero, suc, ◌<◌, Bool, true, false, ◌&&◌, Option, Some, None, cond, List, [], ◌∷◌, length, map, get_or, Contains, refl, sym, ◌∙◌, ap, subst, inl, inr, arith, IsTrue}
+use Rattle.std.specs.Prelude.{is_some}
+use Rattle.std.specs.List.{All, AllZip}
+use Rattle.std.proofs.lemmas.List.{length-map, get_or-map}
+use Rattle.shred_model.specs.Access.{Conflicts}
+use Rattle.shred_model.specs.Beside.{AreApart}
+use Rattle.shred_model.specs.Plan.{group_access}
+use Rattle.shred_world.specs.declared.id.Kind.{Kind}
+use Rattle.shred_world.specs.declared.id.ResourceId.{ResourceId}
+use Rattle.shred_world.specs.declared.table.Slot.{Slot}
+use Rattle.shred_world.specs.declared.table.Table.{Table}
+use Rattle.shred_world.specs.Parting.{emptied}
+use Rattle.shred_world.specs.Shown.{shown, HasOwnSlots, IsSameSlots}
+use Rattle.shred_world.specs.Slots.{slot_at, slot_held, held, among, or_slot}
+use Rattle.shred_world.proofs.Ids.{among-true, among-contains}
+use Rattle.shred_world.proofs.Moves.{emptied-twice}
+use Rattle.shred_world.proofs.Pairs.{zip-get}
+use Rattle.shred.specs.Hands.{KeepsRoom, IsSameButHand, WriteApart, Fits, IsBack, IsMovedOut}
+use Rattle.shred.specs.Lanes.{IsReady}
+use Rattle.shred.specs.OwnLists.{IsOwnEntry, IsOwnGroup}
+use Rattle.shred.specs.PlanOf.{entry_plan, group_plan, groups_plan}
+use Rattle.shred.specs.declared.dispatch.entry.Entry.{Entry}
+use Rattle.shred.specs.declared.dispatch.entry.Group.{Group}
+use Rattle.shred.proofs.Membership.{Contains-head, Contains-tail, Contains-flat_map}
+
+contains-at : {X : Type 0} (xs : List X) (k : ℕ) (d : X) → k < length xs → Contains xs (get_or xs k d)
+contains-at [] k d below = absurd (omega arith)
+contains-at (x ∷ xs) zero d below = Contains-head x xs
+contains-at (x ∷ xs) (suc k) d below = Contains-tail x xs (get_or xs k d) (contains-at xs k d (omega arith))
+
+not_both : (b c : Bool) → (b ≡ true → c ≡ true → ⊥) → (b && c) ≡ false
+not_both true true h = absurd (h refl refl)
+not_both true false h = refl
+not_both false c h = refl
+
+module _ {V S : Type 0} where
+  pub same-then : (x y z : Group V S) → IsSameButHand x y → IsSameButHand y z → IsSameButHand x z
+  same-then x y z one two = record { ids = two.ids ∙ one.ids; entries = two.entries ∙ one.entries; written = two.written ∙ one.written }
+
+  pub same-plan : (x y : Group V S) → IsSameButHand x y → group_plan y ≡ group_plan x
+  same-plan x y same = ap (λ entries. map entry_plan entries.items) same.entries
+
+  pub same-written : (x y : Group V S) → IsSameButHand x y → (q : ResourceId) → among y.written.items q ≡ among x.written.items q
+  same-written x y same q = ap (λ written. among written.items q) same.written
+
+  -- what an entry writes, its group writes
+  written_by_group : (x : Group V S) → KeepsRoom x → (k : ℕ) (d : _) → k < length (group_plan x) → (q : ResourceId) → among (get_or (group_plan x) k d).access.writes q ≡ true → among x.written.items q ≡ true
+  written_by_group x room k d below q there =
+      among-contains x.written.items q (subst (λ (ids : List ResourceId). Contains ids q) (sym room.same_writes)
+      (Contains-flat_map (λ e. e.access.writes) (group_plan x) (get_or (group_plan x) k d) q (contains-at (group_plan x) k d below) (among-true (get_or (group_plan x) k d).access.writes q there)))
+
+  -- what a group writes, its access writes
+  pub access_writes : (x : Group V S) → KeepsRoom x → (q : ResourceId) → among x.written.items q ≡ true → Contains (group_access (group_plan x)).writes q
+  access_writes x room q there = subst (λ (ids : List ResourceId). Contains ids q) room.same_writes (among-true x.written.items q there)
+
+  pub writes_access : (x : Group V S) → KeepsRoom x → (q : ResourceId) → Contains (group_access (group_plan x)).writes q → among x.written.items q ≡ true
+  writes_access x room q there = among-contains x.written.items q (subst (λ (ids : List ResourceId). Contains ids q) (sym room.same_writes) there)
+
+  -- two groups of a stage do not conflict
+  pub apart-at : (groups : List (Group V S)) → AreApart group_access (groups_plan groups) → (i j : ℕ) (d : Group V S) → i < j → j < length groups
+      → Conflicts (group_access (group_plan (get_or groups i d))) (group_access (group_plan (get_or groups j d))) → ⊥
+  apart-at groups apart i j d lt below conflict =
+      apart i j (group_plan d) lt (rw (length-map groups group_plan) below)
+      (rw (get_or-map group_plan groups i d (group_plan d) (omega (arith, lt, below)), get_or-map group_plan groups j d (group_plan d) below) conflict)
+
+  pub write-apart : (groups : List (Group V S)) → All KeepsRoom groups → AreApart group_access (groups_plan groups) → WriteApart groups
+  write-apart groups room apart i j d lt below q =
+      not_both (among (get_or groups i d).written.items q) (among (get_or groups j d).written.items q) (λ one two.
+      apart-at groups apart i j d lt below (q, inl (access_writes (get_or groups i d) (room i d (omega (arith, lt, below))) q one, inr (access_writes (get_or groups j d) (room j d below) q two))))
+
+  pub write-apart-same : (xs ys : List (Group V S)) → AllZip (λ x y. (q : ResourceId) → among y.written.items q ≡ among x.written.items q) xs ys → length ys ≡ length xs → WriteApart xs → WriteApart ys
+  write-apart-same xs ys zip long apart i j d lt below q =
+      let Same : Group V S → Group V S → Type 0 = λ x y. (p : ResourceId) → among y.written.items p ≡ among x.written.items p in
+      let one = zip-get Same i xs ys d d (omega arith) zip q in
+      let two = zip-get Same j xs ys d d (omega arith) zip q in
+      rw (one, two) (apart i j d lt (omega arith) q)
+
+module _ {V : Type 0} (before after : Table V) (taken : ResourceId → Bool) (left : (q : ResourceId) → slot_at after q ≡ cond (taken q) (emptied (slot_at before q)) (slot_at before q)) where
+  some-left : (q : ResourceId) → is_some (slot_at after q) ≡ is_some (slot_at before q)
+  some-left q = ap is_some (left q) ∙ each (taken q) (slot_at before q) where
+    each : (b : Bool) (s : Option (Slot V)) → is_some (cond b (emptied s) s) ≡ is_some s
+    each true (Some s) = refl
+    each true None = refl
+    each false s = refl
+
+  none-left : (q : ResourceId) → slot_at before q ≡ None → slot_at after q ≡ None
+  none-left q none = none_there (slot_at after q) (some-left q ∙ ap is_some none) where
+    none_there : (s : Option (Slot V)) → is_some s ≡ false → s ≡ None
+    none_there (Some s) e = absurd (cc)
+    none_there None e = refl
+
+  pub empty-left : (q : ResourceId) → IsTrue (taken q) → slot_at after q ≡ emptied (slot_at after q)
+  empty-left q there = let is : slot_at after q ≡ emptied (slot_at before q) = left q ∙ ap (λ (b : Bool). cond b (emptied (slot_at before q)) (slot_at before q)) there in is ∙ sym (emptied-twice (slot_at before q)) ∙ ap emptied (sym is)
+
+  -- a group whose values were moved out is ready to run
+  pub is-ready : {S : Type 0} (reads writes : S → List ResourceId) (x y : Group V S) → KeepsRoom x → IsOwnGroup reads writes x → IsMovedOut before x y → IsReady reads writes (slot_at after) y
+  is-ready {S} reads writes x y room own moved = record {
+    own_lists = subst (λ (items : List (Entry S)). All (IsOwnEntry reads writes) items) (ap (λ entries. entries.items) (sym moved.0.entries)) own;
+    own_slots = subst (λ plan. All (λ e. HasOwnSlots e.access.writes (slot_at after) y.hand) plan) (sym (same-plan x y moved.0)) (λ k d below q there none.
+        let here : among y.written.items q ≡ true = same-written x y moved.0 q ∙ written_by_group x room k d below q there in
+        none-left q (sym (ap (λ (b : Bool). cond b (slot_at before q) None) here) ∙ sym (moved.1 q) ∙ none));
+  }
+
+  -- after the run, its hand has the slots that it had
+  pub fits-after : {S : Type 0} (x y z : Group V S) → IsMovedOut before x y → IsSameSlots y.hand z.hand → z.written ≡ y.written → Fits after z
+  fits-after x y z moved slots written q =
+      slots q ∙ ap is_some (moved.1 q) ∙ each (among y.written.items q) ∙ ap (λ ids. among ids.items q && is_some (slot_at after q)) (sym written) where
+        each : (b : Bool) → is_some (cond b (slot_at before q) None) ≡ (b && is_some (slot_at after q))
+        each true = sym (some-left q)
+        each false = refl
+
+  -- a moved hand, beside what is left, shows what was held, where no other group took it
+  pub shows : {S : Type 0} (kind : V → Kind) (x y : Group V S) → IsMovedOut before x y → (q : ResourceId) → (among y.written.items q ≡ false → taken q ≡ false) → held kind before q ≡ shown kind (slot_at after) y.hand q
+  shows kind x y moved q only = ap (slot_held kind q) (told (among y.written.items q) refl) where
+    here : (s : Option (Slot V)) → slot_at before q ≡ s → s ≡ or_slot s (slot_at after q)
+    here (Some s) e = refl
+    here None e = sym (none-left q e)
+
+    told : (b : Bool) → among y.written.items q ≡ b → slot_at before q ≡ or_slot (slot_at y.hand q) (slot_at after q)
+    told true e = let is : slot_at y.hand q ≡ slot_at before q = moved.1 q ∙ ap (λ (b : Bool). cond b (slot_at before q) None) e in rw is (here (slot_at before q) refl)
+    told false e = let is : slot_at y.hand q ≡ None = moved.1 q ∙ ap (λ (b : Bool). cond b (slot_at before q) None) e in rw is (sym (left q ∙ ap (λ (b : Bool). cond b (emptied (slot_at before q)) (slot_at before q)) (only e)))
+
+  -- where the hand is put back, the table holds what was shown
+  pub puts : {S : Type 0} (kind : V → Kind) (end : Table V) (z : Group V S) → Fits after z → IsBack end z → (q : ResourceId) → among z.written.items q ≡ true → held kind end q ≡ shown kind (slot_at after) z.hand q
+  puts kind end z fit back q there = ap (slot_held kind q) (back q there ∙ here (slot_at z.hand q) (slot_at after q) (fit q ∙ ap (λ (b : Bool). b && is_some (slot_at after q)) there)) where
+    here : (s t : Option (Slot V)) → is_some s ≡ is_some t → s ≡ or_slot s t
+    here (Some s) t e = refl
+    here None None e = refl
+    here None (Some t) e = absurd (cc)

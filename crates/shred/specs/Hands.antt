@@ -1,0 +1,63 @@
+-- The slots that a group keeps for the values that it writes.
+use Rattle.std.specs.Prelude.{◌≡◌, Bool, false, ◌&&◌, IsTrue, None, List, cond, is_some, AllPairs}
+use Rattle.std.specs.List.{list_any}
+use Rattle.shred_model.specs.Plan as model
+use Rattle.shred_world.specs.declared.id.ResourceId.{ResourceId}
+use Rattle.shred_world.specs.declared.table.Table.{Table}
+use Rattle.shred_world.specs.Parting.{IsRoom, IsSpare}
+use Rattle.shred_world.specs.Slots.{slot_at, among}
+use Rattle.shred.specs.PlanOf.{group_plan}
+use Rattle.shred.specs.declared.dispatch.entry.Group.{Group}
+
+module _ {V S : Type 0} where
+  -- there are only empty slots, under the written ids alone
+  abbrev pub HasSpareHand : Group V S → Type 0
+  HasSpareHand group = IsSpare group.written.items group.hand
+
+  -- The ids beside the entries are those that they write, and there are only empty slots, under these ids alone.
+  pub record KeepsRoom (group : Group V S) : Type 0 where
+    pub same_writes : group.written.items ≡ (model.group_access (group_plan group)).writes
+    pub spare : HasSpareHand group
+
+  -- the group is the same, but for its hand
+  pub record IsSameButHand (old new : Group V S) : Type 0 where
+    pub ids : new.ids ≡ old.ids
+    pub entries : new.entries ≡ old.entries
+    pub written : new.written ≡ old.written
+
+  -- no id is written by two groups
+  abbrev pub WriteApart : List (Group V S) → Type 0
+  WriteApart groups = AllPairs (λ a b. (q : ResourceId) → (among a.written.items q && among b.written.items q) ≡ false) groups
+
+  -- whether some group writes the id
+  abbrev pub some_writes : List (Group V S) → ResourceId → Bool
+  some_writes groups q = list_any (λ g. among g.written.items q) groups
+
+  module _ (table : Table V) where
+    -- the hand has room for what the group writes
+    abbrev pub HasRoom : Group V S → Type 0
+    HasRoom group = IsRoom table group.written.items group.hand
+
+    -- the hand has the written slots, as they are in the table, and no others
+    abbrev pub HoldsWritten : Group V S → Type 0
+    HoldsWritten group = (q : ResourceId) → slot_at group.hand q ≡ cond (among group.written.items q) (slot_at table q) None
+
+    -- the hand has a slot for each written id that the table has a slot for, and no other slot
+    abbrev pub Fits : Group V S → Type 0
+    Fits group = (q : ResourceId) → is_some (slot_at group.hand q) ≡ (among group.written.items q && is_some (slot_at table q))
+
+    -- the table has the hand's slots for the written ids
+    abbrev pub IsBack : Group V S → Type 0
+    IsBack group = (q : ResourceId) → IsTrue (among group.written.items q) → slot_at table q ≡ slot_at group.hand q
+
+    -- the group is the same but for its hand, which has room
+    abbrev pub IsMadeRoom : Group V S → Group V S → Type 0
+    IsMadeRoom old new = IsSameButHand old new × HasRoom new
+
+    -- the group is the same but for its hand, which has what it writes
+    abbrev pub IsMovedOut : Group V S → Group V S → Type 0
+    IsMovedOut old new = IsSameButHand old new × HoldsWritten new
+
+  -- the group is the same but for its hand, which is spare
+  abbrev pub IsLeftSpare : Group V S → Group V S → Type 0
+  IsLeftSpare old new = IsSameButHand old new × HasSpareHand new

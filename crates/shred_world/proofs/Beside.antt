@@ -1,0 +1,77 @@
+-- What the parts of a view show, and that they can be joined.
+use Rattle.std.proofs.Common.{◌≡◌, ℕ, zero, suc, ◌<◌, Bool, true, false, ◌&&◌, ◌||◌, Option, Some, None, cond, List, [], ◌∷◌, length, get_or, refl, sym, ◌∙◌, ap, arith}
+use Rattle.std.specs.Prelude.{is_some}
+use Rattle.std.specs.List.{AllZip, AllByRecursion}
+use Rattle.shred_model.proofs.Apart.{AllPairs-head, AllPairs-tail}
+use Rattle.shred_world.specs.declared.id.ResourceId.{ResourceId}
+use Rattle.shred_world.specs.declared.table.Slot.{Slot}
+use Rattle.shred_world.specs.Slots.{among, or_slot}
+use Rattle.shred_world.specs.Parting.{emptied}
+use Rattle.shred_world.specs.Parts.{Pair, writes_of, declares, AreBeside, DoNotConflict, written_by}
+use Rattle.shred_world.proofs.Moves.{emptied-twice}
+
+-- from each pair with its hand to what holds of them
+pub zip-map : {A B : Type 0} (Q R : A → B → Type 0) (xs : List A) (ys : List B) → ((i : ℕ) (d : A) (y : B) → i < length xs → Q (get_or xs i d) y → R (get_or xs i d) y) → AllZip Q xs ys → AllZip R xs ys
+zip-map Q R [] [] f zip = tt
+zip-map Q R [] (y ∷ ys) f zip = absurd zip
+zip-map Q R (x ∷ xs) [] f zip = absurd zip
+zip-map Q R (x ∷ xs) (y ∷ ys) f zip = (f 0 x y (omega arith) zip.0, zip-map Q R xs ys (λ i d z h. f (suc i) d z (omega arith)) zip.1)
+
+-- what holds of each pair with its hand, by what holds of the pair with the hand before
+pub zip-through : {A B C : Type 0} (Q : A → B → Type 0) (P : A → B → Type 0) (S : B → C → Type 0) (R : A → C → Type 0) (xs : List A) (ys : List B) (zs : List C)
+    → ((x : A) (y : B) (z : C) → Q x y → P x y → S y z → R x z) → AllZip Q xs ys → AllZip P xs ys → AllZip S ys zs → AllZip R xs zs
+zip-through Q P S R [] [] [] f one two three = tt
+zip-through Q P S R [] [] (z ∷ zs) f one two three = absurd three
+zip-through Q P S R [] (y ∷ ys) zs f one two three = absurd one
+zip-through Q P S R (x ∷ xs) [] zs f one two three = absurd one
+zip-through Q P S R (x ∷ xs) (y ∷ ys) [] f one two three = absurd three
+zip-through Q P S R (x ∷ xs) (y ∷ ys) (z ∷ zs) f one two three = (f x y z one.0 two.0 three.0, zip-through Q P S R xs ys zs f one.1 two.1 three.1)
+
+never : (b : Bool) → (b ≡ true → ⊥) → b ≡ false
+never true n = absurd (n refl)
+never false n = refl
+
+or_none : (a b : Bool) → a ≡ false → b ≡ false → (a || b) ≡ false
+or_none a b x y = rw (x, y) refl
+
+none-beside : (p : Pair) (ps : List Pair) (q : ResourceId) → AllByRecursion (AreBeside p) ps → declares p q ≡ true → written_by ps q ≡ false
+none-beside p [] q beside h = refl
+none-beside p (r ∷ ps) q beside h = or_none (among (writes_of r) q) _ (never (among (writes_of r) q) (λ w. let e = (beside.0).1 q w in cc)) (none-beside p ps q beside.1 h)
+
+-- what a pair declares and does not write, no pair writes
+pub written-none : (i : ℕ) (ps : List Pair) (d : Pair) (q : ResourceId) → DoNotConflict ps → i < length ps → declares (get_or ps i d) q ≡ true → among (writes_of (get_or ps i d)) q ≡ false → written_by ps q ≡ false
+written-none i [] d q apart h w out = refl
+written-none zero (p ∷ ps) d q apart h w out = or_none (among (writes_of p) q) _ out (none-beside p ps q (AllPairs-head AreBeside p ps apart) w)
+written-none (suc i) (p ∷ ps) d q apart h w out =
+    let beside = apart 0 (suc i) d (omega arith) (omega arith) in
+    or_none (among (writes_of p) q) _ (never (among (writes_of p) q) (λ u. let e = beside.0 q u in cc)) (written-none i ps d q (AllPairs-tail AreBeside p ps apart) (omega arith) w out)
+
+pub second : (a b : Bool) → (a && b) ≡ true → b ≡ true
+second true b h = h
+second false b h = absurd (cc)
+
+module _ {V : Type 0} where
+  -- over its hand and what lies behind, a part shows what the view showed
+  pub shown-over : (b a o : Bool) (t s h l : Option (Slot V)) → h ≡ cond b t None → s ≡ cond a (emptied t) t → (b ≡ true → o ≡ true) → (b ≡ false → a ≡ false)
+      → or_slot h (cond b None (or_slot s (cond o None l))) ≡ or_slot t (cond o None l)
+  shown-over true a o t s h l held left own none = rw (held, own refl) refl
+  shown-over false a o t s h l held left own none = rw (held, left, none refl) refl
+
+  pub left-slots : (a : Bool) (t s : Option (Slot V)) → s ≡ cond a (emptied t) t → is_some s ≡ is_some t
+  left-slots true (Some t) s left = ap is_some left
+  left-slots true None s left = ap is_some left
+  left-slots false t s left = ap is_some left
+
+  pub fit-over : (b a : Bool) (t s h : Option (Slot V)) → h ≡ cond b t None → s ≡ cond a (emptied t) t → is_some h ≡ (b && is_some s)
+  fit-over true a t s h held left = ap is_some held ∙ sym (left-slots a t s left)
+  fit-over false a t s h held left = ap is_some held
+
+  pub empty-over : (a : Bool) (t s : Option (Slot V)) → s ≡ cond a (emptied t) t → a ≡ true → s ≡ emptied s
+  empty-over true t s left h = left ∙ sym (emptied-twice t) ∙ ap emptied (sym left)
+  empty-over false t s left h = absurd (cc)
+
+  -- an emptied hand has room again
+  pub room-again : (b : Bool) (u t h n : Option (Slot V)) → (b ≡ true → u ≡ h) → is_some h ≡ (b && is_some t) → n ≡ emptied h → n ≡ cond b (emptied u) None
+  room-again true u t h n joined fit is = is ∙ ap emptied (sym (joined refl))
+  room-again false u t (Some h) n joined fit is = absurd (cc)
+  room-again false u t None n joined fit is = is

@@ -1,0 +1,18 @@
+use Rattle.std.proofs.Common.{◌≡◌, ◌+◌, ◌++◌, ◌∷◌, [], List, sym, subst, take, slice_index_or}
+use Rattle.std.specs.List.{AllZip}
+use Rattle.std.proofs.lemmas.List.{take_more}
+use Rattle.std.proofs.lemmas.Slice.Zip.{all_zipped_more}
+use Rattle.shred_world.specs.declared.table.Table.{Table}
+use Rattle.shred_world.specs.Parts.{Pair, HasRoom}
+use Rattle.shred_world.proofs.table.Table.make_hands.Goals as goal
+
+pub loop-pair-preserved : goal.loop-pair-preserved
+loop-pair-preserved g c =
+    let pairs = c.args.pairs.now in
+    let i = c.loop-pair.pair-index in
+    let pair : Pair = slice_index_or pairs i (record { ref_ptr = (0, 0); now = [] }, record { ref_ptr = (0, 0); now = [] }) in
+    let more : take (i + 1) pairs ≡ take i pairs ++ pair ∷ [] = take_more pairs i (record { ref_ptr = (0, 0); now = [] }, record { ref_ptr = (0, 0); now = [] }) c.loop-pair-test.true in
+    let zip : AllZip (HasRoom c.args.self.now) (take i pairs ++ pair ∷ []) (c.loop-pair.hands.items ++ c.make_room.new.hand ∷ []) =
+    all_zipped_more (HasRoom c.args.self.now) (take i pairs) c.loop-pair.hands.items pair c.make_room.new.hand c.loop-pair.invariant c.in-Ok.ensures.room in
+    subst (λ (hs : List (Table g.row.V.Denot)). AllZip (HasRoom c.args.self.now) (take (i + 1) pairs) hs) (sym c.in-Ok-push.ensures.items)
+    (subst (λ (ps : List Pair). AllZip (HasRoom c.args.self.now) ps (c.loop-pair.hands.items ++ c.make_room.new.hand ∷ [])) (sym more) zip)

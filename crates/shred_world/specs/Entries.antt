@@ -1,0 +1,20 @@
+-- Entries: worlds that are lent to look at the resource of number 0 of one type.
+use Rattle.std.specs.Borrow.{MutBor, Fml, RattleType}
+use Rattle.std.specs.Prelude.{Result}
+use Rattle.shred_world.specs.declared.id.Kind.{Kind}
+use Rattle.shred_world.specs.declared.id.ResourceId.{ResourceId}
+use Rattle.shred_world.specs.declared.world.World.{World}
+use Rattle.shred_world.specs.declared.world.entry.Entry.{Entry}
+use Rattle.shred_world.specs.Lent.{LendsGotOk}
+
+-- the world that an entry is lent
+abbrev pub lent_world : {V R : Type 0} → Entry V R → MutBor (World V)
+lent_world e = e.world
+
+-- what that world is now
+abbrev pub entry_world : {V R : Type 0} → Entry V R → World V
+entry_world e = e.world.now
+
+-- the entry's world ends with the resource last written under the id, and all else as it was
+abbrev pub LendsEntry : (V R : RattleType) → (V.Denot → Kind) → (R.Denot → V.Denot) → Entry V.Denot R.Denot → ResourceId → {E : Type 0} → Result (MutBor R.Denot) E → Fml
+LendsEntry V R kind wrapped e id r = LendsGotOk V R kind wrapped (lent_world e) id r

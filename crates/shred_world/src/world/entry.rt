@@ -1,0 +1,63 @@
+//! The place of one resource in a world, which may be filled.
+ghost use Rattle.std.specs.Prelude.{◌≡◌, None, IfOk, IfErr};
+ghost use Rattle.std.specs.Borrow.{sem};
+
+use crate::id::ResourceId;
+use crate::resource::{Resource, ResourceValue};
+use crate::world::fetch::FetchMut;
+use crate::world::{World, WorldError};
+use std::marker::PhantomData;
+
+/// The place of the resource of type `R` and number 0.
+#[derive(Drop)]
+pub struct Entry<'a, V, R> {
+    world: &'a mut World<V>,
+    resource: PhantomData<R>,
+}
+
+impl<'a, V: ResourceValue, R: Resource<V>> Entry<'a, V, R> {
+    ghost use Rattle.shred_world.specs.Entries.{lent_world, entry_world, LendsEntry};
+    ghost use Rattle.shred_world.specs.Id.{id_of};
+    ghost use Rattle.shred_world.specs.Worlds.{world_held, IsKeptOrMade};
+
+    // The place in this world.
+    pub(crate) fn over(world: &'a mut World<V>) -> Self
+        ensures name { (lent_world result).ghost_name ≡ world.entry.ghost_name }
+        ensures shown { entry_world result ≡ world.old }
+    {
+        Entry {
+            world,
+            resource: PhantomData,
+        }
+    }
+
+    /// The resource that is held, or else this one, which is then held.
+    pub fn or_insert(self, resource: R) -> Result<FetchMut<'a, R>, WorldError>
+    where
+        V: Drop,
+        R: Drop,
+        ensures shown { IfOk result (λ r. IsKeptOrMade R.wrapped (world_held V.kind_of (entry_world self.entry) (id_of R.KIND 0)) (λ made. made ≡ resource) r.now) }
+        ensures out_of_memory { IfErr result (λ e. (e ≡ WorldError.OutOfMemory) × (world_held V.kind_of (entry_world self.entry) (id_of R.KIND 0) ≡ None)) }
+        ensures* written { sem 𝓛 (LendsEntry V.row R.row V.kind_of R.wrapped self.entry (id_of R.KIND 0) result) }
+    {
+        self.or_insert_with(move || resource)
+    }
+
+    /// The resource that is held, or else the one that the closure gives, which is then held. The closure is called only
+    /// where none is held, and after room is made.
+    pub fn or_insert_with<F: FnOnce() -> R>(self, make: F) -> Result<FetchMut<'a, R>, WorldError>
+    where
+        V: Drop,
+        F: Drop,
+        requires callable { world_held V.kind_of (entry_world self) (id_of R.KIND 0) ≡ None → F.pre make }
+        ensures shown { IfOk result (λ r. IsKeptOrMade R.wrapped (world_held V.kind_of (entry_world self.entry) (id_of R.KIND 0)) (F.post make) r.now) }
+        ensures out_of_memory { IfErr result (λ e. (e ≡ WorldError.OutOfMemory) × (world_held V.kind_of (entry_world self.entry) (id_of R.KIND 0) ≡ None)) }
+        ensures* written { sem 𝓛 (LendsEntry V.row R.row V.kind_of R.wrapped self.entry (id_of R.KIND 0) result) }
+    {
+        let Entry { world, resource: _ } = self;
+        if let Err(error) = world.fill(ResourceId::new::<V, R>(), make) {
+            return Err(error);
+        }
+        world.fetch_mut()
+    }
+}

@@ -1,0 +1,31 @@
+-- Numbers that do not fit.
+use Rattle.std.proofs.Common.{◌≡◌, ℤ, pos, negsuc, ◌^◌, ◌<◌, Bool, true, false, cond, nat_lt, Option, Some, None, Ok, Err, ok_or, FitsSigned, w64, refl, sym, ◌∙◌, ap, arith}
+use Rattle.std.proofs.lemmas.Int.{ints}
+use Rattle.std.proofs.lemmas.Bool.Decides.{nat_tests}
+use Rattle.shred.specs.declared.system.Fault.TheVariants.{Refused}
+use Rattle.shredscript.specs.declared.outcome.Refusal.TheVariants.{Overflow, Undeclared}
+use Rattle.shredscript.specs.declared.step.Operation.{Operation}
+use Rattle.shredscript.specs.Change.{fits, fitted, combined}
+use Rattle.shredscript.specs.Operation.{value_of}
+
+-- the test of a number that does not fit
+pub fits-false : (z : ℤ) → ¬ FitsSigned w64 z → fits z ≡ false
+fits-false (pos n) out = told (nat_lt n (2 ^ 63)) refl where
+  told : (b : Bool) → nat_lt n (2 ^ 63) ≡ b → b ≡ false
+  told true e = absurd (out (let lt : n < 2 ^ 63 = grind (arith, nat_tests) in omega (arith, ints)))
+  told false e = refl
+fits-false (negsuc n) out = told (nat_lt n (2 ^ 63)) refl where
+  told : (b : Bool) → nat_lt n (2 ^ 63) ≡ b → b ≡ false
+  told true e = absurd (out (let lt : n < 2 ^ 63 = grind (arith, nat_tests) in omega (arith, ints)))
+  told false e = refl
+
+-- what does not fit is refused
+pub combined-overflow : (operation : Operation) (value operand : ℤ) (o p : Option ℤ) → Ok value ≡ ok_or o (Refused Undeclared) → Ok operand ≡ ok_or p (Refused Undeclared) → ¬ FitsSigned w64 (value_of operation value operand)
+    → Err (Refused Overflow) ≡ combined operation o p
+combined-overflow operation value operand (Some x) (Some y) e f out =
+    let a : value ≡ x = cc in
+    let b : operand ≡ y = cc in
+    let unfit : fits (value_of operation value operand) ≡ false = fits-false (value_of operation value operand) out in
+    sym (ap (λ t. cond t (Ok (value_of operation value operand)) (Err (Refused Overflow))) unfit) ∙ (λ i. fitted (value_of operation (a i) (b i)))
+combined-overflow operation value operand (Some x) None e f out = absurd (cc)
+combined-overflow operation value operand None p e f out = absurd (cc)

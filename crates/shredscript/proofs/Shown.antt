@@ -1,0 +1,34 @@
+-- The values that a view shows, as they are read and written.
+use Rattle.std.proofs.Common.{◌≡◌, Bool, true, false, cond, ◌&&◌, ◌||◌, Some, None, refl, sym, ◌∙◌, ap}
+use Rattle.std.proofs.Math.Path.{fun_ext}
+use Rattle.shred_world.specs.declared.id.ResourceId.{ResourceId}
+use Rattle.shred_world.specs.declared.world.data.View.{View}
+use Rattle.shred_world.specs.Id.{same_id}
+use Rattle.shred_world.specs.Slots.{among, with_at}
+use Rattle.shred_world.specs.Views.{may_read, may_write, view_held, IsSameView}
+use Rattle.shred_world.proofs.Slots.{same_id-true}
+use Rattle.shredscript.specs.declared.value.Value.{Value}
+use Rattle.shredscript.specs.Place.{shown}
+use Rattle.shredscript.specs.Value.{kind_of}
+
+-- what an id may do is the same in the same view
+pub may_write-same : (old new : View Value) → IsSameView old new → (id : ResourceId) → may_write new id ≡ may_write old id
+may_write-same old new same id i = among (same.writes i) id && among (same.owned i) id
+
+pub may_read-same : (old new : View Value) → IsSameView old new → (id : ResourceId) → may_read new id ≡ may_read old id
+may_read-same old new same id i = among (same.reads i) id || (among (same.writes i) id && among (same.owned i) id)
+
+or_true : (t : Bool) → (t || true) ≡ true
+or_true true = refl
+or_true false = refl
+
+readable : (view : View Value) (id : ResourceId) → may_write view id ≡ true → may_read view id ≡ true
+readable view id h = ap (λ t. among view.reads.now id || t) h ∙ or_true (among view.reads.now id)
+
+-- what is shown after a value was written under an id that may be written
+pub shown-written : (old new : View Value) (id : ResourceId) (v : Value) → IsSameView old new → may_write old id ≡ true
+    → ((q : ResourceId) → view_held kind_of new q ≡ with_at (view_held kind_of old) id (Some v) q) → shown new ≡ with_at (shown old) id (Some v)
+shown-written old new id v same may held = fun_ext (λ q. (λ i. cond (may_read-same old new same q i) (held q i) None) ∙ told q (same_id id q) refl) where
+  told : (q : ResourceId) (b : Bool) → same_id id q ≡ b → cond (may_read old q) (cond b (Some v) (view_held kind_of old q)) None ≡ cond b (Some v) (shown old q)
+  told q true e = ap (λ t. cond t (Some v) None) (ap (may_read old) (sym (same_id-true id q e)) ∙ readable old id may)
+  told q false e = refl

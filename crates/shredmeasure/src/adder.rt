@@ -1,0 +1,101 @@
+//! The system that is dispatched.
+ghost use Rattle.std.specs.Prelude.{◌≡◌, [], ◌∷◌, IfOk};
+ghost use Rattle.shred_world.specs.Id.{id_of};
+ghost use Rattle.shred.specs.declared.system.RunningTime.TheVariants.{Average};
+
+use shred::{
+    Accessor, DataError, Fault, Kind, OutOfMemory, ResourceId, RunningTime, System, View, World,
+};
+use shredexample::{Count, Value};
+use std::alloc::Global;
+
+/// The id of the count of this number.
+pub(crate) fn count_id(number: u64) -> ResourceId
+    ensures { result ≡ id_of (record { 0 = 0 }) number }
+{
+    ResourceId::from_type_id_and_dynamic_id(Kind(0), number)
+}
+
+/// Adds 1 to the count of its number, and reads the count of number 0.
+#[derive(Drop)]
+pub(crate) struct AddOne {
+    pub(crate) number: u64,
+    pub(crate) alloc: Global,
+}
+
+/// The ids of one such system.
+#[derive(Drop)]
+pub(crate) struct OneOfEach {
+    number: u64,
+    alloc: Global,
+}
+
+fn one(alloc: Global, number: u64) -> Result<Vec<ResourceId>, OutOfMemory>
+    ensures { IfOk result (λ ids. ids.items ≡ id_of (record { 0 = 0 }) number ∷ []) }
+{
+    match Vec::from_slice(alloc, &[count_id(number)]) {
+        Ok(ids) => Ok(ids),
+        Err(_) => Err(OutOfMemory),
+    }
+}
+
+impl Accessor for OneOfEach {
+    ghost reads = { λ accessor. id_of (record { 0 = 0 }) 0 ∷ [] };
+
+    ghost writes = { λ accessor. id_of (record { 0 = 0 }) accessor.number ∷ [] };
+
+    fn reads(&self) -> Result<Vec<ResourceId>, OutOfMemory> {
+        one(self.alloc, 0)
+    }
+
+    fn writes(&self) -> Result<Vec<ResourceId>, OutOfMemory> {
+        one(self.alloc, self.number)
+    }
+}
+
+impl System<Value> for AddOne {
+    type Error = DataError;
+
+    type Accessor = OneOfEach;
+
+    ghost reads = { λ system. id_of (record { 0 = 0 }) 0 ∷ [] };
+
+    ghost writes = { λ system. id_of (record { 0 = 0 }) system.number ∷ [] };
+
+    ghost time = { λ system. Average };
+
+    ghost step = { λ _ _ _ _ _. Unit {0} };
+
+    ghost sets_up = { λ _ _ _ _ _. Unit {0} };
+
+    ghost disposes = { λ _ _ _ _. Unit {0} };
+
+    fn run(&mut self, view: &mut View<Value>) -> Result<(), Fault<DataError>> {
+        match view.write::<Count>(count_id(self.number)) {
+            Ok(count) => {
+                *count = Count(count.0.wrapping_add(1));
+                Ok(())
+            }
+            Err(error) => Err(Fault::from(error)),
+        }
+    }
+
+    fn running_time(&self) -> RunningTime {
+        RunningTime::Average
+    }
+
+    fn accessor(&self) -> Result<OneOfEach, OutOfMemory> {
+        Ok(OneOfEach {
+            number: self.number,
+            alloc: self.alloc,
+        })
+    }
+
+    fn setup(&mut self, _world: &mut World<Value>) -> Result<(), Fault<DataError>> {
+        Ok(())
+    }
+
+    fn dispose(self, _world: &mut World<Value>) -> Result<(), Fault<DataError>> {
+        Ok(())
+    }
+}

@@ -10,6 +10,7 @@ pub mod Left
 pub mod Membership
 pub mod Orders
 pub mod PlanKeeps
+pub mod PlanTurns
 pub mod Pushed
 pub mod Searching
 pub mod Spots

@@ -1,10 +1,10 @@
 use Rattle.std.proofs.Common.{◌∙◌, get_or, Ok, Err, refl, arith}
 use Rattle.std.proofs.Math.Seq.{map-set_same}
-use Rattle.shred_model.proofs.Ran.{Ran-as, Ran-of_one_thread}
 use Rattle.shred_model.proofs.UpToFault.{SoFar-start, SoFar-more, SoFar-fault, SoFar-end}
 use Rattle.shred_world.specs.Worlds.{world_held}
-use Rattle.shred.specs.Plans.{StageTurn, PlanTurn, stage_states}
+use Rattle.shred.specs.Plans.{PlanTurn, stage_states}
 use Rattle.shred.specs.StagePlan.{stage_plan}
+use Rattle.shred.proofs.PlanTurns.{turn-ran}
 use Rattle.shred.proofs.dispatch.dispatcher.fork_stages.Goals as goal
 
 pub loop-place-init : goal.loop-place-init
@@ -13,11 +13,9 @@ loop-place-init g c = record { plan = refl; kinds = λ id. refl; ran = SoFar-sta
 pub returns-in-Err-clause-ran : goal.returns-in-Err-clause-ran
 returns-in-Err-clause-ran g c =
     let kind = g.V.ResourceValue.kind_of in
-    let turn = StageTurn kind g.S.System.step (stage_plan (get_or c.loop-place.stages c.loop-place.place c.index-stages-place.result)) in
     SoFar-fault (PlanTurn kind g.S.System.step) stage_plan stage_states c.loop-place.stages (world_held kind c.loop-place.world)
     c.loop-place.invariant.plan c.loop-place.invariant.ran c.index-stages-place.result c.execute.new.self (world_held kind c.execute.new.world) (omega arith) c.at_stage.result
-    (Ran-as turn _ (Err c.in-Err.fault) _ (PlanTurn kind g.S.System.step c.loop-place.place (stage_plan (get_or c.loop-place.stages c.loop-place.place c.index-stages-place.result))) (Err c.at_stage.result) (λ list run. (Err c.in-Err.fault, run, c.at_stage.ensures))
-    (Ran-of_one_thread turn _ (Err c.in-Err.fault) _ c.in-Err.ensures.ran))
+    (turn-ran kind g.S.System.step c.loop-place.place (stage_plan (get_or c.loop-place.stages c.loop-place.place c.index-stages-place.result)) _ _ (Err c.in-Err.fault) (Err c.at_stage.result) c.at_stage.ensures c.in-Err.ensures.ran)
 
 pub returns-in-Err-clause-plan : goal.returns-in-Err-clause-plan
 returns-in-Err-clause-plan g c = map-set_same stage_plan c.loop-place.stages c.loop-place.place c.execute.new.self c.index-stages-place.result c.in-Err.ensures.plan ∙ c.loop-place.invariant.plan
@@ -28,14 +26,12 @@ returns-in-Err-clause-kinds g c = λ id. c.in-Err.ensures.kinds id ∙ c.loop-pl
 pub loop-place-preserved : goal.loop-place-preserved
 loop-place-preserved g c =
     let kind = g.V.ResourceValue.kind_of in
-    let turn = StageTurn kind g.S.System.step (stage_plan (get_or c.loop-place.stages c.loop-place.place c.index-stages-place.result)) in
     record {
       plan = map-set_same stage_plan c.loop-place.stages c.loop-place.place c.execute.new.self c.index-stages-place.result c.in_default.ensures.plan ∙ c.loop-place.invariant.plan;
       kinds = λ id. c.in_default.ensures.kinds id ∙ c.loop-place.invariant.kinds id;
       ran = SoFar-more (PlanTurn kind g.S.System.step) stage_plan stage_states c.loop-place.stages (world_held kind c.loop-place.world)
           c.loop-place.invariant.plan c.loop-place.invariant.ran c.index-stages-place.result c.execute.new.self (world_held kind c.execute.new.world) (omega arith)
-          (Ran-as turn _ (Ok tt) _ (PlanTurn kind g.S.System.step c.loop-place.place (stage_plan (get_or c.loop-place.stages c.loop-place.place c.index-stages-place.result))) (Ok tt) (λ list run. (Ok tt, run, refl))
-          (Ran-of_one_thread turn _ (Ok tt) _ c.in_default.ensures.ran));
+          (turn-ran kind g.S.System.step c.loop-place.place (stage_plan (get_or c.loop-place.stages c.loop-place.place c.index-stages-place.result)) _ _ (Ok tt) (Ok tt) refl c.in_default.ensures.ran);
     }
 
 pub returns-clause-ran : goal.returns-clause-ran

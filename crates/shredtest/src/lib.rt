@@ -2,6 +2,8 @@
 #![tactic(auto)]
 
 #[cfg(test)]
+mod both_ways;
+#[cfg(test)]
 mod gate;
 pub mod parted;
 pub mod plain_plan;

@@ -1,9 +1,11 @@
 -- Worlds: finite maps from ids to values of their id's kind.
-use Rattle.std.specs.Prelude.{◌≡◌, false, List, Option, Some, None, MatchOption}
+use Rattle.std.specs.Prelude.{◌≡◌, false, List, Option, Some, None, MatchOption, Result, Ok, Err}
 use Rattle.shred_world.specs.declared.id.Kind.{Kind}
 use Rattle.shred_world.specs.declared.id.ResourceId.{ResourceId}
 use Rattle.shred_world.specs.declared.table.Table.{Table}
 use Rattle.shred_world.specs.declared.world.World.{World}
+use Rattle.shred_world.specs.declared.world.WorldError.{WorldError}
+use Rattle.shred_world.specs.declared.world.WorldError.TheVariants.{OutOfMemory}
 use Rattle.shred_world.specs.Slots.{among, held, with_at}
 
 -- the table behind a world
@@ -27,3 +29,8 @@ abbrev pub IsFilled : {V R : Type 0} → (R → V) → (R → Type 0) → Resour
 IsFilled {V} {R} wrapped Made id before after = MatchOption (before id)
     ((r : R) × Made r × ((q : ResourceId) → after q ≡ with_at before id (Some (wrapped r)) q))
     (λ v. (q : ResourceId) → after q ≡ before q)
+
+-- The answer is Ok and the map is filled; or memory is wanting, which comes only where the map before holds nothing at the id, and the map is as before.
+abbrev pub IsProvided : {V R : Type 0} → (R → V) → (R → Type 0) → ResourceId → (ResourceId → Option V) → Result (Unit {0}) WorldError → (ResourceId → Option V) → Type 0
+IsProvided wrapped Made id before (Ok done) after = IsFilled wrapped Made id before after
+IsProvided wrapped Made id before (Err error) after = (error ≡ OutOfMemory) × (before id ≡ None) × ((q : ResourceId) → after q ≡ before q)

@@ -172,17 +172,18 @@ impl<'s, 'a, V: ResourceValue> View<'s, 'a, V> {
         Ok(resource)
     }
 
-    /// The view of fewer ids, which all lie in this view's own.
+    /// The view of fewer ids, which all lie in this view's own, while nothing of this view is out.
     pub fn narrow<'b>(
         &'b mut self,
         reads: &'b [ResourceId],
         writes: &'b [ResourceId],
     ) -> View<'b, 'b, V>
+        requires nothing_out { (id : ResourceId) → is_out self.old id ≡ false }
         requires reads_within { (id : ResourceId) → IsTrue (among reads.now id) → IsTrue (may_read self.old id) }
         requires writes_within { (id : ResourceId) → IsTrue (among writes.now id) → IsTrue (may_write self.old id) }
         ensures reads { (id : ResourceId) → may_read result id ≡ (among reads.now id || among writes.now id) }
         ensures writes { (id : ResourceId) → may_write result id ≡ among writes.now id }
-        ensures out { (id : ResourceId) → is_out result id ≡ (among writes.now id && is_out self.old id) }
+        ensures nothing_out { (id : ResourceId) → is_out result id ≡ false }
         ensures shown { (id : ResourceId) → view_held V.kind_of result id ≡ view_held V.kind_of self.old id }
         ensures own { table_in result ≡ table_in self.old }
         ensures owned { owned_ids result ≡ owned_ids self.old }
@@ -193,7 +194,7 @@ impl<'s, 'a, V: ResourceValue> View<'s, 'a, V> {
             reads,
             writes,
             owned: self.owned,
-            out: self.out,
+            out: &[],
             shelf: self.shelf,
             own: &mut *self.own,
         }
@@ -217,11 +218,12 @@ impl<'s, 'a, V> View<'s, 'a, V> {
         ensures nothing_out { (id : ResourceId) → is_out result id ≡ false }
         ensures shelf { result.shelf.now ≡ shelf.now }
     {
+        let out = &[];
         View {
             reads,
             writes,
             owned: writes,
-            out: &[],
+            out,
             shelf,
             own,
         }

@@ -1,8 +1,9 @@
 //! What sets up a world for a resource.
-ghost use Rattle.std.specs.Prelude.{◌≡◌, Option, None, OnOk, OnErr, IfErr, IsOk};
+ghost use Rattle.std.specs.Prelude.{◌≡◌, Option, Result, Ok};
+ghost use Rattle.shred_world.specs.declared.world.WorldError.{WorldError};
 ghost use Rattle.shred_world.specs.declared.id.ResourceId.{ResourceId};
 ghost use Rattle.shred_world.specs.Id.{id_of};
-ghost use Rattle.shred_world.specs.Worlds.{world_held, IsFilled};
+ghost use Rattle.shred_world.specs.Worlds.{world_held, IsProvided};
 
 use crate::id::ResourceId;
 use crate::resource::{Resource, ResourceValue};
@@ -10,12 +11,11 @@ use crate::world::{World, WorldError};
 
 /// Sets up a world for a resource of type `R`.
 pub trait SetupHandler<V: ResourceValue, R: Resource<V>> {
-    ghost sets_up: { (ResourceId → Option V) → (ResourceId → Option V) → Type 0 };
+    ghost sets_up: { (ResourceId → Option V) → Result (Unit {0}) WorldError → (ResourceId → Option V) → Type 0 };
 
     /// What is done once, before the resource is asked for.
     fn setup(world: &mut World<V>) -> Result<(), WorldError>
-        ensures ok { OnOk result (sets_up (world_held V.kind_of world.old) (world_held V.kind_of world.new)) }
-        ensures err { OnErr result ((q : ResourceId) → world_held V.kind_of world.new q ≡ world_held V.kind_of world.old q) };
+        ensures { sets_up (world_held V.kind_of world.old) result (world_held V.kind_of world.new) };
 }
 
 /// Holds the default resource, where none is held.
@@ -25,25 +25,17 @@ pub struct DefaultProvider;
 pub struct PanicHandler;
 
 impl<V: ResourceValue + Drop, R: Resource<V> + Default> SetupHandler<V, R> for DefaultProvider {
-    ghost sets_up = { λ before after. IsFilled R.wrapped R.is_default (id_of R.KIND 0) before after };
+    ghost sets_up = { λ before answer after. IsProvided R.wrapped R.is_default (id_of R.KIND 0) before answer after };
 
-    fn setup(world: &mut World<V>) -> Result<(), WorldError>
-        ensures ok { OnOk result (IsFilled R.wrapped R.is_default (id_of R.KIND 0) (world_held V.kind_of world.old) (world_held V.kind_of world.new)) }
-        ensures err { OnErr result ((q : ResourceId) → world_held V.kind_of world.new q ≡ world_held V.kind_of world.old q) }
-        ensures out_of_memory { IfErr result (λ e. (e ≡ WorldError.OutOfMemory) × (world_held V.kind_of world.old (id_of R.KIND 0) ≡ None)) }
-    {
+    fn setup(world: &mut World<V>) -> Result<(), WorldError> {
         world.fill(ResourceId::new::<V, R>(), || R::default())
     }
 }
 
 impl<V: ResourceValue, R: Resource<V>> SetupHandler<V, R> for PanicHandler {
-    ghost sets_up = { λ before after. (q : ResourceId) → after q ≡ before q };
+    ghost sets_up = { λ before answer after. (answer ≡ Ok tt) × ((q : ResourceId) → after q ≡ before q) };
 
-    fn setup(_world: &mut World<V>) -> Result<(), WorldError>
-        ensures never_refused { IsOk result }
-        ensures ok { OnOk result ((q : ResourceId) → world_held V.kind_of _world.new q ≡ world_held V.kind_of _world.old q) }
-        ensures err { OnErr result ((q : ResourceId) → world_held V.kind_of _world.new q ≡ world_held V.kind_of _world.old q) }
-    {
+    fn setup(_world: &mut World<V>) -> Result<(), WorldError> {
         Ok(())
     }
 }

@@ -13,10 +13,10 @@ use Rattle.shred.specs.PlanOf.{numbers_of}
 use Rattle.shred.specs.Search.{share_item}
 use Rattle.shred.proofs.Membership.{list_any-map, list_any_agree}
 
-eqb-refl_at : (x y : ℕ) → y ≡ x → (x == y) ≡ true
+pub eqb-refl_at : (x y : ℕ) → y ≡ x → (x == y) ≡ true
 eqb-refl_at x y e = grind (arith, nat_tests)
 
-eqb_other : (x y : ℕ) → y ≢ x → (x == y) ≡ false
+pub eqb_other : (x y : ℕ) → y ≢ x → (x == y) ≡ false
 eqb_other x y e = grind (arith, nat_tests)
 
 pub share_item-numbers_of : (xs ys : List SystemId) (ns : List ℕ) → numbers_of xs ≡ ns → list_any (λ x. list_any (λ y. nat_eq y.0 x.0) ys) xs ≡ share_item nat_eq ns (numbers_of ys)

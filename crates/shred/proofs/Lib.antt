@@ -1,11 +1,13 @@
 pub mod Alone
 pub mod Added
 pub mod Apart
+pub mod Appended
 pub mod EntriesAt
 pub mod Hands
 pub mod Ids
 pub mod OwnSlots
 pub mod KeptLists
+pub mod Earlier
 pub mod Left
 pub mod Membership
 pub mod Orders

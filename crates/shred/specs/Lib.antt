@@ -5,12 +5,14 @@ pub mod StagePlan
 pub mod Soundness
 pub mod Placement
 pub mod Search
+pub mod Earlier
 pub mod Kept
 pub mod Hands
 pub mod OwnLists
 pub mod OwnSlots
 pub mod Lanes
 pub mod BuilderPlan
+pub mod Sides
 pub mod Steps
 pub mod Entries
 pub mod Plans

@@ -5,8 +5,10 @@ ghost use Rattle.shred_world.specs.Id.{same_id};
 ghost use Rattle.shred.specs.Hands.{KeepsRoom};
 ghost use Rattle.shred.specs.PlanOf.{access_of, entry_plan, group_plan, numbers_of, KeepsIds};
 ghost use Rattle.shred.specs.Placement.{difference, without};
+ghost use Rattle.shred.specs.Sides.{side_of, group_side};
 ghost use Rattle.shred.specs.Search.{share_item, accesses_conflict, group_conflicts, holds_any, is_touched};
 
+use crate::dispatch::side::Side;
 use crate::system::{RunningTime, System};
 use arrayvec::ArrayVec;
 use shred_world::{OutOfMemory, ResourceId, Table, check_intersection};
@@ -51,6 +53,16 @@ fn shares_resource(first: &Vec<ResourceId>, second: &Vec<ResourceId>) -> bool
 }
 
 impl<S> Entry<S> {
+    /// One of the two kept lists.
+    fn side(&self, side: Side) -> &[ResourceId]
+        ensures { result.now ≡ side_of side (access_of self.now) }
+    {
+        match side {
+            Side::Reads => self.reads.as_slice(),
+            Side::Writes => self.writes.as_slice(),
+        }
+    }
+
     /// Whether one entry writes what the other reads or writes.
     pub(crate) fn conflicts(&self, other: &Entry<S>) -> bool
         ensures { result ≡ accesses_conflict same_id (access_of self.now) (access_of other.now) }
@@ -162,6 +174,18 @@ impl<V, S> Group<V, S> {
                 Err(OutOfMemory)
             }
         }
+    }
+
+    /// Puts the ids of one side of the entries' accesses at the list's end.
+    pub(crate) fn append_to(&self, side: Side, ids: &mut Vec<ResourceId>) -> Result<(), OutOfMemory>
+        ensures { OnOk result (ids.new.items ≡ ids.old.items ++ group_side side (group_plan self.now)) }
+    {
+        for entry in &self.entries {
+            if ids.extend_from_slice(entry.side(side)).is_err() {
+                return Err(OutOfMemory);
+            }
+        }
+        Ok(())
     }
 
     /// Takes out of the list, for each of the group's ids, one that equals it.

@@ -6,6 +6,7 @@ pub mod entry;
 pub mod fork;
 pub mod hands;
 pub mod run;
+pub mod side;
 pub mod sorted;
 pub mod spot;
 pub mod stage;

@@ -9,14 +9,16 @@ ghost use Rattle.shred.specs.Hands.{KeepsRoom};
 ghost use Rattle.shred.specs.OwnLists.{IsOwnEntry, IsOwnGroup};
 ghost use Rattle.shred.specs.PlanOf.{access_of, entry_plan, group_plan, groups_plan, numbers_of, KeepsIds};
 ghost use Rattle.shred.specs.Search.{is_touched, may_end, OthersDoNotConflict, SpotIs, TouchedIs};
+ghost use Rattle.shred.specs.Sides.{stage_side};
 ghost use Rattle.shred.specs.Soundness.{IsSmallGroup};
 
 use crate::dispatch::beside::fork_stage;
 use crate::dispatch::entry::{Entry, Group, SystemId};
 use crate::dispatch::run::{StageFault, run_stage};
+use crate::dispatch::side::Side;
 use crate::dispatch::spot::{Spot, Touched};
 use crate::system::System;
-use shred_world::{OutOfMemory, ResourceValue, World};
+use shred_world::{OutOfMemory, ResourceId, ResourceValue, World};
 use smallvec::SmallVec;
 use std::alloc::Global;
 use std::thread::Threads;
@@ -138,6 +140,18 @@ impl<V: ResourceValue, S: System<V>> Stage<V, S> {
             }
             group.take_ids(left);
         }
+    }
+
+    /// Puts the ids of one side of the systems' accesses at the list's end.
+    pub(crate) fn append_to(&self, side: Side, ids: &mut Vec<ResourceId>) -> Result<(), OutOfMemory>
+        ensures { OnOk result (ids.new.items ≡ ids.old.items ++ stage_side side (stage_plan self.now)) }
+    {
+        for group in &self.groups {
+            if let Err(e) = group.append_to(side, ids) {
+                return Err(e);
+            }
+        }
+        Ok(())
     }
 
     /// Gives the entry a new last group.

@@ -1,22 +1,27 @@
 //! The planner: it gives each new system a place in the plan.
-ghost use Rattle.std.specs.Prelude.{◌≡◌, ◌<◌, ◌≤◌, ℕ, length, [], ◌∷◌, ◌++◌, slice_index_or, slice_set, All, IfOk, OnOk, OnErr};
+ghost use Rattle.std.specs.Prelude.{◌≡◌, ◌↔◌, ◌<◌, ◌≤◌, ℕ, length, [], ◌∷◌, ◌++◌, slice_index_or, slice_set, All, AllPairs, Contains, IfOk, OnOk, OnErr};
+ghost use Rattle.std.specs.List.{flat_map};
+ghost use Rattle.shred_world.specs.Id.{IsBefore};
 ghost use Rattle.shred_world.specs.declared.id.ResourceId.{ResourceId};
 ghost use Rattle.shred_model.specs.Plan as model;
 ghost use Rattle.shred_model.specs.Access.{Conflicts};
 ghost use Rattle.shred_model.specs.Plan.{group_access, plan_ids};
+ghost use Rattle.shred.specs.Earlier.{IsFromBarrier, ComesAfter, AllBeforeBarrier};
 ghost use Rattle.shred.specs.Kept.{IsKept};
 ghost use Rattle.shred.specs.Placement.{IsPlaced};
 ghost use Rattle.shred.specs.OwnLists.{IsOwnEntry};
 ghost use Rattle.shred.specs.PlanOf.{access_of, entry_plan, numbers_of};
 ghost use Rattle.shred.specs.Search.{OthersDoNotConflict, PlaceIs};
+ghost use Rattle.shred.specs.Sides.{stage_side, plan_reads, plan_writes};
 ghost use Rattle.shred.specs.StagePlan.{plan_of};
 
 use crate::dispatch::entry::{Entry, SystemId};
+use crate::dispatch::side::Side;
 use crate::dispatch::sorted::sort_without_doubles;
 use crate::dispatch::spot::Spot;
 use crate::dispatch::stage::Stage;
 use crate::system::System;
-use shred_world::{Accessor, OutOfMemory, ResourceValue};
+use shred_world::{Accessor, OutOfMemory, ResourceId, ResourceValue};
 use smallvec::SmallVec;
 use std::alloc::Global;
 
@@ -68,7 +73,8 @@ impl<V: ResourceValue, S: System<V>> StagesBuilder<V, S> {
         self.stages
     }
 
-    /// Gives the system its place in the plan. Where memory is refused, the system is dropped.
+    /// Gives the system its place in the plan, in the barrier's stage or a later one. Each dependency that the plan has
+    /// stands in an earlier stage, or earlier in the same group. Where memory is refused, the system is dropped.
     pub fn insert(
         &mut self,
         dependencies: &[SystemId],
@@ -78,10 +84,10 @@ impl<V: ResourceValue, S: System<V>> StagesBuilder<V, S> {
     where
         V: Drop,
         S: Drop,
-        requires no_dependencies { dependencies.now ≡ [] }
         ensures placed { OnOk result ((entry : model.Entry ResourceId) × IsKept id.0 (S.reads system) (S.writes system) (S.time system) entry
             × IsPlaced (planned self.old) (barrier_of self.old) (barrier_of self.old) (numbers_of dependencies.now) entry (planned self.new)
-            × IsAdded (planned self.old) (planned self.new) (builder_states self.old) (builder_states self.new) entry system) }
+            × (added : IsAdded (planned self.old) (planned self.new) (builder_states self.old) (builder_states self.new) entry system)
+            × IsFromBarrier (barrier_of self.old) added.place × ComesAfter (planned self.old) (numbers_of dependencies.now) added.place) }
         ensures err { OnErr result (planned self.new ≡ planned self.old) }
         ensures states { OnErr result ((path : Agent) → builder_states self.new path ≡ builder_states self.old path) }
         ensures barrier { barrier_of self.new ≡ barrier_of self.old }
@@ -91,6 +97,59 @@ impl<V: ResourceValue, S: System<V>> StagesBuilder<V, S> {
             Ok(entry) => self.place(start, dependencies, entry),
             Err(e) => Err(e),
         }
+    }
+
+    /// Sets the barrier to the number of stages: what is inserted from now on stands after all that is there.
+    pub fn add_barrier(&mut self)
+        ensures plan { planned self.new ≡ planned self.old }
+        ensures states { (path : Agent) → builder_states self.new path ≡ builder_states self.old path }
+        ensures barrier { barrier_of self.new ≡ length (planned self.old) }
+        ensures all_before { AllBeforeBarrier (planned self.new) (barrier_of self.new) }
+    {
+        self.barrier = self.stages.len();
+    }
+
+    /// The ids that the systems read, in order, each once.
+    pub fn fetch_all_reads(&self) -> Result<Vec<ResourceId>, OutOfMemory>
+        ensures in_order { IfOk result (λ ids. AllPairs IsBefore ids.items) }
+        ensures same { IfOk result (λ ids. (i : ResourceId) → Contains ids.items i ↔ Contains (plan_reads (planned self.now)) i) }
+    {
+        self.fetch_all(Side::Reads)
+    }
+
+    /// The ids that the systems write, in order, each once.
+    pub fn fetch_all_writes(&self) -> Result<Vec<ResourceId>, OutOfMemory>
+        ensures in_order { IfOk result (λ ids. AllPairs IsBefore ids.items) }
+        ensures same { IfOk result (λ ids. (i : ResourceId) → Contains ids.items i ↔ Contains (plan_writes (planned self.now)) i) }
+    {
+        self.fetch_all(Side::Writes)
+    }
+
+    /// The ids of one side of all systems' accesses, in order, each once.
+    fn fetch_all(&self, side: Side) -> Result<Vec<ResourceId>, OutOfMemory>
+        ensures in_order { IfOk result (λ ids. AllPairs IsBefore ids.items) }
+        ensures same { IfOk result (λ ids. (i : ResourceId) → Contains ids.items i ↔ Contains (flat_map (stage_side side) (planned self.now)) i) }
+    {
+        let mut ids = Vec::new(*self.stages.allocator());
+        match self.append_to(side, &mut ids) {
+            Ok(()) => {
+                sort_without_doubles(&mut ids);
+                Ok(ids)
+            }
+            Err(e) => Err(e),
+        }
+    }
+
+    /// Puts the ids of one side of all systems' accesses at the list's end.
+    fn append_to(&self, side: Side, ids: &mut Vec<ResourceId>) -> Result<(), OutOfMemory>
+        ensures { OnOk result (ids.new.items ≡ ids.old.items ++ flat_map (stage_side side) (planned self.now)) }
+    {
+        for place in 0..self.stages.len() {
+            if let Err(e) = self.stages[place].append_to(side, ids) {
+                return Err(e);
+            }
+        }
+        Ok(())
     }
 
     /// Places the entry in a stage from `start` on.

@@ -6,3 +6,7 @@ pub mod Declares
 pub mod Change
 pub mod Steps
 pub mod Words
+pub mod Texts
+pub mod Endings
+pub mod Input
+pub mod Report

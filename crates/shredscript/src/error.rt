@@ -1,30 +1,47 @@
 //! Why a script is not run to its outcome.
 ghost use Rattle.std.specs.Prelude.{◌≡◌};
 ghost use Rattle.shredscript.specs.declared.error.ScriptError.TheVariants.{OutOfMemory as NoMemory};
+ghost use Rattle.shredscript.specs.Endings.{error_at, error_status};
 
 use shred::OutOfMemory;
 use std::alloc::AllocError;
+use std::error::Error as StdError;
+use std::fmt;
 use thiserror::Error;
 
 /// What is wrong with a line.
-#[derive(Clone, Copy, Debug, PartialEq, Eq, Error)]
+#[derive(Clone, Copy, Debug, PartialEq, Eq)]
 pub(crate) enum LineFault {
     /// The first word is none that begins a line, or a byte is not ASCII.
-    #[error("unknown line")]
     UnknownLine,
 
     /// A word does not fit, is missing or is one too many.
-    #[error("bad word")]
     BadWord,
 
     /// A step names a resource that no earlier line declares.
-    #[error("no such resource")]
     NoSuchResource,
 
     /// The resource is declared already.
-    #[error("resource twice")]
     ResourceTwice,
 }
+
+impl fmt::Display for LineFault {
+    ghost use Rattle.std.specs.Prelude.{Some};
+    ghost use Rattle.shredscript.specs.Texts.{fault_text};
+
+    ghost output = { λ fault. Some (fault_text fault) };
+
+    fn fmt<W: fmt::Write>(&self, f: &mut fmt::Formatter<W>) -> fmt::Result {
+        match self {
+            LineFault::UnknownLine => write!(f, "unknown line"),
+            LineFault::BadWord => write!(f, "bad word"),
+            LineFault::NoSuchResource => write!(f, "no such resource"),
+            LineFault::ResourceTwice => write!(f, "resource twice"),
+        }
+    }
+}
+
+impl StdError for LineFault {}
 
 /// Why a line is not taken up.
 #[derive(Debug, Drop, Error)]
@@ -36,18 +53,30 @@ pub(crate) enum LineError {
 }
 
 /// Why a script is not run to its outcome. Its text is what standard error tells.
-#[derive(Clone, Copy, Debug, PartialEq, Eq, Error)]
+#[derive(Clone, Copy, Debug, PartialEq, Eq)]
 pub(crate) enum ScriptError {
-    #[error("script too long")]
     TooLong,
-    #[error("input failed")]
     InputFailed,
-    #[error("line {line}: {fault}")]
     Line { line: usize, fault: LineFault },
-    #[error("out of memory")]
     OutOfMemory,
-    #[error("output failed")]
     OutputFailed,
+}
+
+impl fmt::Display for ScriptError {
+    ghost use Rattle.std.specs.Prelude.{Some};
+    ghost use Rattle.shredscript.specs.Texts.{error_text};
+
+    ghost output = { λ error. Some (error_text error) };
+
+    fn fmt<W: fmt::Write>(&self, f: &mut fmt::Formatter<W>) -> fmt::Result {
+        match self {
+            ScriptError::TooLong => write!(f, "script too long"),
+            ScriptError::InputFailed => write!(f, "input failed"),
+            ScriptError::Line { line, fault } => write!(f, "line {line}: {fault}"),
+            ScriptError::OutOfMemory => write!(f, "out of memory"),
+            ScriptError::OutputFailed => write!(f, "output failed"),
+        }
+    }
 }
 
 impl From<AllocError> for ScriptError {
@@ -68,7 +97,9 @@ impl From<OutOfMemory> for ScriptError {
 
 impl ScriptError {
     /// The error of the line with this number, counted from 1.
-    pub(crate) fn at(line: usize, error: LineError) -> ScriptError {
+    pub(crate) fn at(line: usize, error: LineError) -> ScriptError
+        ensures { result ≡ error_at line error }
+    {
         match error {
             LineError::Fault(fault) => ScriptError::Line { line, fault },
             LineError::Memory(_) => ScriptError::OutOfMemory,
@@ -76,7 +107,9 @@ impl ScriptError {
     }
 
     /// The exit status: 2 where memory is refused, else 1.
-    pub(crate) fn status(self) -> u8 {
+    pub(crate) fn status(self) -> u8
+        ensures { result ≡ error_status self }
+    {
         match self {
             ScriptError::OutOfMemory => 2,
             _ => 1,

@@ -1,5 +1,8 @@
 //! Reading a script, of bounded length.
-ghost use Rattle.std.specs.Prelude.{◌≤◌, IfOk, vec_len};
+ghost use Rattle.std.specs.Prelude.{◌≡◌, ◌≤◌, ◌<◌, ◌+◌, ◌++◌, ◌↔◌, length, vec_len, Err, IfOk, OnOk};
+ghost use Rattle.std.specs.Io.KnownBytes.{Consumes, IsAtEnd};
+ghost use Rattle.shredscript.specs.declared.error.ScriptError.TheVariants.{TooLong};
+ghost use Rattle.shredscript.specs.Input.{IsLongerThan};
 
 use crate::error::ScriptError;
 use std::alloc::Global;
@@ -12,7 +15,10 @@ const CHUNK_BYTES: usize = 8192;
 
 /// All that `reader` gives. Of a script that is too long and a read that fails, the first that is met is told.
 pub(crate) fn read_text<R: Read>(alloc: Global, reader: &mut R) -> Result<Vec<u8>, ScriptError>
-    ensures { IfOk result (λ text. vec_len text ≤ MOST_BYTES) }
+    ensures text { IfOk result (λ text. Consumes (R.remaining reader.old) (R.remaining reader.new) text.items) }
+    ensures end { OnOk result (IsAtEnd (R.remaining reader.new)) }
+    ensures length { IfOk result (λ text. vec_len text ≤ MOST_BYTES) }
+    ensures too_long { result ≡ Err TooLong → IsLongerThan MOST_BYTES (R.remaining reader.old) }
 {
     let mut text = Vec::new(alloc);
     let mut chunk = [0; CHUNK_BYTES];
@@ -29,7 +35,9 @@ pub(crate) fn read_text<R: Read>(alloc: Global, reader: &mut R) -> Result<Vec<u8
 
 fn append(text: &mut Vec<u8>, bytes: &[u8]) -> Result<(), ScriptError>
     requires { vec_len text.old ≤ MOST_BYTES }
-    ensures { vec_len text.new ≤ MOST_BYTES }
+    ensures text { OnOk result (text.new.items ≡ text.old.items ++ bytes.now) }
+    ensures length { vec_len text.new ≤ MOST_BYTES }
+    ensures too_long { (result ≡ Err TooLong) ↔ (MOST_BYTES < vec_len text.old + length bytes.now) }
 {
     if bytes.len() > MOST_BYTES - text.len() {
         return Err(ScriptError::TooLong);

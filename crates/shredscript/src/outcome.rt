@@ -1,26 +1,40 @@
 //! What a run left, as standard output tells it.
-ghost use Rattle.std.specs.Prelude.{◌≡◌};
+ghost use Rattle.std.specs.Prelude.{◌≡◌, OnOk};
+ghost use Rattle.std.specs.Io.KnownBytes.{Appends};
 ghost use Rattle.shredscript.specs.declared.outcome.Refusal.TheVariants.{Undeclared};
+ghost use Rattle.shredscript.specs.Endings.{failure_of, outcome_of, outcome_status};
+ghost use Rattle.shredscript.specs.Texts.{line_of, outcome_text, value_text};
 
 use shred::{DataError, DispatchError, Fault};
 use std::io::Write;
 use std::{fmt, io};
-use thiserror::Error;
 
 /// Why a system refused.
-#[derive(Clone, Copy, Debug, PartialEq, Eq, Error)]
+#[derive(Clone, Copy, Debug, PartialEq, Eq)]
 pub(crate) enum Refusal {
     /// A step asked for it, with this code.
-    #[error("{0}")]
     Code(u32),
 
     /// A step's result does not fit 64 bits with sign.
-    #[error("overflow")]
     Overflow,
 
     /// A step names what its system does not declare, which no step of a script does.
-    #[error("undeclared")]
     Undeclared,
+}
+
+impl fmt::Display for Refusal {
+    ghost use Rattle.std.specs.Prelude.{Some};
+    ghost use Rattle.shredscript.specs.Texts.{refusal_text};
+
+    ghost output = { λ refusal. Some (refusal_text refusal) };
+
+    fn fmt<W: fmt::Write>(&self, f: &mut fmt::Formatter<W>) -> fmt::Result {
+        match self {
+            Refusal::Code(code) => write!(f, "{code}"),
+            Refusal::Overflow => write!(f, "overflow"),
+            Refusal::Undeclared => write!(f, "undeclared"),
+        }
+    }
 }
 
 impl From<DataError> for Refusal {
@@ -32,16 +46,29 @@ impl From<DataError> for Refusal {
 }
 
 /// What ended a system's run.
-#[derive(Clone, Copy, Debug, PartialEq, Eq, Error)]
+#[derive(Clone, Copy, Debug, PartialEq, Eq)]
 pub(crate) enum Failure {
-    #[error("refused {0}")]
     Refused(Refusal),
-
-    #[error("out of memory")]
     OutOfMemory,
 }
 
+impl fmt::Display for Failure {
+    ghost use Rattle.std.specs.Prelude.{Some};
+    ghost use Rattle.shredscript.specs.Texts.{failure_text};
+
+    ghost output = { λ failure. Some (failure_text failure) };
+
+    fn fmt<W: fmt::Write>(&self, f: &mut fmt::Formatter<W>) -> fmt::Result {
+        match self {
+            Failure::Refused(refusal) => write!(f, "refused {refusal}"),
+            Failure::OutOfMemory => write!(f, "out of memory"),
+        }
+    }
+}
+
 impl From<Fault<Refusal>> for Failure {
+    ghost from_gives = { λ fault failure. failure ≡ failure_of fault };
+
     fn from(fault: Fault<Refusal>) -> Failure {
         match fault {
             Fault::Refused(refusal) => Failure::Refused(refusal),
@@ -61,7 +88,9 @@ pub(crate) enum Outcome {
 
 impl Outcome {
     /// The outcome of a dispatch.
-    pub(crate) fn of(dispatched: Result<(), DispatchError<Refusal>>) -> Outcome {
+    pub(crate) fn of(dispatched: Result<(), DispatchError<Refusal>>) -> Outcome
+        ensures { result ≡ outcome_of dispatched }
+    {
         match dispatched {
             Ok(()) => Outcome::Done,
             Err(DispatchError::System { id, fault }) => Outcome::System {
@@ -77,7 +106,9 @@ impl Outcome {
     }
 
     /// The exit status: 0 where nothing was refused, else 2.
-    pub(crate) fn status(self) -> u8 {
+    pub(crate) fn status(self) -> u8
+        ensures { result ≡ outcome_status self }
+    {
         match self {
             Outcome::Done => 0,
             _ => 2,
@@ -86,6 +117,10 @@ impl Outcome {
 }
 
 impl fmt::Display for Outcome {
+    ghost use Rattle.std.specs.Prelude.{Some};
+
+    ghost output = { λ outcome. Some (outcome_text outcome) };
+
     fn fmt<W: fmt::Write>(&self, f: &mut fmt::Formatter<W>) -> fmt::Result {
         match self {
             Outcome::Done => write!(f, "ok"),
@@ -97,12 +132,15 @@ impl fmt::Display for Outcome {
 }
 
 /// Writes the line of a resource.
-pub(crate) fn write_value<W: Write>(out: &mut W, name: &str, value: i64) -> io::Result<()> {
+pub(crate) fn write_value<W: Write>(out: &mut W, name: &str, value: i64) -> io::Result<()>
+    ensures { OnOk result (Appends (W.contents out.old) (W.contents out.new) (line_of (value_text name.now value))) }
+{
     writeln!(out, "{name}={value}")
 }
 
-/// Writes the last line, after which nothing is held back.
-pub(crate) fn write_outcome<W: Write>(out: &mut W, outcome: Outcome) -> io::Result<()> {
-    writeln!(out, "{outcome}")?;
-    out.flush()
+/// Writes the last line.
+pub(crate) fn write_outcome<W: Write>(out: &mut W, outcome: Outcome) -> io::Result<()>
+    ensures { OnOk result (Appends (W.contents out.old) (W.contents out.new) (line_of (outcome_text outcome))) }
+{
+    writeln!(out, "{outcome}")
 }

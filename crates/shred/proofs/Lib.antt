@@ -5,6 +5,7 @@ pub mod Appended
 pub mod EntriesAt
 pub mod Hands
 pub mod Ids
+pub mod Names
 pub mod OwnSlots
 pub mod KeptLists
 pub mod Earlier
@@ -13,13 +14,16 @@ pub mod Membership
 pub mod Orders
 pub mod PlanKeeps
 pub mod PlanTurns
+pub mod Prints
 pub mod Pushed
 pub mod Searching
+pub mod Sinks
 pub mod Spots
 pub mod StageKeeps
 pub mod Tests
 pub mod Times
 pub mod Touching
+pub mod Unnamed
 pub mod StepRecord
 pub mod StageStays
 pub mod Sweeps

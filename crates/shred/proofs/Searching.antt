@@ -1,10 +1,11 @@
 -- The steps of the search for the first stage that admits an entry.
 use Rattle.std.proofs.Common.{◌≡◌, ℕ, ◌+◌, ◌-◌, ◌<◌, ◌≤◌, List, [], ◌∷◌, ◌++◌, length, take, drop, map, get_or, Some, refl, sym, ◌∙◌, ap, subst, ⊎_elim, arith, length-drop}
 use Rattle.std.specs.List.{slice_get, slice_range}
+use Rattle.std.specs.Option.{option_map}
 use Rattle.std.proofs.lemmas.Bool.{cases_eq}
 use Rattle.std.proofs.lemmas.Grind.{flat_map-append}
 use Rattle.std.proofs.lemmas.List.{take_more, get_or-drop, append-nil, length-map, get_or-map}
-use Rattle.std.proofs.lemmas.Option.{slice_get_within, get_or_from_slice_get, slice_get-get_or}
+use Rattle.std.proofs.lemmas.Option.{slice_get_within, get_or_from_slice_get, slice_get-get_or, slice_get-map}
 use Rattle.shred_model.specs.Plan.{Entry, Stage, Plan, stage_ids, plan_ids}
 use Rattle.shred.specs.Placement.{difference, dependencies_left, Admits, NoneAdmits}
 use Rattle.shred.specs.Search.{SpotIs, PlaceIs}
@@ -66,3 +67,6 @@ none_yet plan barrier start dependencies left entry k stage none at there not_he
 pub left_then : {I : Type 0} (plan : Plan I) (barrier : ℕ) (dependencies left next : List ℕ) (k : ℕ) (stage : Stage I) → barrier ≤ k → slice_get plan k ≡ Some stage
     → left ≡ dependencies_left plan barrier dependencies k → next ≡ difference left (stage_ids stage) → next ≡ dependencies_left plan barrier dependencies (k + 1)
 left_then plan barrier dependencies left next k stage le at there step = step ∙ ap (λ ids. difference ids (stage_ids stage)) there ∙ sym (left_next plan barrier dependencies k stage le at)
+
+pub mapped_at : {X Y : Type 0} (f : X → Y) (xs : List X) (i : ℕ) (d : X) → i < length xs → slice_get (map f xs) i ≡ Some (f (get_or xs i d))
+mapped_at f xs i d lt = slice_get-map f xs i ∙ ap (option_map f) (slice_get-get_or xs i d lt)

@@ -12,7 +12,12 @@ pub mod OwnLists
 pub mod OwnSlots
 pub mod Lanes
 pub mod BuilderPlan
+pub mod Names
+pub mod Printed
+pub mod Prints
 pub mod Sides
+pub mod Sinks
+pub mod Writers
 pub mod Steps
 pub mod Entries
 pub mod Plans

@@ -6,7 +6,9 @@ pub mod system;
 
 pub use dispatch::dispatcher::{DispatchError, Dispatcher, new_dispatcher};
 pub use dispatch::entry::SystemId;
+pub use dispatch::printed::PrintError;
 pub use dispatch::run::StageFault;
+pub use dispatch::sink::{PlanSink, SinkFailed, ToWriter};
 pub use dispatch::stage::Stage;
 pub use dispatch::stages_builder::StagesBuilder;
 pub use shred_world::{

@@ -8,7 +8,10 @@ ghost use Rattle.shred_model.specs.Access.{Conflicts};
 ghost use Rattle.shred_model.specs.Plan.{group_access, plan_ids};
 ghost use Rattle.shred.specs.Earlier.{IsFromBarrier, ComesAfter, AllBeforeBarrier};
 ghost use Rattle.shred.specs.Kept.{IsKept};
+ghost use Rattle.shred.specs.Names.{first_unnamed, pairs_of};
 ghost use Rattle.shred.specs.Placement.{IsPlaced};
+ghost use Rattle.shred.specs.Printed.{plan_text};
+ghost use Rattle.shred.specs.Prints.{IsPrinted};
 ghost use Rattle.shred.specs.OwnLists.{IsOwnEntry};
 ghost use Rattle.shred.specs.PlanOf.{access_of, entry_plan, numbers_of};
 ghost use Rattle.shred.specs.Search.{OthersDoNotConflict, PlaceIs};
@@ -16,7 +19,9 @@ ghost use Rattle.shred.specs.Sides.{stage_side, plan_reads, plan_writes};
 ghost use Rattle.shred.specs.StagePlan.{plan_of};
 
 use crate::dispatch::entry::{Entry, SystemId};
+use crate::dispatch::printed::{PrintError, print};
 use crate::dispatch::side::Side;
+use crate::dispatch::sink::PlanSink;
 use crate::dispatch::sorted::sort_without_doubles;
 use crate::dispatch::spot::Spot;
 use crate::dispatch::stage::Stage;
@@ -24,6 +29,7 @@ use crate::system::System;
 use shred_world::{Accessor, OutOfMemory, ResourceId, ResourceValue};
 use smallvec::SmallVec;
 use std::alloc::Global;
+use std::collections::HashMap;
 
 /// A plan that grows by one system after another.
 #[derive(Drop)]
@@ -123,6 +129,32 @@ impl<V: ResourceValue, S: System<V>> StagesBuilder<V, S> {
         ensures same { IfOk result (λ ids. (i : ResourceId) → Contains ids.items i ↔ Contains (plan_writes (planned self.now)) i) }
     {
         self.fetch_all(Side::Writes)
+    }
+
+    /// Puts the plan's text into the sink, with the least name, by its bytes, that stands for each id. Where an id has no
+    /// name, nothing is put, and the answer names the first such id in the plan's order. It takes no memory.
+    pub fn write_par_seq<W: PlanSink>(
+        &self,
+        sink: &mut W,
+        names: &HashMap<String, SystemId>,
+    ) -> Result<(), PrintError>
+        ensures { let pairs = pairs_of names.now in
+            IsPrinted W.told W.failures sink.old sink.new (first_unnamed pairs (plan_ids (planned self.now))) (plan_text pairs (planned self.now)) result }
+    {
+        print(sink, names, &self.stages, b"")
+    }
+
+    /// Puts the plan's text and what follows it into the sink, as `write_par_seq` does.
+    pub(crate) fn print<W: PlanSink>(
+        &self,
+        sink: &mut W,
+        names: &HashMap<String, SystemId>,
+        end: &[u8],
+    ) -> Result<(), PrintError>
+        ensures { let pairs = pairs_of names.now in
+            IsPrinted W.told W.failures sink.old sink.new (first_unnamed pairs (plan_ids (planned self.now))) (plan_text pairs (planned self.now) ++ end.now) result }
+    {
+        print(sink, names, &self.stages, end)
     }
 
     /// The ids of one side of all systems' accesses, in order, each once.

@@ -8,6 +8,7 @@ pub mod Ids
 pub mod Names
 pub mod OwnSlots
 pub mod KeptLists
+pub mod Known
 pub mod Earlier
 pub mod Left
 pub mod Membership

@@ -1,8 +1,8 @@
 -- How a print ends.
 use Rattle.std.proofs.Common.{◌≡◌, ℕ, List, Option, Some, None, Result, Err, refl, subst}
 use Rattle.shred.specs.Prints.{IsPrinted, IsWritten}
-use Rattle.shred.specs.declared.dispatch.printed.PrintError.{PrintError}
-use Rattle.shred.specs.declared.dispatch.printed.PrintError.TheVariants.{Unnamed}
+use Rattle.shred.specs.declared.dispatch.printing.PrintError.{PrintError}
+use Rattle.shred.specs.declared.dispatch.printing.PrintError.TheVariants.{Unnamed}
 
 module _ {W : Type 0} (told : W → Option (List ℕ)) (failures : W → ℕ) where
   pub print-unnamed : (old : W) (found : Option ℕ) (id : ℕ) (text : List ℕ) → Some id ≡ found → IsPrinted told failures old old found text (Err (Unnamed (record { 0 = id })))

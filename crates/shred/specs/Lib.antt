@@ -10,8 +10,11 @@ pub mod Kept
 pub mod Hands
 pub mod OwnLists
 pub mod OwnSlots
+pub mod Known
 pub mod Lanes
 pub mod BuilderPlan
+pub mod Builders
+pub mod Built
 pub mod Names
 pub mod Printed
 pub mod Prints

@@ -1,8 +1,8 @@
 -- How a plan is printed to a sink.
 use Rattle.std.specs.Prelude.{◌≡◌, ℕ, List, Option, Some, None, Result, Ok, Err}
 use Rattle.std.specs.Io.KnownBytes.{Appends}
-use Rattle.shred.specs.declared.dispatch.printed.PrintError.{PrintError}
-use Rattle.shred.specs.declared.dispatch.printed.PrintError.TheVariants.{Unnamed, Write}
+use Rattle.shred.specs.declared.dispatch.printing.PrintError.{PrintError}
+use Rattle.shred.specs.declared.dispatch.printing.PrintError.TheVariants.{Unnamed, Write}
 use Rattle.shred.specs.Sinks.{AppendsBeginning, HasFailed}
 
 -- the sink was given the text, or it failed and was given a beginning of the text

@@ -4,9 +4,11 @@
 pub mod dispatch;
 pub mod system;
 
+pub use dispatch::add_error::AddError;
+pub use dispatch::builder::DispatcherBuilder;
 pub use dispatch::dispatcher::{DispatchError, Dispatcher, new_dispatcher};
 pub use dispatch::entry::SystemId;
-pub use dispatch::printed::PrintError;
+pub use dispatch::printing::PrintError;
 pub use dispatch::run::StageFault;
 pub use dispatch::sink::{PlanSink, SinkFailed, ToWriter};
 pub use dispatch::stage::Stage;

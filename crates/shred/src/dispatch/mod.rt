@@ -1,11 +1,14 @@
 //! Plans of systems, and their runs.
 
+pub mod add_error;
 pub mod beside;
+pub mod builder;
 pub mod dispatcher;
 pub mod entry;
 pub mod fork;
 pub mod hands;
-pub mod printed;
+pub mod look_up;
+pub mod printing;
 pub mod run;
 pub mod side;
 pub mod sink;

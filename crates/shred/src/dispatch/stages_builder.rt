@@ -19,7 +19,7 @@ ghost use Rattle.shred.specs.Sides.{stage_side, plan_reads, plan_writes};
 ghost use Rattle.shred.specs.StagePlan.{plan_of};
 
 use crate::dispatch::entry::{Entry, SystemId};
-use crate::dispatch::printed::{PrintError, print};
+use crate::dispatch::printing::{PrintError, print};
 use crate::dispatch::side::Side;
 use crate::dispatch::sink::PlanSink;
 use crate::dispatch::sorted::sort_without_doubles;

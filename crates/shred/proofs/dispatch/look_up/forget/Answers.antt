@@ -1,0 +1,5 @@
+use Rattle.shred.proofs.Known.{name-forgotten}
+use Rattle.shred.proofs.dispatch.look_up.forget.Goals as goal
+
+pub returns : goal.returns
+returns c = name-forgotten c.args.names.now c.remove.new.self c.args.name.now c.remove.ensures.updates

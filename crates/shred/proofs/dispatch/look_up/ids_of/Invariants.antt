@@ -1,0 +1,8 @@
+use Rattle.std.proofs.Common.{◌≡◌, take}
+use Rattle.shred.specs.Known.{ids_of, texts_of}
+use Rattle.shred.specs.Names.{names_of}
+use Rattle.shred.specs.PlanOf.{numbers_of}
+use Rattle.shred.proofs.dispatch.look_up.ids_of.Given as goal
+
+abbrev pub invariant-loop-place : goal.invariant-loop-place
+invariant-loop-place l = numbers_of l.ids.items ≡ ids_of (names_of l.names) (take l.place (texts_of l.wanted))

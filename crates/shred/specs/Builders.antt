@@ -1,0 +1,20 @@
+-- Builders of dispatchers, and what they have come to.
+use Rattle.std.specs.Prelude.{List}
+use Rattle.shred.specs.BuilderPlan.{planned, barrier_of, builder_states}
+use Rattle.shred.specs.Built.{Built}
+use Rattle.shred.specs.Names.{Pair, names_of, pairs_of}
+use Rattle.shred.specs.declared.dispatch.builder.DispatcherBuilder.{DispatcherBuilder}
+
+-- what a builder has come to
+abbrev pub built : {V S E X : Type 0} {gv gs gx : _} → DispatcherBuilder V S E X gv gs gx → Built S
+built builder = record {
+  plan = planned builder.stages;
+  states = builder_states builder.stages;
+  known = names_of builder.names;
+  barrier = barrier_of builder.stages;
+  next = builder.next;
+}
+
+-- its names, with what they stand for
+abbrev pub builder_pairs : {V S E X : Type 0} {gv gs gx : _} → DispatcherBuilder V S E X gv gs gx → List Pair
+builder_pairs builder = pairs_of builder.names

@@ -1,0 +1,71 @@
+-- What a builder has come to, and the steps of its calls.
+use Rattle.std.specs.Prelude.{◌≡◌, ℕ, ◌<◌, ◌+◌, ◌-◌, ◌^◌, List, [], length, Option, None, IsSome}
+use Rattle.shred_world.specs.declared.id.ResourceId.{ResourceId}
+use Rattle.shred_model.specs.Plan.{Entry, Plan}
+use Rattle.shred_model.specs.Record.{Agent}
+use Rattle.shred.specs.Added.{AreSame, IsAdded}
+use Rattle.shred.specs.Earlier.{IsFromBarrier, ComesAfter, AllBeforeBarrier}
+use Rattle.shred.specs.Kept.{IsKept}
+use Rattle.shred.specs.Known.{Known, KnowsAll, IsFirstUnknown, ids_of, with_name}
+use Rattle.shred.specs.Placement.{IsPlaced}
+use Rattle.shred.specs.declared.system.RunningTime.{RunningTime}
+use Rattle.shred.specs.declared.dispatch.add_error.AddError.{AddError}
+use Rattle.shred.specs.declared.dispatch.add_error.AddError.TheVariants.{NoSuchSystem, NameTaken, IdsExhausted, OutOfMemory}
+
+-- A plan with its systems, the known names, the barrier and the number of the next id.
+pub record Built (S : Type 0) : Type 0 where
+  pub plan : Plan ResourceId
+  pub states : Agent → Option S
+  pub known : Known
+  pub barrier : ℕ
+  pub next : ℕ
+
+-- Nothing is planned, and no name is known.
+pub record IsNewBuilt {S : Type 0} (new : Built S) : Type 0 where
+  pub plan : new.plan ≡ []
+  pub states : (path : Agent) → new.states path ≡ None
+  pub known : (name : List ℕ) → new.known name ≡ None
+  pub barrier : new.barrier ≡ 0
+  pub next : new.next ≡ 0
+
+-- All is as before.
+pub record IsSameBuilt {S : Type 0} (old new : Built S) : Type 0 where
+  pub plan : new.plan ≡ old.plan
+  pub states : AreSame old.states new.states
+  pub known : (name : List ℕ) → new.known name ≡ old.known name
+  pub barrier : new.barrier ≡ old.barrier
+  pub next : new.next ≡ old.next
+
+-- The barrier is set to the number of stages, so every entry is before it; all else is as before.
+pub record IsBarrierSet {S : Type 0} (old new : Built S) : Type 0 where
+  pub plan : new.plan ≡ old.plan
+  pub states : AreSame old.states new.states
+  pub known : (name : List ℕ) → new.known name ≡ old.known name
+  pub barrier : new.barrier ≡ length old.plan
+  pub all_before : AllBeforeBarrier new.plan new.barrier
+  pub next : new.next ≡ old.next
+
+-- The system is placed with the next id, after the dependencies that were known, and its name is entered; the barrier stays.
+pub record IsAddition {S : Type 0} (old new : Built S) (name : List ℕ) (dependencies : List (List ℕ)) (reads writes : List ResourceId) (time : RunningTime) (system : S) : Type 0 where
+  pub entry : Entry ResourceId
+  pub kept : IsKept old.next reads writes time entry
+  pub placed : IsPlaced old.plan old.barrier old.barrier (ids_of old.known dependencies) entry new.plan
+  pub added : IsAdded old.plan new.plan old.states new.states entry system
+  pub from_barrier : IsFromBarrier old.barrier added.place
+  pub after : ComesAfter old.plan (ids_of old.known dependencies) added.place
+  pub known : (q : List ℕ) → new.known q ≡ with_name old.known name old.next q
+  pub barrier : new.barrier ≡ old.barrier
+  pub next : new.next ≡ old.next + 1
+
+-- Each dependency is known, the name is not, and there is a next id.
+pub record MayAdd (known : Known) (next : ℕ) (name : List ℕ) (dependencies : List (List ℕ)) : Type 0 where
+  pub all_known : KnowsAll known dependencies
+  pub is_new : known name ≡ None
+  pub ids_left : next < 2 ^ 64 - 1
+
+-- the first of the tests that fails, in this order; want of memory only where all are passed
+abbrev pub IsRefusal : Known → ℕ → List ℕ → List (List ℕ) → AddError → Type 0
+IsRefusal known next name dependencies (NoSuchSystem place) = IsFirstUnknown known dependencies place
+IsRefusal known next name dependencies NameTaken = KnowsAll known dependencies × IsSome (known name)
+IsRefusal known next name dependencies IdsExhausted = KnowsAll known dependencies × (known name ≡ None) × (next ≡ 2 ^ 64 - 1)
+IsRefusal known next name dependencies OutOfMemory = MayAdd known next name dependencies

@@ -1,0 +1,185 @@
+//! The builder of dispatchers.
+ghost use Rattle.std.specs.Prelude.{◌≡◌, ◌++◌, codes, IfOk, OnOk, OnErr, IfErr};
+ghost use Rattle.shred_model.specs.Plan.{plan_ids};
+ghost use Rattle.shred_model.specs.Record.{Agent};
+ghost use Rattle.shred.specs.Built.{IsAddition, IsBarrierSet, IsNewBuilt, IsRefusal, IsSameBuilt, MayAdd};
+ghost use Rattle.shred.specs.Dispatchers.{dispatcher_plan, dispatcher_states};
+ghost use Rattle.shred.specs.Known.{texts_of};
+ghost use Rattle.shred.specs.Names.{first_unnamed};
+ghost use Rattle.shred.specs.Printed.{line_feed, plan_text};
+ghost use Rattle.shred.specs.Prints.{IsPrinted};
+
+use crate::dispatch::add_error::AddError;
+use crate::dispatch::dispatcher::{Dispatcher, new_dispatcher};
+use crate::dispatch::entry::SystemId;
+use crate::dispatch::look_up::{enter, first_unknown, forget, id_of, ids_of};
+use crate::dispatch::printing::PrintError;
+use crate::dispatch::sink::PlanSink;
+use crate::dispatch::stages_builder::StagesBuilder;
+use crate::system::System;
+use shred_world::{OutOfMemory, ResourceValue};
+use std::alloc::Global;
+use std::collections::HashMap;
+
+/// A plan that grows by one system after another, with names for them.
+#[derive(Drop)]
+pub struct DispatcherBuilder<V: ResourceValue, S: System<V>> {
+    alloc: Global,
+    stages: StagesBuilder<V, S>,
+    names: HashMap<String, SystemId>,
+    next: usize,
+}
+
+impl<V: ResourceValue, S: System<V>> DispatcherBuilder<V, S> {
+    ghost use Rattle.shred.specs.Builders.{built, builder_pairs};
+
+    /// An empty plan, without names. It takes no memory.
+    pub fn new(alloc: Global) -> Self
+        ensures { IsNewBuilt (built result) }
+    {
+        DispatcherBuilder {
+            alloc,
+            stages: StagesBuilder::new(alloc),
+            names: HashMap::new(alloc),
+            next: 0,
+        }
+    }
+
+    /// `new`.
+    pub fn default(alloc: Global) -> Self
+        ensures { IsNewBuilt (built result) }
+    {
+        Self::new(alloc)
+    }
+
+    /// Sets the barrier to the number of stages: what is added from now on stands after all that is there. It takes no
+    /// memory.
+    pub fn add_barrier(&mut self)
+        ensures { IsBarrierSet (built self.old) (built self.new) }
+    {
+        self.stages.add_barrier();
+    }
+
+    /// `add_barrier`, on a builder that is handed on.
+    pub fn with_barrier(self) -> Self
+    where
+        V: Drop,
+        S: Drop,
+        ensures { IsBarrierSet (built self) (built result) }
+    {
+        let mut builder = self;
+        builder.add_barrier();
+        builder
+    }
+
+    /// Puts the plan's text and a line feed into the sink. Where a system has no name, nothing is put, and the answer names
+    /// the first such id in the plan's order. It takes no memory.
+    pub fn print_par_seq<W: PlanSink>(&self, sink: &mut W) -> Result<(), PrintError>
+        ensures { let plan = (built self.now).plan in let pairs = builder_pairs self.now in
+            IsPrinted W.told W.failures sink.old sink.new (first_unnamed pairs (plan_ids plan)) (plan_text pairs plan ++ line_feed) result }
+    {
+        self.stages.print(sink, &self.names, b"\n")
+    }
+
+    /// The dispatcher of the plan. It takes no memory.
+    pub fn build(self) -> Dispatcher<V, S>
+    where
+        V: Drop,
+        S: Drop,
+        ensures plan { dispatcher_plan result ≡ (built self).plan }
+        ensures states { (path : Agent) → dispatcher_states result path ≡ (built self).states path }
+    {
+        new_dispatcher(self.stages.build())
+    }
+
+    /// Places the system in the plan with the next id, and enters its name unless that is empty. What it depends on stands
+    /// in an earlier stage, or earlier in the same group. Tested in this order: each dependency is a known name, the name is
+    /// new, an id is left, memory is there. After a refusal the builder is as before, and the system is dropped.
+    pub fn add(
+        &mut self,
+        system: S,
+        name: &str,
+        dependencies: &[&str],
+    ) -> Result<SystemId, AddError>
+    where
+        V: Drop,
+        S: Drop,
+        ensures id { IfOk result (λ id. id.0 ≡ (built self.old).next) }
+        ensures allowed { OnOk result (MayAdd (built self.old).known (built self.old).next name.now (texts_of dependencies.now)) }
+        ensures added { OnOk result (IsAddition (built self.old) (built self.new) name.now (texts_of dependencies.now) (S.reads system) (S.writes system) (S.time system) system) }
+        ensures refused { IfErr result (IsRefusal (built self.old).known (built self.old).next name.now (texts_of dependencies.now)) }
+        ensures unchanged { OnErr result (IsSameBuilt (built self.old) (built self.new)) }
+    {
+        if let Err(e) = self.may_add(name, dependencies) {
+            return Err(e);
+        }
+        match self.accept(system, name, dependencies) {
+            Ok(id) => Ok(id),
+            Err(_) => Err(AddError::OutOfMemory),
+        }
+    }
+
+    /// `add`, on a builder that is handed on. After a refusal the builder is dropped.
+    pub fn with(self, system: S, name: &str, dependencies: &[&str]) -> Result<Self, AddError>
+    where
+        V: Drop,
+        S: Drop,
+        ensures allowed { OnOk result (MayAdd (built self).known (built self).next name.now (texts_of dependencies.now)) }
+        ensures added { IfOk result (λ after. IsAddition (built self) (built after) name.now (texts_of dependencies.now) (S.reads system) (S.writes system) (S.time system) system) }
+        ensures refused { IfErr result (IsRefusal (built self).known (built self).next name.now (texts_of dependencies.now)) }
+    {
+        let mut builder = self;
+        match builder.add(system, name, dependencies) {
+            Ok(_) => Ok(builder),
+            Err(e) => Err(e),
+        }
+    }
+
+    // Whether a system of this name may be added.
+    fn may_add(&self, name: &str, dependencies: &[&str]) -> Result<(), AddError>
+        ensures ok { OnOk result (MayAdd (built self.now).known (built self.now).next name.now (texts_of dependencies.now)) }
+        ensures err { IfErr result (IsRefusal (built self.now).known (built self.now).next name.now (texts_of dependencies.now)) }
+    {
+        if let Some(place) = first_unknown(&self.names, dependencies) {
+            return Err(AddError::NoSuchSystem { place });
+        }
+        if id_of(&self.names, name).is_some() {
+            return Err(AddError::NameTaken);
+        }
+        if self.next == usize::MAX {
+            return Err(AddError::IdsExhausted);
+        }
+        Ok(())
+    }
+
+    // Adds a system that may be added.
+    fn accept(
+        &mut self,
+        system: S,
+        name: &str,
+        dependencies: &[&str],
+    ) -> Result<SystemId, OutOfMemory>
+    where
+        V: Drop,
+        S: Drop,
+        requires { MayAdd (built self.old).known (built self.old).next name.now (texts_of dependencies.now) }
+        ensures id { IfOk result (λ id. id.0 ≡ (built self.old).next) }
+        ensures added { OnOk result (IsAddition (built self.old) (built self.new) name.now (texts_of dependencies.now) (S.reads system) (S.writes system) (S.time system) system) }
+        ensures unchanged { OnErr result (IsSameBuilt (built self.old) (built self.new)) }
+    {
+        let id = SystemId(self.next);
+        let ids = match ids_of(self.alloc, &self.names, dependencies) {
+            Ok(ids) => ids,
+            Err(e) => return Err(e),
+        };
+        if let Err(e) = enter(self.alloc, &mut self.names, name, id) {
+            return Err(e);
+        }
+        if let Err(e) = self.stages.insert(ids.as_slice(), id, system) {
+            forget(&mut self.names, name);
+            return Err(e);
+        }
+        self.next += 1;
+        Ok(id)
+    }
+}

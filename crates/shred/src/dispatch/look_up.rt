@@ -1,0 +1,78 @@
+//! The names of a builder's systems.
+ghost use Rattle.std.specs.Prelude.{◌≡◌, List, ℕ, Option, None, Some, cond, is_some, MatchOption, IfOk, OnOk, OnErr};
+ghost use Rattle.std.specs.Option.{option_map};
+ghost use Rattle.std.specs.Str.{bytes_eq};
+ghost use Rattle.shred.specs.Known.{ids_of, texts_of, with_name, IsFirstUnknown, KnowsAll};
+ghost use Rattle.shred.specs.Names.{names_of};
+ghost use Rattle.shred.specs.PlanOf.{numbers_of};
+
+use crate::dispatch::entry::SystemId;
+use shred_world::OutOfMemory;
+use std::alloc::Global;
+use std::collections::HashMap;
+
+/// What a name stands for, if it does.
+pub(crate) fn id_of(names: &HashMap<String, SystemId>, name: &str) -> Option<SystemId>
+    ensures { option_map (λ id. id.0) result ≡ names_of names.now name.now }
+{
+    names.get(name).copied()
+}
+
+/// The place of the first name that is not known.
+pub(crate) fn first_unknown(names: &HashMap<String, SystemId>, wanted: &[&str]) -> Option<usize>
+    ensures { MatchOption result (KnowsAll (names_of names.now) (texts_of wanted.now)) (IsFirstUnknown (names_of names.now) (texts_of wanted.now)) }
+{
+    for place in 0..wanted.len() {
+        if id_of(names, wanted[place]).is_none() {
+            return Some(place);
+        }
+    }
+    None
+}
+
+/// The ids that the names stand for, in their order.
+pub(crate) fn ids_of(
+    alloc: Global,
+    names: &HashMap<String, SystemId>,
+    wanted: &[&str],
+) -> Result<Vec<SystemId>, OutOfMemory>
+    ensures { IfOk result (λ ids. numbers_of ids.items ≡ ids_of (names_of names.now) (texts_of wanted.now)) }
+{
+    let mut ids = Vec::new(alloc);
+    for place in 0..wanted.len() {
+        let id = id_of(names, wanted[place]).unwrap_or(SystemId(0));
+        if let Err(_) = ids.push(id) {
+            return Err(OutOfMemory);
+        }
+    }
+    Ok(ids)
+}
+
+/// Enters the name, unless it is empty.
+pub(crate) fn enter(
+    alloc: Global,
+    names: &mut HashMap<String, SystemId>,
+    name: &str,
+    id: SystemId,
+) -> Result<(), OutOfMemory>
+    ensures ok { OnOk result ((q : List ℕ) → names_of names.new q ≡ with_name (names_of names.old) name.now id.0 q) }
+    ensures err { OnErr result ((q : List ℕ) → names_of names.new q ≡ names_of names.old q) }
+{
+    if name.is_empty() {
+        return Ok(());
+    }
+    let Ok(key) = String::from_str(alloc, name) else {
+        return Err(OutOfMemory);
+    };
+    match names.insert(key, id) {
+        Ok(_) => Ok(()),
+        Err(_) => Err(OutOfMemory),
+    }
+}
+
+/// Takes the name away.
+pub(crate) fn forget(names: &mut HashMap<String, SystemId>, name: &str)
+    ensures { (q : List ℕ) → names_of names.new q ≡ cond (bytes_eq name.now q) None (names_of names.old q) }
+{
+    let _ = names.remove(name);
+}

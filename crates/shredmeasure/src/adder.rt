@@ -1,7 +1,8 @@
 //! The system that is dispatched.
-ghost use Rattle.std.specs.Prelude.{◌≡◌, [], ◌∷◌, IfOk};
+ghost use Rattle.std.specs.Prelude.{◌≡◌, [], ◌∷◌, Ok, IfOk};
 ghost use Rattle.shred_world.specs.Id.{id_of};
 ghost use Rattle.shred.specs.declared.system.RunningTime.TheVariants.{Average};
+ghost use Rattle.shredmeasure.specs.Adds.{IsOneMore};
 
 use shred::{
     Accessor, DataError, Fault, Kind, OutOfMemory, ResourceId, RunningTime, System, View, World,
@@ -64,11 +65,12 @@ impl System<Value> for AddOne {
 
     ghost time = { λ system. Average };
 
-    ghost step = { λ _ _ _ _ _. Unit {0} };
+    // A run that is Done adds 1 to the count of its number, within 64 bits with sign.
+    ghost step = { λ before seen outcome after left. (after ≡ before) × IfOk outcome (λ done. IsOneMore (seen (id_of (record { 0 = 0 }) before.number)) (left (id_of (record { 0 = 0 }) before.number))) };
 
-    ghost sets_up = { λ _ _ _ _ _. Unit {0} };
+    ghost sets_up = { λ before seen outcome after left. (after ≡ before) × (outcome ≡ Ok tt) × (left ≡ seen) };
 
-    ghost disposes = { λ _ _ _ _. Unit {0} };
+    ghost disposes = { λ _ seen outcome left. (outcome ≡ Ok tt) × (left ≡ seen) };
 
     fn run(&mut self, view: &mut View<Value>) -> Result<(), Fault<DataError>> {
         match view.write::<Count>(count_id(self.number)) {

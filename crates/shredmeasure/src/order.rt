@@ -1,4 +1,5 @@
 //! What is asked of the program.
+ghost use Rattle.std.specs.Prelude.{◌≤◌, IfSome};
 
 /// How a plan is dispatched.
 #[derive(Clone, Copy)]
@@ -20,7 +21,9 @@ const MOST_SYSTEMS: u64 = 10_000;
 
 impl Order {
     /// The order that a line gives, if it is one.
-    pub(crate) fn of_line(line: &[u8]) -> Option<Order> {
+    pub(crate) fn of_line(line: &[u8]) -> Option<Order>
+        ensures { IfSome result (λ order. order.systems ≤ MOST_SYSTEMS) }
+    {
         let mut words = str::from_utf8(line).ok()?.split_ascii_whitespace();
         let mode = match words.next()? {
             "seq" => Mode::OnCaller,

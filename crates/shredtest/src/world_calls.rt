@@ -1,9 +1,10 @@
 //! Calls of a world, whose whole effect their caller can say.
-ghost use Rattle.std.specs.Prelude.{◌≡◌, Some, OnOk, OnErr, IfOk};
-ghost use Rattle.shred_world.specs.Id.{id_of};
+ghost use Rattle.std.specs.Prelude.{◌≡◌, ◌≢◌, None, Some, Err, OnOk, OnErr, IfErr};
+ghost use Rattle.shred_world.specs.Id.{id_of, kind_of as id_kind};
 ghost use Rattle.shred_world.specs.Slots.{with_at};
-ghost use Rattle.shred_world.specs.Worlds.{world_held, IsFilled};
+ghost use Rattle.shred_world.specs.Worlds.{world_held, IsProvided};
 ghost use Rattle.shred_world.specs.declared.id.ResourceId.{ResourceId};
+ghost use Rattle.shred_world.specs.declared.world.WorldError.TheVariants.{Missing, OutOfMemory, WrongKind};
 ghost use Rattle.shredtest.specs.Values.{kind_of, count_kind};
 ghost use Rattle.shredtest.specs.declared.values.Value.TheVariants.{Count as counted};
 
@@ -16,6 +17,7 @@ use shred::{
 pub fn set_count(world: &mut World<Value>, count: Count) -> Result<(), WorldError>
     ensures ok { OnOk result ((q : ResourceId) → world_held kind_of world.new q ≡ with_at (world_held kind_of world.old) (id_of count_kind 0) (Some (counted count)) q) }
     ensures err { OnErr result ((q : ResourceId) → world_held kind_of world.new q ≡ world_held kind_of world.old q) }
+    ensures missing { IfErr result (λ error. (error ≡ Missing (id_of count_kind 0)) × (world_held kind_of world.old (id_of count_kind 0) ≡ None)) }
 {
     match world.fetch_mut::<Count>() {
         Ok(held) => {
@@ -34,6 +36,8 @@ pub fn set_count_at(
 ) -> Result<(), WorldError>
     ensures ok { OnOk result ((q : ResourceId) → world_held kind_of world.new q ≡ with_at (world_held kind_of world.old) id (Some (counted count)) q) }
     ensures err { OnErr result ((q : ResourceId) → world_held kind_of world.new q ≡ world_held kind_of world.old q) }
+    ensures wrong_kind { (count_kind ≢ id_kind id) → result ≡ Err (WrongKind count_kind (id_kind id)) }
+    ensures missing { (count_kind ≡ id_kind id) → IfErr result (λ error. (error ≡ Missing id) × (world_held kind_of world.old id ≡ None)) }
 {
     match world.try_fetch_mut_by_id::<Count>(id) {
         Ok(held) => {
@@ -48,6 +52,7 @@ pub fn set_count_at(
 pub fn set_or_insert(world: &mut World<Value>, count: Count) -> Result<(), WorldError>
     ensures ok { OnOk result ((q : ResourceId) → world_held kind_of world.new q ≡ with_at (world_held kind_of world.old) (id_of count_kind 0) (Some (counted count)) q) }
     ensures err { OnErr result ((q : ResourceId) → world_held kind_of world.new q ≡ world_held kind_of world.old q) }
+    ensures out_of_memory { IfErr result (λ error. (error ≡ OutOfMemory) × (world_held kind_of world.old (id_of count_kind 0) ≡ None)) }
 {
     match world.entry::<Count>().or_insert(Count(0)) {
         Ok(held) => {
@@ -62,7 +67,7 @@ pub fn set_or_insert(world: &mut World<Value>, count: Count) -> Result<(), World
 pub fn provide_twice<V: ResourceValue + Drop, R: Resource<V> + Default>(
     world: &mut World<V>,
 ) -> Result<(), WorldError>
-    ensures { OnOk result (IsFilled R.wrapped R.is_default (id_of R.KIND 0) (world_held V.kind_of world.old) (world_held V.kind_of world.new)) }
+    ensures { IsProvided R.wrapped R.is_default (id_of R.KIND 0) (world_held V.kind_of world.old) result (world_held V.kind_of world.new) }
 {
     match <DefaultProvider as SetupHandler<V, R>>::setup(world) {
         Ok(()) => <DefaultProvider as SetupHandler<V, R>>::setup(world),

@@ -15,7 +15,7 @@ pub use dispatch::stage::Stage;
 pub use dispatch::stages_builder::StagesBuilder;
 pub use shred_world::{
     Accessor, DataError, DefaultProvider, Entry, Fetch, FetchMut, Kind, OutOfMemory, PanicHandler,
-    Parts, ReplaceError, Resource, ResourceId, ResourceValue, Resources, SetupHandler, Shelf,
+    PartsWork, ReplaceError, Resource, ResourceId, ResourceValue, Resources, SetupHandler, Shelf,
     Table, View, World, WorldError, check_intersection,
 };
 pub use system::{Fault, RunningTime, System};

@@ -4,11 +4,12 @@ use Rattle.std.specs.Prelude.{is_some}
 use Rattle.std.specs.List.{AllZip, AllByRecursion}
 use Rattle.shred_model.proofs.Apart.{AllPairs-head, AllPairs-tail}
 use Rattle.shred_world.specs.declared.id.ResourceId.{ResourceId}
+use Rattle.shred_world.specs.declared.id.Kind.{Kind}
 use Rattle.shred_world.specs.declared.table.Slot.{Slot}
-use Rattle.shred_world.specs.Slots.{among, or_slot}
+use Rattle.shred_world.specs.declared.table.Table.{Table}
+use Rattle.shred_world.specs.Slots.{slot_at, slot_held, held, among, or_slot}
 use Rattle.shred_world.specs.Parting.{emptied}
-use Rattle.shred_world.specs.Parts.{Pair, writes_of, declares, AreBeside, DoNotConflict, written_by}
-use Rattle.shred_world.proofs.Moves.{emptied-twice}
+use Rattle.shred_world.specs.Parts.{Pair, writes_of, declares, AreBeside, DoNotConflict, written_by, HoldsWritten, HoldsSameIds, IsJoined}
 
 -- from each pair with its hand to what holds of them
 pub zip-map : {A B : Type 0} (Q R : A → B → Type 0) (xs : List A) (ys : List B) → ((i : ℕ) (d : A) (y : B) → i < length xs → Q (get_or xs i d) y → R (get_or xs i d) y) → AllZip Q xs ys → AllZip R xs ys
@@ -66,12 +67,27 @@ module _ {V : Type 0} where
   fit-over true a t s h held left = ap is_some held ∙ sym (left-slots a t s left)
   fit-over false a t s h held left = ap is_some held
 
-  pub empty-over : (a : Bool) (t s : Option (Slot V)) → s ≡ cond a (emptied t) t → a ≡ true → s ≡ emptied s
-  empty-over true t s left h = left ∙ sym (emptied-twice t) ∙ ap emptied (sym left)
-  empty-over false t s left h = absurd (cc)
-
   -- an emptied hand has room again
   pub room-again : (b : Bool) (u t h n : Option (Slot V)) → (b ≡ true → u ≡ h) → is_some h ≡ (b && is_some t) → n ≡ emptied h → n ≡ cond b (emptied u) None
   room-again true u t h n joined fit is = is ∙ ap emptied (sym (joined refl))
   room-again false u t (Some h) n joined fit is = absurd (cc)
   room-again false u t None n joined fit is = is
+
+module _ {V : Type 0} (kind : V → Kind) where
+  -- what is shown over the same shelf is there where it was, where the table's own is
+  pub held-over : (q : ResourceId) (s t f : Option (Slot V)) → is_some s ≡ is_some t → is_some (slot_held kind q s) ≡ is_some (slot_held kind q t) → is_some (slot_held kind q (or_slot s f)) ≡ is_some (slot_held kind q (or_slot t f))
+  held-over q (Some s) (Some t) f same held = held
+  held-over q None None f same held = refl
+  held-over q (Some s) None f same held = absurd (cc)
+  held-over q None (Some t) f same held = absurd (cc)
+
+  -- a value that was moved out is there again once the hands are joined, where the hands hold what they held
+  pub held-joined : (t u : Table V) (ps : List Pair) (hs ns : List (Table V)) (q : ResourceId) → AllZip (HoldsWritten t) ps hs → AllZip (HoldsSameIds kind) hs ns → AllZip (IsJoined u) ps ns
+      → written_by ps q ≡ true → is_some (held kind u q) ≡ is_some (held kind t q)
+  held-joined t u [] hs ns q holds same joined w = absurd (cc)
+  held-joined t u (p ∷ ps) [] ns q holds same joined w = absurd holds
+  held-joined t u (p ∷ ps) (h ∷ hs) [] q holds same joined w = absurd joined
+  held-joined t u (p ∷ ps) (h ∷ hs) (n ∷ ns) q holds same joined w = at (among (writes_of p) q) refl (held-joined t u ps hs ns q holds.1 same.1 joined.1) where
+    at : (b : Bool) → among (writes_of p) q ≡ b → (written_by ps q ≡ true → is_some (held kind u q) ≡ is_some (held kind t q)) → is_some (held kind u q) ≡ is_some (held kind t q)
+    at true e rest = ap (λ (o : Option (Slot V)). is_some (slot_held kind q o)) ((joined.0) q e) ∙ (same.0) q ∙ ap (λ (o : Option (Slot V)). is_some (slot_held kind q o)) ((holds.0) q ∙ ap (λ (b : Bool). cond b (slot_at t q) None) e)
+    at false e rest = rest (sym (ap (λ (b : Bool). b || written_by ps q) e) ∙ w)

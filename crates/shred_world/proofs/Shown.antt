@@ -1,5 +1,5 @@
 -- What a table shows where nothing is lent shared.
-use Rattle.std.proofs.Common.{◌≡◌, List, [], Option, Some, None, refl, ap}
+use Rattle.std.proofs.Common.{◌≡◌, Option, Some, None, refl, ap}
 use Rattle.shred_world.specs.declared.id.Kind.{Kind}
 use Rattle.shred_world.specs.declared.id.ResourceId.{ResourceId}
 use Rattle.shred_world.specs.declared.table.Slot.{Slot}

@@ -2,10 +2,11 @@
 use Rattle.std.specs.Prelude.{◌≡◌, Bool, false, ◌&&◌, ◌||◌, IsTrue, None, cond, is_some, List}
 use Rattle.std.specs.Borrow.{Bor}
 use Rattle.std.specs.List.{list_any, AllPairs}
+use Rattle.shred_world.specs.declared.id.Kind.{Kind}
 use Rattle.shred_world.specs.declared.id.ResourceId.{ResourceId}
 use Rattle.shred_world.specs.declared.table.Table.{Table}
 use Rattle.shred_world.specs.Parting.{IsRoom, emptied}
-use Rattle.shred_world.specs.Slots.{slot_at, among}
+use Rattle.shred_world.specs.Slots.{slot_at, among, held}
 
 -- the ids that are read, and those that are written
 abbrev pub Pair : Type 0
@@ -52,3 +53,7 @@ IsJoined table p hand = (q : ResourceId) → IsTrue (among (writes_of p) q) → 
 -- the hand has the slots that it had, without their values
 abbrev pub IsEmptied : {V : Type 0} → (old new : Table V) → Type 0
 IsEmptied old new = (q : ResourceId) → slot_at new q ≡ emptied (slot_at old q)
+
+-- the hand holds values under the same ids
+abbrev pub HoldsSameIds : {V : Type 0} → (V → Kind) → (old new : Table V) → Type 0
+HoldsSameIds kind old new = (q : ResourceId) → is_some (held kind new q) ≡ is_some (held kind old q)

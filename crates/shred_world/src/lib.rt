@@ -17,6 +17,6 @@ pub use util::check_intersection;
 pub use world::data::{DataError, Shelf, View};
 pub use world::entry::Entry;
 pub use world::fetch::{Fetch, FetchMut};
-pub use world::parts::Parts;
+pub use world::parts::PartsWork;
 pub use world::setup::{DefaultProvider, PanicHandler, SetupHandler};
 pub use world::{ReplaceError, Resources, World, WorldError};

@@ -1,9 +1,55 @@
--- Hands that were worked over.
-use Rattle.std.specs.Prelude.{◌≡◌, is_some}
+-- Work over the parts of a view.
+use Rattle.std.specs.Prelude.{◌≡◌, false, IsTrue, Option, None, cond, List, [], ◌∷◌, is_some}
+use Rattle.shred_world.specs.declared.id.Kind.{Kind}
 use Rattle.shred_world.specs.declared.id.ResourceId.{ResourceId}
 use Rattle.shred_world.specs.declared.table.Table.{Table}
-use Rattle.shred_world.specs.Slots.{slot_at}
+use Rattle.shred_world.specs.Beside.{part_slot}
+use Rattle.shred_world.specs.Parts.{Pair, writes_of, declares, written_by, HoldsSameIds}
+use Rattle.shred_world.specs.Shown.{Lent, IsSameSlots}
+use Rattle.shred_world.specs.Slots.{among, slot_held}
 
--- no slot came or went
-abbrev pub HasSameSlots : {V : Type 0} → (old new : Table V) → Type 0
-HasSameSlots old new = (q : ResourceId) → is_some (slot_at new q) ≡ is_some (slot_at old q)
+-- the values that are shown, by id
+abbrev pub Held : Type 0 → Type 0
+Held V = ResourceId → Option V
+
+-- a work's own relation, from its state and the values that it sees to its state and the values that it leaves
+abbrev pub Works : Type 0 → Type 0 → Type 1
+Works V W = W → Held V → W → Held V → Type 0
+
+-- the values under the ids that the pair declares
+abbrev pub declared_by : {V : Type 0} → Pair → Held V → Held V
+declared_by p held q = cond (declares p q) (held q) None
+
+-- what a view of the pair shows over a hand and what lies behind it, of the ids that the pair declares
+abbrev pub part_held : {V : Type 0} → (V → Kind) → Lent V → Pair → Table V → Held V
+part_held kind behind p hand = declared_by p (λ q. slot_held kind q (part_slot behind p hand q))
+
+-- The work was done over one hand, in its own relation, and left a value where there was one.
+pub record IsWorkedOver {V W : Type 0} (kind : V → Kind) (works : Works V W) (behind : Lent V) (p : Pair) (hand : Table V) (before : W) (left : Table V) (after : W) : Type 0 where
+  pub lies : works before (part_held kind behind p hand) after (part_held kind behind p left)
+  pub slots : IsSameSlots hand left
+  pub ids : HoldsSameIds kind hand left
+
+-- the work was done over each hand, one after the other
+abbrev pub IsWorkedEach : {V W : Type 0} → (V → Kind) → Works V W → Lent V → List Pair → List (Table V) → W → List (Table V) → W → Type 0
+IsWorkedEach kind works behind [] [] before [] after = after ≡ before
+IsWorkedEach kind works behind [] [] before (n ∷ left) after = ⊥
+IsWorkedEach kind works behind [] (h ∷ hands) before left after = ⊥
+IsWorkedEach kind works behind (p ∷ pairs) [] before left after = ⊥
+IsWorkedEach kind works behind (p ∷ pairs) (h ∷ hands) before [] after = ⊥
+IsWorkedEach {V} {W} kind works behind (p ∷ pairs) (h ∷ hands) before (n ∷ left) after =
+    (w : W) × IsWorkedOver kind works behind p h before n w × IsWorkedEach kind works behind pairs hands w left after
+
+-- Of each pair in order the work saw the declared values as they were before, and the values that it left are there after, under the ids that the pair writes.
+abbrev pub IsWorked : {V W : Type 0} → Works V W → List Pair → Held V → W → Held V → W → Type 0
+IsWorked works [] seen before after new = new ≡ before
+IsWorked {V} {W} works (p ∷ pairs) seen before after new =
+    (w : W) × (left : Held V) × works before (declared_by p seen) w left × ((q : ResourceId) → IsTrue (among (writes_of p) q) → after q ≡ left q) × IsWorked works pairs seen w after new
+
+-- what no pair writes is as it was
+abbrev pub KeepsRest : {V : Type 0} → List Pair → Held V → Held V → Type 0
+KeepsRest pairs before after = (q : ResourceId) → written_by pairs q ≡ false → after q ≡ before q
+
+-- values are held under the same ids
+abbrev pub KeepsHeldIds : {V : Type 0} → Held V → Held V → Type 0
+KeepsHeldIds before after = (q : ResourceId) → is_some (after q) ≡ is_some (before q)

@@ -1,16 +1,17 @@
 //! Parting a view into views that may be used beside each other.
-ghost use Rattle.std.specs.Prelude.{◌≡◌, IsTrue, false, cond, is_some, IfOk, None};
-ghost use Rattle.std.specs.Borrow.{sem};
+ghost use Rattle.std.specs.Prelude.{◌≡◌, IsTrue, false, cond, is_some, IfOk, None, List, length};
 ghost use Rattle.std.specs.List.{All, AllZip};
 ghost use Rattle.shred_world.specs.declared.id.ResourceId.{ResourceId};
 ghost use Rattle.shred_world.specs.Parting.{emptied};
-ghost use Rattle.shred_world.specs.Parts.{DoNotConflict, reads_of, writes_of, written_by, HasRoom, HoldsWritten, Fits, IsJoined, IsEmptied};
+ghost use Rattle.shred_world.specs.Parts.{DoNotConflict, reads_of, writes_of, written_by, HasRoom, HoldsWritten, Fits, IsJoined, IsEmptied, HoldsSameIds};
+ghost use Rattle.shred_world.specs.Shown.{IsSameSlots};
 ghost use Rattle.shred_world.specs.Slots.{slot_at, among, or_slot};
-ghost use Rattle.shred_world.specs.Views.{may_read, may_write, is_out, shelf_slot, lent_slot, view_slot, table_in};
-ghost use Rattle.shred_world.specs.Beside.{ShowsDeclared, CanJoin, LendsParts, behind_slot, table_under, pairs_of};
+ghost use Rattle.shred_world.specs.Views.{may_read, may_write, is_out, shelf_slot, lent_slot, view_slot, view_held, table_in, IsSameView};
+ghost use Rattle.shred_world.specs.Beside.{WasParted};
 
 use crate::accessor::OutOfMemory;
 use crate::id::ResourceId;
+use crate::resource::ResourceValue;
 use crate::table::Table;
 use crate::world::data::{Shelf, View};
 use std::alloc::Global;
@@ -67,13 +68,24 @@ impl<V: Drop> Table<V> {
     }
 }
 
-/// The loan of a view whose written values are out in hands, one for each pair of lists of ids. Only `join` ends it, so
-/// no value stays out. While it is there, the view cannot be used.
-pub struct Parts<'p, 'q, V> {
-    own: &'p mut Table<V>,
-    owned: &'q [ResourceId],
-    shelf: &'q [Shelf<'q, V>],
-    pairs: &'q [(&'q [ResourceId], &'q [ResourceId])],
+/// What is done over the parts of a view: over the hands, of which each has what its pair writes, and what lies behind
+/// them. `View::over` makes a view of each.
+pub trait PartsWork<V: ResourceValue> {
+    ghost use Rattle.shred_world.specs.Beside.{PartsRelation};
+
+    ghost works: { PartsRelation V Self };
+
+    /// Works over the hands. In each it leaves a value under the ids under which there was one.
+    fn run(
+        &mut self,
+        pairs: &[(&[ResourceId], &[ResourceId])],
+        shelf: &[Shelf<V>],
+        hands: &mut [Table<V>],
+    )
+        requires { length pairs.now ≡ length hands.old }
+        ensures works { works self.old pairs.now (λ q. lent_slot shelf.now q) hands.old self.new hands.new }
+        ensures slots { AllZip IsSameSlots hands.old hands.new }
+        ensures ids { AllZip (HoldsSameIds V.kind_of) hands.old hands.new };
 }
 
 impl<'s, 'a, V: Drop> View<'s, 'a, V> {
@@ -86,36 +98,6 @@ impl<'s, 'a, V: Drop> View<'s, 'a, V> {
         ensures { IfOk result (λ hands. AllZip (HasRoom (table_in self.now)) pairs.now hands.items) }
     {
         self.own.make_hands(alloc, pairs)
-    }
-
-    /// Parts the view: for each pair of lists, of ids to be read and of ids to be written, the values of the ids that
-    /// the pair writes are moved into its hand. The slots that they leave stay. It takes no memory.
-    pub fn part<'p, 'q>(
-        &'p mut self,
-        pairs: &'q [(&'q [ResourceId], &'q [ResourceId])],
-        hands: &mut [Table<V>],
-    ) -> Parts<'p, 'q, V>
-    where
-        's: 'q,
-        requires nothing_out { (id : ResourceId) → is_out self.old id ≡ false }
-        requires reads_within { All (λ p. (id : ResourceId) → IsTrue (among (reads_of p) id) → IsTrue (may_read self.old id)) pairs.now }
-        requires writes_within { All (λ p. (id : ResourceId) → IsTrue (among (writes_of p) id) → IsTrue (may_write self.old id)) pairs.now }
-        requires apart { DoNotConflict pairs.now }
-        requires room { AllZip (HasRoom (table_in self.old)) pairs.now hands.old }
-        ensures pairs { pairs_of result ≡ pairs.now }
-        ensures shown { AllZip (ShowsDeclared (behind_slot result) (view_slot self.old)) pairs.now hands.new }
-        ensures ready { CanJoin (table_under result) pairs.now hands.new }
-        ensures rest { (q : ResourceId) → written_by pairs.now q ≡ false → slot_at (table_under result) q ≡ slot_at (table_in self.old) q }
-        ensures slots { (q : ResourceId) → is_some (slot_at (table_under result) q) ≡ is_some (slot_at (table_in self.old) q) }
-        ensures* back { sem 𝓛 (LendsParts V.row self.entry result) }
-    {
-        self.own.move_all_out(pairs, hands);
-        Parts {
-            owned: self.owned,
-            shelf: self.shelf,
-            pairs,
-            own: &mut *self.own,
-        }
     }
 }
 
@@ -133,29 +115,62 @@ fn shelf_before<'b, V>(
     }
 }
 
-impl<'p, 'q, V: Drop> Parts<'p, 'q, V> {
-    /// What lies behind the hands, for the views over them.
-    pub fn behind(&self) -> Shelf<'_, V>
-        ensures { (q : ResourceId) → shelf_slot result q ≡ behind_slot self.now q }
+// Works over the hands, and over a shelf of what lies behind them.
+fn work_over<V: ResourceValue, W: PartsWork<V>>(
+    pairs: &[(&[ResourceId], &[ResourceId])],
+    behind: Shelf<V>,
+    hands: &mut [Table<V>],
+    work: &mut W,
+)
+    requires { length pairs.now ≡ length hands.old }
+    ensures works { W.works work.old pairs.now (λ q. shelf_slot behind.entry q) hands.old work.new hands.new }
+    ensures slots { AllZip IsSameSlots hands.old hands.new }
+    ensures ids { AllZip (HoldsSameIds V.kind_of) hands.old hands.new }
+{
+    let shelf = [behind];
+    work.run(pairs, &shelf, hands);
+}
+
+impl<'s, 'a, V: ResourceValue + Drop> View<'s, 'a, V> {
+    /// Parts the view for the time of one work. For each pair of lists, of ids to be read and of ids to be written, the
+    /// values of the ids that the pair writes are moved into its hand; the slots that they leave stay. Then the work is
+    /// done over the hands, and at last every value goes back into the slot that it left. The list of pairs may be
+    /// empty. It takes no memory, and leaves the hands with room for the next time.
+    pub fn part<W: PartsWork<V>>(
+        &mut self,
+        pairs: &[(&[ResourceId], &[ResourceId])],
+        hands: &mut [Table<V>],
+        work: &mut W,
+    )
+        requires nothing_out { (id : ResourceId) → is_out self.old id ≡ false }
+        requires reads_within { All (λ p. (id : ResourceId) → IsTrue (among (reads_of p) id) → IsTrue (may_read self.old id)) pairs.now }
+        requires writes_within { All (λ p. (id : ResourceId) → IsTrue (among (writes_of p) id) → IsTrue (may_write self.old id)) pairs.now }
+        requires apart { DoNotConflict pairs.now }
+        requires room { AllZip (HasRoom (table_in self.old)) pairs.now hands.old }
+        ensures same { IsSameView self.old self.new }
+        ensures parted { WasParted W.works pairs.now self.old work.old self.new work.new }
+        ensures rest { (q : ResourceId) → written_by pairs.now q ≡ false → view_slot self.new q ≡ view_slot self.old q }
+        ensures ids { (q : ResourceId) → is_some (view_held V.kind_of self.new q) ≡ is_some (view_held V.kind_of self.old q) }
+        ensures room { AllZip (HasRoom (table_in self.new)) pairs.now hands.new }
     {
-        shelf_before(self.own, self.owned, self.shelf)
+        self.own.move_all_out(pairs, hands);
+        self.work_parted(pairs, hands, work);
+        self.own.move_all_back(pairs, hands);
     }
 
-    /// Joins the parts: every value goes back into the slot that it left. It takes no memory, and leaves the hands with
-    /// room for the next time.
-    pub fn join(self, hands: &mut [Table<V>])
-        requires { CanJoin (table_under self) (pairs_of self) hands.old }
-        ensures joined { AllZip (IsJoined self.exit.0.now) (pairs_of self.entry) hands.old }
-        ensures rest { (q : ResourceId) → written_by (pairs_of self.entry) q ≡ false → slot_at self.exit.0.now q ≡ slot_at (table_under self.entry) q }
-        ensures slots { (q : ResourceId) → is_some (slot_at self.exit.0.now q) ≡ is_some (slot_at (table_under self.entry) q) }
-        ensures room { AllZip (HasRoom self.exit.0.now) (pairs_of self.entry) hands.new }
+    // Works over the hands, and over what lies behind them: what the view shows now.
+    fn work_parted<W: PartsWork<V>>(
+        &self,
+        pairs: &[(&[ResourceId], &[ResourceId])],
+        hands: &mut [Table<V>],
+        work: &mut W,
+    )
+        requires { length pairs.now ≡ length hands.old }
+        ensures works { W.works work.old pairs.now (view_slot self.now) hands.old work.new hands.new }
+        ensures slots { AllZip IsSameSlots hands.old hands.new }
+        ensures ids { AllZip (HoldsSameIds V.kind_of) hands.old hands.new }
     {
-        let Parts {
-            own,
-            owned: _,
-            shelf: _,
-            pairs,
-        } = self;
-        own.move_all_back(pairs, hands);
+        let behind = shelf_before(self.own, self.owned, self.shelf);
+        work_over(pairs, behind, hands, work);
     }
 }

@@ -1,21 +1,36 @@
-use Rattle.std.proofs.Common.{◌≡◌, ◌∙◌, ap, arith, slice_index_or}
-use Rattle.std.specs.Prelude.{is_some}
-use Rattle.shred_world.specs.Slots.{slot_at}
+use Rattle.std.proofs.Common.{◌≡◌, ◌<◌, List, [], length, sym, subst, ◌∙◌, arith, slice_index_or}
+use Rattle.std.proofs.Math.ListN.{length-set}
 use Rattle.shred_world.specs.declared.table.Table.{Table}
-use Rattle.shredtest.specs.Parted.{HasSameSlots}
-use Rattle.shred_world.proofs.Pairs.{zip-at, zip-more, zip-end, same-start}
+use Rattle.shred_world.specs.Parts.{Pair}
+use Rattle.shred_world.specs.Shown.{Lent}
+use Rattle.shred_world.specs.Views.{lent_slot}
+use Rattle.shredtest.specs.Parted.{IsWorkedOver}
+use Rattle.shredtest.proofs.Worked.{worked-start, worked-at, worked-more, worked-end}
 use Rattle.shredtest.proofs.parted.work_each.Goals as goal
 
 pub loop-i-init : goal.loop-i-init
-loop-i-init g c = same-start HasSameSlots c.args.hands.now
+loop-i-init g c = record {
+  long = c.requires;
+  worked = worked-start g.V.ResourceValue.kind_of g.W.Work.works (λ q. lent_slot c.args.shelf.now q) c.args.pairs.now c.args.hands.now c.args.work.now c.requires;
+}
 
 pub loop-i-preserved : goal.loop-i-preserved
 loop-i-preserved g c =
+    let kind = g.V.ResourceValue.kind_of in
+    let works = g.W.Work.works in
+    let behind : Lent g.row.V.Denot = λ q. lent_slot c.args.shelf.now q in
+    let pairs = c.args.pairs.now in
     let i = c.loop-i.i in
+    let d : Pair = (record { ref_ptr = (0, 0); now = [] }, record { ref_ptr = (0, 0); now = [] }) in
     let e = c.index-hands-i.result in
-    let same : slice_index_or c.loop-i.hands i e ≡ slice_index_or c.args.hands.now i e = zip-at HasSameSlots (λ was now. now ≡ was) i c.args.hands.now c.loop-i.hands e e c.loop-i-test.true c.loop-i.invariant in
-    zip-more HasSameSlots (λ was now. now ≡ was) i c.args.hands.now c.loop-i.hands e c.work_over.new.hand c.loop-i-test.true c.loop-i.invariant
-    (λ q. c.work_over.ensures q ∙ ap (λ (h : Table g.row.V.Denot). is_some (slot_at h q)) same)
+    let below : i < length pairs = omega (arith, c.requires, c.loop-i-test.true) in
+    let same : slice_index_or c.loop-i.hands i e ≡ slice_index_or c.args.hands.now i e = worked-at kind works behind i pairs c.args.hands.now c.loop-i.hands c.args.work.now c.loop-i.work e below c.loop-i.invariant.worked in
+    record {
+      long = c.loop-i.invariant.long ∙ sym (length-set c.loop-i.hands i c.work_over.new.hand);
+      worked = worked-more kind works behind i pairs c.args.hands.now c.loop-i.hands c.args.work.now c.loop-i.work d e c.work_over.new.hand c.work_over.new.work below c.loop-i.invariant.worked
+          (subst (λ (h : Table g.row.V.Denot). IsWorkedOver kind works behind (slice_index_or pairs i d) h c.loop-i.work c.work_over.new.hand c.work_over.new.work) same
+          (record { lies = c.work_over.ensures.works; slots = c.work_over.ensures.slots; ids = c.work_over.ensures.ids }));
+    }
 
 pub returns : goal.returns
-returns g c = zip-end HasSameSlots (λ was now. now ≡ was) c.loop-i.i c.args.hands.now c.loop-i.hands (omega arith) c.loop-i.invariant
+returns g c = worked-end g.V.ResourceValue.kind_of g.W.Work.works (λ q. lent_slot c.args.shelf.now q) c.loop-i.i c.args.pairs.now c.args.hands.now c.loop-i.hands c.args.work.now c.loop-i.work (omega (arith, c.requires, c.loop-i-test.false)) c.loop-i.invariant.worked

@@ -1,7 +1,10 @@
 use Rattle.std.proofs.Common.{◌≡◌, length}
-use Rattle.shredtest.specs.Parted.{HasSameSlots}
-use Rattle.shred_world.proofs.Pairs.{ZipTo}
+use Rattle.shred_world.specs.Views.{lent_slot}
+use Rattle.shredtest.proofs.Worked.{WorkedTo}
 use Rattle.shredtest.proofs.parted.work_each.Given as goal
 
 abbrev pub invariant-loop-i : goal.invariant-loop-i
-invariant-loop-i g l = ZipTo HasSameSlots (λ was now. now ≡ was) l.i l.initial.hands l.hands
+invariant-loop-i g l = record {
+  long : length l.pairs ≡ length l.hands;
+  worked : WorkedTo g.V.ResourceValue.kind_of g.W.Work.works (λ q. lent_slot l.shelf q) l.i l.pairs l.initial.hands l.initial.work l.hands l.work;
+}

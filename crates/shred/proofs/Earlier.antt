@@ -7,14 +7,14 @@ use Rattle.shred_model.specs.Plan.{Entry, Group, Stage, Plan, group_ids, stage_i
 use Rattle.shred_model.specs.Record.{Agent}
 use Rattle.shred_model.proofs.Places.{slice_get-set_same}
 use Rattle.shred.specs.Added.{IsNewAt}
-use Rattle.shred.specs.Earlier.{IsEarlier, IsFromBarrier, HasIdAt, ComesAfter, AllBeforeBarrier}
+use Rattle.shred.specs.Earlier.{IsEarlier, IsFromBarrier, HasIdAt, HasId, ComesAfter, AllBeforeBarrier}
 use Rattle.shred.specs.Placement.{without, difference, dependencies_left, IsPlaced, in_new_group, at_end_of_group, in_new_stage, HoldsTheOneLeft}
 use Rattle.shred.proofs.Ids.{eqb-refl_at, eqb_other}
 use Rattle.shred.proofs.Membership.{Contains-nil, Contains-head, Contains-tail, Contains-from_same, Contains-cons_cases, Contains-flat_map_cases}
 use Rattle.shred.proofs.Touching.{slice_get-push_end}
 
 -- two places are the same, or not
-same_place : (p q : Agent) → (p ≡ q) ⊎ (p ≢ q)
+pub same_place : (p q : Agent) → (p ≡ q) ⊎ (p ≢ q)
 same_place [] [] = inl refl
 same_place [] (m ∷ q) = inr (λ e. cc)
 same_place (n ∷ p) [] = inr (λ e. cc)
@@ -54,8 +54,8 @@ group_has (e ∷ group) id h =
     ⊎_elim (λ s. (zero, e, refl, s)) (λ c. let found = group_has group id c in (suc found.0, found.1, found.2, found.3)) (Contains-cons_cases e.id (group_ids group) id h)
 
 -- the entry of an id that a plan holds, with its stage
-plan_has : {I : Type 0} (plan : Plan I) (id : ℕ) → Contains (plan_ids plan) id → (k g i : ℕ) × (stage : Stage I) × (group : Group I) × (entry : Entry I) × (slice_get plan k ≡ Some stage) × (slice_get stage g ≡ Some group) × (slice_get group i ≡ Some entry) × (entry.id ≡ id)
-plan_has plan id h =
+entry-of_place : {I : Type 0} (plan : Plan I) (id : ℕ) → Contains (plan_ids plan) id → (k g i : ℕ) × (stage : Stage I) × (group : Group I) × (entry : Entry I) × (slice_get plan k ≡ Some stage) × (slice_get stage g ≡ Some group) × (slice_get group i ≡ Some entry) × (entry.id ≡ id)
+entry-of_place plan id h =
     let in_stage = Contains-flat_map_cases stage_ids plan id h in
     let in_group = Contains-flat_map_cases group_ids in_stage.0 id in_stage.2 in
     let found = group_has in_group.0 id in_group.2 in
@@ -67,10 +67,15 @@ entry_there : {I : Type 0} (plan : Plan I) (k g i : ℕ) (stage : Stage I) (grou
     → entry_at plan (k ∷ g ∷ i ∷ []) ≡ Some entry
 entry_there plan k g i stage group entry at_stage at_group at_entry = rw (at_stage, at_group, at_entry) refl
 
+pub entry-of_id : {I : Type 0} (plan : Plan I) (id : ℕ) → Contains (plan_ids plan) id → HasId plan id
+entry-of_id plan id h =
+    let (k, g, i, stage, group, entry, at_stage, at_group, at_entry, is) = entry-of_place plan id h in
+    (k ∷ g ∷ i ∷ [], (entry, entry_there plan k g i stage group entry at_stage at_group at_entry, is))
+
 -- an id that a stage from the barrier to k - 1 has stands in an earlier stage than k
 has_earlier : {I : Type 0} (plan : Plan I) (barrier k id : ℕ) (path : Agent) → Contains (plan_ids (slice_range plan barrier k)) id → (other : Agent) × HasIdAt plan other id × IsEarlier other (k ∷ path)
 has_earlier plan barrier k id path h =
-    let (n, g, i, stage, group, entry, at_stage, at_group, at_entry, is) = plan_has (slice_range plan barrier k) id h in
+    let (n, g, i, stage, group, entry, at_stage, at_group, at_entry, is) = entry-of_place (slice_range plan barrier k) id h in
     let there = slice_get-range plan barrier k n stage at_stage in
     ((barrier + n) ∷ g ∷ i ∷ [], (entry, entry_there plan (barrier + n) g i stage group entry there.0 at_group at_entry, is), inl (barrier + n, k, g ∷ i ∷ [], path, refl, refl, there.1))
 

@@ -21,6 +21,7 @@ pub mod Searching
 pub mod Sinks
 pub mod Spots
 pub mod StageKeeps
+pub mod Standing
 pub mod Tests
 pub mod Times
 pub mod Touching

@@ -4,7 +4,7 @@ use Rattle.shred_world.specs.declared.id.ResourceId.{ResourceId}
 use Rattle.shred_model.specs.Plan.{Entry, Plan}
 use Rattle.shred_model.specs.Record.{Agent}
 use Rattle.shred.specs.Added.{AreSame, IsAdded}
-use Rattle.shred.specs.Earlier.{IsFromBarrier, ComesAfter, AllBeforeBarrier}
+use Rattle.shred.specs.Earlier.{IsFromBarrier, StandsAfter, AllBeforeBarrier}
 use Rattle.shred.specs.Kept.{IsKept}
 use Rattle.shred.specs.Known.{Known, KnowsAll, IsFirstUnknown, ids_of, with_name}
 use Rattle.shred.specs.Placement.{IsPlaced}
@@ -52,7 +52,7 @@ pub record IsAddition {S : Type 0} (old new : Built S) (name : List ℕ) (depend
   pub placed : IsPlaced old.plan old.barrier old.barrier (ids_of old.known dependencies) entry new.plan
   pub added : IsAdded old.plan new.plan old.states new.states entry system
   pub from_barrier : IsFromBarrier old.barrier added.place
-  pub after : ComesAfter old.plan (ids_of old.known dependencies) added.place
+  pub after : StandsAfter old.plan (ids_of old.known dependencies) added.place
   pub known : (q : List ℕ) → new.known q ≡ with_name old.known name old.next q
   pub barrier : new.barrier ≡ old.barrier
   pub next : new.next ≡ old.next + 1

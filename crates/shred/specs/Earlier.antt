@@ -1,6 +1,7 @@
 -- Which places of a plan come before others.
-use Rattle.std.specs.Prelude.{◌≡◌, ℕ, ◌<◌, ◌≤◌, ◌⊎◌, List, [], ◌∷◌, Some, Contains}
-use Rattle.shred_model.specs.Plan.{Entry, Plan, entry_at}
+use Rattle.std.specs.Prelude.{◌≡◌, ℕ, ◌<◌, ◌≤◌, ◌==◌, ◌⊎◌, Bool, List, [], ◌∷◌, Some, Contains}
+use Rattle.std.specs.List.{list_any}
+use Rattle.shred_model.specs.Plan.{Entry, Plan, entry_at, plan_ids}
 use Rattle.shred_model.specs.Record.{Agent}
 
 -- the first place is in an earlier stage than the second
@@ -34,6 +35,14 @@ HasId plan id = (place : Agent) × HasIdAt plan place id
 -- each of these dependencies that the plan has stands earlier than the place
 abbrev pub ComesAfter : {I : Type 0} → Plan I → List ℕ → Agent → Type 0
 ComesAfter plan dependencies place = (id : ℕ) → Contains dependencies id → HasId plan id → (other : Agent) × HasIdAt plan other id × IsEarlier other place
+
+-- each of these ids stands earlier than the place
+abbrev pub StandsAfter : {I : Type 0} → Plan I → List ℕ → Agent → Type 0
+StandsAfter plan ids place = (id : ℕ) → Contains ids id → (other : Agent) × HasIdAt plan other id × IsEarlier other place
+
+-- whether an entry of the plan has this id
+abbrev pub plan_has : {I : Type 0} → Plan I → ℕ → Bool
+plan_has plan id = list_any (λ n. n == id) (plan_ids plan)
 
 -- every entry stands in a stage before the barrier
 abbrev pub AllBeforeBarrier : {I : Type 0} → Plan I → ℕ → Type 0

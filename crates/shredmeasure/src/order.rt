@@ -1,19 +1,20 @@
 //! What is asked of the program.
 ghost use Rattle.std.specs.Prelude.{◌≤◌, IfSome};
 
-/// How a plan is dispatched.
+/// What is done with the systems: they are dispatched, or a plan of random ones is built.
 #[derive(Clone, Copy)]
 pub(crate) enum Mode {
     OnCaller,
     OnThreads,
+    Planning,
 }
 
-/// So many systems, dispatched so often.
+/// So many systems, dispatched or planned so often.
 #[derive(Clone, Copy)]
 pub(crate) struct Order {
     pub(crate) mode: Mode,
     pub(crate) systems: u64,
-    pub(crate) dispatches: u64,
+    pub(crate) times: u64,
 }
 
 /// The most systems that are made.
@@ -28,17 +29,18 @@ impl Order {
         let mode = match words.next()? {
             "seq" => Mode::OnCaller,
             "par" => Mode::OnThreads,
+            "plan" => Mode::Planning,
             _ => return None,
         };
         let systems = words.next()?.parse::<u64>().ok()?;
-        let dispatches = words.next()?.parse::<u64>().ok()?;
+        let times = words.next()?.parse::<u64>().ok()?;
         if systems > MOST_SYSTEMS {
             return None;
         }
         Some(Order {
             mode,
             systems,
-            dispatches,
+            times,
         })
     }
 }

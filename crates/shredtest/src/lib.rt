@@ -4,6 +4,10 @@
 #[cfg(test)]
 mod both_ways;
 #[cfg(test)]
+mod builder_tests;
+#[cfg(test)]
+mod dependency_tests;
+#[cfg(test)]
 mod gate;
 pub mod parted;
 pub mod plain_plan;

@@ -14,13 +14,13 @@ use std::test::Fail;
 
 /// What a system of a test declares.
 #[derive(Clone, Copy)]
-struct Case {
-    reads: &'static [u32],
-    writes: &'static [u32],
-    time: RunningTime,
+pub(crate) struct Case {
+    pub(crate) reads: &'static [u32],
+    pub(crate) writes: &'static [u32],
+    pub(crate) time: RunningTime,
 }
 
-fn described(reads: &'static [u32], writes: &'static [u32], time: RunningTime) -> Case {
+pub(crate) fn described(reads: &'static [u32], writes: &'static [u32], time: RunningTime) -> Case {
     Case {
         reads,
         writes,
@@ -30,7 +30,7 @@ fn described(reads: &'static [u32], writes: &'static [u32], time: RunningTime) -
 
 /// The lists of a system of a test.
 #[derive(Drop)]
-struct Declared {
+pub(crate) struct Declared {
     reads: Vec<ResourceId>,
     writes: Vec<ResourceId>,
 }
@@ -60,7 +60,7 @@ impl Accessor for Declared {
 
 /// A system that is only planned.
 #[derive(Drop)]
-struct OnlyPlanned {
+pub(crate) struct OnlyPlanned {
     declared: Declared,
     time: RunningTime,
 }
@@ -119,24 +119,27 @@ fn resources(alloc: Global, numbers: &[u32]) -> Result<Vec<ResourceId>, AllocErr
     Ok(ids)
 }
 
+/// The system of a case.
+pub(crate) fn system_of(alloc: Global, case: Case) -> Result<OnlyPlanned, AllocError> {
+    Ok(OnlyPlanned {
+        declared: Declared {
+            reads: resources(alloc, case.reads)?,
+            writes: resources(alloc, case.writes)?,
+        },
+        time: case.time,
+    })
+}
+
 fn planned(alloc: Global, cases: &[Case]) -> Result<Vec<Stage<Value, OnlyPlanned>>, Fail> {
     let mut builder = StagesBuilder::new(alloc);
     for (id, case) in cases.iter().enumerate() {
-        let declared = Declared {
-            reads: resources(alloc, case.reads)?,
-            writes: resources(alloc, case.writes)?,
-        };
-        let system = OnlyPlanned {
-            declared,
-            time: case.time,
-        };
-        builder.insert(&[], SystemId(id), system)?;
+        builder.insert(&[], SystemId(id), system_of(alloc, *case)?)?;
     }
     Ok(builder.build())
 }
 
 /// A plan, as `[[0],[1,2]] [[3]]`.
-fn text_of_stages(
+pub(crate) fn text_of_stages(
     alloc: Global,
     stages: &[Stage<Value, OnlyPlanned>],
 ) -> Result<String, AllocError> {
@@ -157,7 +160,7 @@ fn text_of_stages(
     Ok(text)
 }
 
-fn text_of_plain(alloc: Global, plan: &PlainPlan) -> Result<String, AllocError> {
+pub(crate) fn text_of_plain(alloc: Global, plan: &PlainPlan) -> Result<String, AllocError> {
     let mut text = String::new(alloc);
     for stage in &plan.stages {
         start_stage(&mut text)?;
@@ -194,7 +197,7 @@ fn add_id(text: &mut String, id: usize) -> Result<(), AllocError> {
     write!(text, "{id}")
 }
 
-fn plain_entry(alloc: Global, id: usize, case: Case) -> Result<PlainEntry, AllocError> {
+pub(crate) fn plain_entry(alloc: Global, id: usize, case: Case) -> Result<PlainEntry, AllocError> {
     Ok(PlainEntry {
         id,
         reads: Vec::from_slice(alloc, case.reads)?,
@@ -224,7 +227,7 @@ fn both(alloc: Global, cases: &[Case]) -> Result<(String, String), Fail> {
 }
 
 /// A system for each number.
-fn numbered(n: u64) -> Case {
+pub(crate) fn numbered(n: u64) -> Case {
     let time = match n / 8 % 3 {
         0 => RunningTime::VeryShort,
         1 => RunningTime::Average,
@@ -262,7 +265,7 @@ fn every_short_list_is_planned_by_the_rule(rt: HostRuntime) -> Result<(), Fail> 
     Ok(())
 }
 
-fn next(seed: u64) -> u64 {
+pub(crate) fn next(seed: u64) -> u64 {
     seed.wrapping_mul(6364136223846793005)
         .wrapping_add(1442695040888963407)
 }

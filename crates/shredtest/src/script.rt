@@ -7,7 +7,7 @@ use std::process::Abort;
 use std::thread::Threads;
 
 mod cases;
-mod fakes;
+pub(crate) mod fakes;
 
 /// What a run wrote and answered.
 #[derive(Drop)]

@@ -1,11 +1,13 @@
 //! The builder of dispatchers.
-ghost use Rattle.std.specs.Prelude.{◌≡◌, ◌++◌, codes, IfOk, OnOk, OnErr, IfErr};
+ghost use Rattle.std.specs.Prelude.{◌≡◌, ◌++◌, ℕ, List, Some, true, IfOk, OnOk, OnErr, IfErr};
 ghost use Rattle.shred_model.specs.Plan.{plan_ids};
 ghost use Rattle.shred_model.specs.Record.{Agent};
+ghost use Rattle.shred.specs.BuilderPlan.{planned};
 ghost use Rattle.shred.specs.Built.{IsAddition, IsBarrierSet, IsNewBuilt, IsRefusal, IsSameBuilt, MayAdd};
 ghost use Rattle.shred.specs.Dispatchers.{dispatcher_plan, dispatcher_states};
+ghost use Rattle.shred.specs.Earlier.{plan_has};
 ghost use Rattle.shred.specs.Known.{texts_of};
-ghost use Rattle.shred.specs.Names.{first_unnamed};
+ghost use Rattle.shred.specs.Names.{first_unnamed, names_of};
 ghost use Rattle.shred.specs.Printed.{line_feed, plan_text};
 ghost use Rattle.shred.specs.Prints.{IsPrinted};
 
@@ -21,6 +23,9 @@ use shred_world::{OutOfMemory, ResourceValue};
 use std::alloc::Global;
 use std::collections::HashMap;
 
+#[cfg(test)]
+mod tests;
+
 /// A plan that grows by one system after another, with names for them.
 #[derive(Drop)]
 pub struct DispatcherBuilder<V: ResourceValue, S: System<V>> {
@@ -28,6 +33,7 @@ pub struct DispatcherBuilder<V: ResourceValue, S: System<V>> {
     stages: StagesBuilder<V, S>,
     names: HashMap<String, SystemId>,
     next: usize,
+    ghost known_planned: { (name : List ℕ) (id : ℕ) → names_of names name ≡ Some id → plan_has (planned stages) id ≡ true },
 }
 
 impl<V: ResourceValue, S: System<V>> DispatcherBuilder<V, S> {

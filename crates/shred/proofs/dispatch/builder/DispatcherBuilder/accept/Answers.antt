@@ -5,6 +5,7 @@ use Rattle.shred.specs.Known.{ids_of, texts_of}
 use Rattle.shred.specs.Names.{names_of}
 use Rattle.shred.specs.Placement.{IsPlaced}
 use Rattle.shred.specs.PlanOf.{numbers_of}
+use Rattle.shred.proofs.Standing.{known-still, stands-after_all}
 use Rattle.shred.proofs.dispatch.builder.DispatcherBuilder.accept.Goals as goal
 
 pub returns-clause-added : goal.returns-clause-added
@@ -18,8 +19,13 @@ returns-clause-added g c =
       placed = subst (λ ids. IsPlaced (planned old) (barrier_of old) (barrier_of old) ids entry (planned c.insert.new.self)) same placed;
       added = added;
       from_barrier = from_barrier;
-      after = subst (λ ids. ComesAfter (planned old) ids added.place) same after;
+      after = stands-after_all (planned old) (names_of c.args.self.now.names) (texts_of c.args.dependencies.now) added.place c.args.self.now.known_planned c.requires.all_known (subst (λ ids. ComesAfter (planned old) ids added.place) same after);
       known = c.in_default.ensures.ok;
       barrier = c.insert.ensures.barrier;
       next = refl;
     }
+
+pub invariant_of-self-2 : goal.invariant_of-self-2
+invariant_of-self-2 g c =
+    let (entry, kept, placed, added, from_barrier, after) = c.in_default-insert.ensures.placed in
+    record { known_planned = known-still (planned c.args.self.now.stages) (planned c.insert.new.self) added.place entry (names_of c.args.self.now.names) (names_of c.enter.new.names) c.args.name.now c.args.self.now.next kept.same_id added.entry_is_new c.in_default.ensures.ok c.args.self.now.known_planned }

@@ -10,6 +10,9 @@ mod dependency_tests;
 #[cfg(test)]
 mod gate;
 pub mod parted;
+pub mod parted_counts;
+#[cfg(test)]
+mod parted_tests;
 pub mod plain_plan;
 #[cfg(test)]
 mod planner_tests;

@@ -18,6 +18,14 @@ enum Call {
     Barrier,
 }
 
+fn system_ids(alloc: Global, numbers: &[usize]) -> Result<Vec<SystemId>, Fail> {
+    let mut ids = Vec::new(alloc);
+    for number in numbers {
+        ids.push(SystemId(*number))?;
+    }
+    Ok(ids)
+}
+
 fn quickly(alloc: Global, calls: &[Call]) -> Result<StagesBuilder<Value, OnlyPlanned>, Fail> {
     let mut builder = StagesBuilder::new(alloc);
     let mut next = 0;
@@ -25,10 +33,7 @@ fn quickly(alloc: Global, calls: &[Call]) -> Result<StagesBuilder<Value, OnlyPla
         match *call {
             Call::Barrier => builder.add_barrier(),
             Call::Insert(case, dependencies) => {
-                let mut ids = Vec::new(alloc);
-                for id in dependencies {
-                    ids.push(SystemId(*id))?;
-                }
+                let ids = system_ids(alloc, dependencies)?;
                 builder.insert(ids.as_slice(), SystemId(next), system_of(alloc, case)?)?;
                 next = next.wrapping_add(1);
             }

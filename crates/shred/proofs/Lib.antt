@@ -35,3 +35,4 @@ pub mod Zips
 pub mod Forked
 pub mod ForkedRuns
 pub mod GroupsWithin
+pub mod Viewed

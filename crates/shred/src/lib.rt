@@ -15,7 +15,8 @@ pub use dispatch::stage::Stage;
 pub use dispatch::stages_builder::StagesBuilder;
 pub use shred_world::{
     Accessor, DataError, DefaultProvider, Entry, Fetch, FetchMut, Kind, OutOfMemory, PanicHandler,
-    PartsWork, ReplaceError, Resource, ResourceId, ResourceValue, Resources, SetupHandler, Shelf,
-    Table, View, World, WorldError, check_intersection,
+    PartsWork, Read, ReadExpect, ReplaceError, Resource, ResourceId, ResourceValue, Resources,
+    SetupHandler, Shelf, SystemData, Table, View, World, WorldError, Write, WriteExpect,
+    check_intersection,
 };
 pub use system::{Fault, RunningTime, System};

@@ -53,9 +53,9 @@ second false b h = absurd (cc)
 
 module _ {V : Type 0} where
   -- over its hand and what lies behind, a part shows what the view showed
-  pub shown-over : (b a o : Bool) (t s h l : Option (Slot V)) → h ≡ cond b t None → s ≡ cond a (emptied t) t → (b ≡ true → o ≡ true) → (b ≡ false → a ≡ false)
+  pub shown-over : (b a o : Bool) (t s h l : Option (Slot V)) → h ≡ cond b t None → s ≡ cond a (emptied t) t → (b ≡ true → cond o None l ≡ None) → (b ≡ false → a ≡ false)
       → or_slot h (cond b None (or_slot s (cond o None l))) ≡ or_slot t (cond o None l)
-  shown-over true a o t s h l held left own none = rw (held, own refl) refl
+  shown-over true a o t s h l held left own none = rw held (ap (or_slot t) (sym (own refl)))
   shown-over false a o t s h l held left own none = rw (held, left, none refl) refl
 
   pub left-slots : (a : Bool) (t s : Option (Slot V)) → s ≡ cond a (emptied t) t → is_some s ≡ is_some t

@@ -9,3 +9,5 @@ pub mod Moves
 pub mod Shown
 pub mod Pairs
 pub mod Beside
+pub mod Grants
+pub mod Bundles

@@ -13,7 +13,7 @@ use Rattle.shred_world.specs.contracts.table.Slot.{the_row as slot_row}
 use Rattle.shred_world.specs.contracts.table.Table.{the_row as table_row}
 use Rattle.shred_world.specs.declared.world.data.View.{View}
 use Rattle.shred_world.specs.contracts.world.data.View.{the_row as view_row}
-use Rattle.shred_world.specs.Slots.{slot_at, with_at}
+use Rattle.shred_world.specs.Slots.{slot_at, noted_in, with_at}
 use Rattle.shred_world.specs.Views.{view_held, IsSameView}
 use Rattle.shred_world.specs.Worlds.{world_held}
 
@@ -32,14 +32,14 @@ LendsResource V R wrapped s r = LendsIf (slot_row V) R s r (λ w. with_value s.n
 -- the table ends with the slot last written at the id, and all else as it was
 abbrev pub LendsSlot : (V : RattleType) → MutBor (Table V.Denot) → ResourceId → Option (MutBor (Slot V.Denot)) → Fml
 LendsSlot V s id r = LendsSo (table_row V) (slot_row V) s r
-    (λ n w. OnSome r ((q : ResourceId) → slot_at n q ≡ with_at (slot_at s.now) id (Some w) q))
-    (λ n. (q : ResourceId) → slot_at n q ≡ slot_at s.now q)
+    (λ n w. OnSome r ((q : ResourceId) → slot_at n q ≡ with_at (slot_at s.now) id (Some w) q) × ((q : ResourceId) → noted_in n q ≡ noted_in s.now q))
+    (λ n. ((q : ResourceId) → slot_at n q ≡ slot_at s.now q) × ((q : ResourceId) → noted_in n q ≡ noted_in s.now q))
 
 -- the table ends with the resource last written under the id, and all else as it was
 abbrev pub LendsHeld : (V R : RattleType) → (R.Denot → V.Denot) → MutBor (Table V.Denot) → ResourceId → Option (MutBor R.Denot) → Fml
 LendsHeld V R wrapped s id r = LendsSo (table_row V) R s r
-    (λ n w. OnSome r ((q : ResourceId) → slot_at n q ≡ with_at (slot_at s.now) id (Some (record { value = Some (wrapped w) })) q))
-    (λ n. (q : ResourceId) → slot_at n q ≡ slot_at s.now q)
+    (λ n w. OnSome r ((q : ResourceId) → slot_at n q ≡ with_at (slot_at s.now) id (Some (record { value = Some (wrapped w) })) q) × ((q : ResourceId) → noted_in n q ≡ noted_in s.now q))
+    (λ n. ((q : ResourceId) → slot_at n q ≡ slot_at s.now q) × ((q : ResourceId) → noted_in n q ≡ noted_in s.now q))
 
 -- the row of a view whose lifetimes stand at these places of a signature
 abbrev pub view_at : ℕ → ℕ → RattleType → RattleType

@@ -9,3 +9,8 @@ pub mod Parting
 pub mod Parts
 pub mod Beside
 pub mod Entries
+pub mod Grants
+pub mod Bundles
+pub mod Handing
+pub mod BundleParts
+pub mod Executed

@@ -38,6 +38,10 @@ without_at m id = with_at m id None
 abbrev pub among : List ResourceId → ResourceId → Bool
 among ids id = list_any (λ x. same_id x id) ids
 
+-- whether the id's value was noted as handed out
+abbrev pub noted_in : {V : Type 0} → Table V → ResourceId → Bool
+noted_in t id = among t.out.items id
+
 -- the first slot, or else the second
 abbrev pub or_slot : {V : Type 0} → Option (Slot V) → Option (Slot V) → Option (Slot V)
 or_slot (Some s) t = Some s

@@ -1,5 +1,5 @@
 -- Views: the declared ids, what is held under them, and what is out.
-use Rattle.std.specs.Prelude.{◌≡◌, ℕ, Bool, false, Option, Some, None, cond, nat_eq, ◌&&◌, ◌||◌, List, [], ◌∷◌, is_some}
+use Rattle.std.specs.Prelude.{◌≡◌, ℕ, Bool, false, Option, Some, None, cond, nat_eq, ◌&&◌, ◌||◌, List, [], ◌∷◌, is_some, is_none, length, ◌==◌}
 use Rattle.shred_world.specs.declared.id.Kind.{Kind}
 use Rattle.shred_world.specs.declared.id.ResourceId.{ResourceId}
 use Rattle.shred_world.specs.declared.table.Slot.{Slot}
@@ -8,7 +8,7 @@ use Rattle.shred_world.specs.declared.world.data.DataError.{DataError}
 use Rattle.shred_world.specs.declared.world.data.DataError.TheVariants.{Missing, Undeclared, Taken, WrongKind}
 use Rattle.shred_world.specs.declared.world.data.Shelf.{Shelf, Last, Before'}
 use Rattle.shred_world.specs.declared.world.data.View.{View}
-use Rattle.shred_world.specs.Slots.{among, slot_at, slot_held, or_slot}
+use Rattle.shred_world.specs.Slots.{among, noted_in, slot_at, slot_held, or_slot}
 
 -- the slot that a shelf shows for an id: that of the nearest table which has one, where no table before it owns the id
 abbrev pub shelf_slot : {V : Type 0} → Shelf V → ResourceId → Option (Slot V)
@@ -28,17 +28,30 @@ view_slot v id = or_slot (slot_at v.own.now id) (cond (among v.owned.now id) Non
 abbrev pub view_held : {V : Type 0} → (V → Kind) → View V → ResourceId → Option V
 view_held kind v id = slot_held kind id (view_slot v id)
 
+-- whether the view is of all that a table holds, with nothing behind it
+abbrev pub is_whole : {V : Type 0} → View V → Bool
+is_whole v = v.whole && (length v.shelf.now == 0)
+
 -- whether the id is declared to be written
 abbrev pub may_write : {V : Type 0} → View V → ResourceId → Bool
-may_write v id = among v.writes.now id && among v.owned.now id
+may_write v id = is_whole v || (among v.writes.now id && among v.owned.now id)
 
 -- whether the id is declared at all
 abbrev pub may_read : {V : Type 0} → View V → ResourceId → Bool
 may_read v id = among v.reads.now id || may_write v id
 
--- whether the id is declared to be written, and its value handed out
+-- a slot whose value was moved out
+abbrev pub is_vacant : {V : Type 0} → Option (Slot V) → Bool
+is_vacant (Some s) = is_none s.value
+is_vacant None = false
+
+-- whether the value of the id is handed out: it is noted so, and its slot is empty
 abbrev pub is_out : {V : Type 0} → View V → ResourceId → Bool
-is_out v id = may_write v id && among v.out.now id
+is_out v id = noted_in v.own.now id && is_vacant (slot_at v.own.now id)
+
+-- whether the id is looked for in the view's own table alone
+abbrev pub is_own : {V : Type 0} → View V → ResourceId → Bool
+is_own v id = is_some (slot_at v.own.now id) || (is_whole v || among v.owned.now id)
 
 -- the first test that a part for an id fails: of the kind, of what is declared, of what is out, of what is held
 abbrev pub refusal : Kind → ResourceId → Bool → Bool → Bool → Option DataError
@@ -60,12 +73,31 @@ declared_held kind v id = cond (may_read v id) (view_held kind v id) None
 abbrev pub table_of : {V : Type 0} → View V → ℕ
 table_of v = v.own.ghost_name
 
+-- the same lists, and the same tables behind the view's own
+pub record HasSameLists {V : Type 0} (old new : View V) : Type 0 where
+  pub reads : new.reads ≡ old.reads
+  pub writes : new.writes ≡ old.writes
+  pub owned : new.owned ≡ old.owned
+  pub whole : new.whole ≡ old.whole
+  pub shelf : new.shelf ≡ old.shelf
+
+-- the same ids are declared, the same tables are lent, and no slot came or went
+pub record IsSameLoan {V : Type 0} (old new : View V) : Type 0 where
+  pub reads : new.reads.now ≡ old.reads.now
+  pub writes : new.writes.now ≡ old.writes.now
+  pub owned : new.owned.now ≡ old.owned.now
+  pub shelf : (id : ResourceId) → lent_slot new.shelf.now id ≡ lent_slot old.shelf.now id
+  pub whole : is_whole new ≡ is_whole old
+  pub table : table_of new ≡ table_of old
+  pub slots : (id : ResourceId) → is_some (slot_at new.own.now id) ≡ is_some (slot_at old.own.now id)
+
 -- the same ids are declared and out, the same tables are lent, and no slot came or went
 pub record IsSameView {V : Type 0} (old new : View V) : Type 0 where
   pub reads : new.reads.now ≡ old.reads.now
   pub writes : new.writes.now ≡ old.writes.now
   pub owned : new.owned.now ≡ old.owned.now
   pub shelf : (id : ResourceId) → lent_slot new.shelf.now id ≡ lent_slot old.shelf.now id
+  pub whole : is_whole new ≡ is_whole old
   pub table : table_of new ≡ table_of old
   pub slots : (id : ResourceId) → is_some (slot_at new.own.now id) ≡ is_some (slot_at old.own.now id)
   pub out : (id : ResourceId) → is_out new id ≡ is_out old id
@@ -81,3 +113,7 @@ owned_ids v = v.owned.now
 -- the tables that are lent shared
 abbrev pub shelves_of : {V : Type 0} → View V → List (Shelf V)
 shelves_of v = v.shelf.now
+
+-- whether the view has noted that the id's value may be out
+abbrev pub noted : {V : Type 0} → View V → ResourceId → Bool
+noted v id = noted_in v.own.now id

@@ -1,9 +1,9 @@
 //! A table of slots, each of one id; the value of a slot may be moved out of it and back.
-ghost use Rattle.std.specs.Prelude.{◌≡◌, ◌≢◌, IfNone, IfSome, None, Some, MatchOption, OnOk, OnErr, IfOk, IfErr};
+ghost use Rattle.std.specs.Prelude.{◌≡◌, ◌≢◌, ◌||◌, false, IfNone, IfSome, None, Some, MatchOption, OnOk, OnErr, IfOk, IfErr};
 ghost use Rattle.std.specs.Option.{option_copied, option_copied_mut};
 ghost use Rattle.std.specs.Borrow.{sem};
-ghost use Rattle.shred_world.specs.Slots.{slot_at, of_kind, held, slot_held, with_at};
-ghost use Rattle.shred_world.specs.Id.{kind_of};
+ghost use Rattle.shred_world.specs.Slots.{slot_at, noted_in, of_kind, held, slot_held, with_at};
+ghost use Rattle.shred_world.specs.Id.{kind_of, same_id};
 ghost use Rattle.shred_world.specs.Parting.{emptied, slot_value, filled};
 ghost use Rattle.shred_world.specs.Lent.{LendsSlot, LendsValue, LendsResource, LendsHeld};
 ghost use Rattle.shred_world.specs.declared.id.ResourceId.{ResourceId};
@@ -76,6 +76,7 @@ impl<V> Slot<V> {
 #[derive(Drop)]
 pub struct Table<V> {
     slots: HashMap<ResourceId, Slot<V>>,
+    out: Vec<ResourceId>,
 }
 
 impl<V> Table<V> {
@@ -85,6 +86,37 @@ impl<V> Table<V> {
     {
         Table {
             slots: HashMap::new(alloc),
+            out: Vec::new(alloc),
+        }
+    }
+
+    // Forgets which values were noted as handed out; the room for notes stays.
+    pub(crate) fn forget_notes(&mut self)
+        ensures slots { self.new.slots ≡ self.old.slots }
+        ensures noted { (q : ResourceId) → noted_in self.new q ≡ false }
+    {
+        self.out.clear();
+    }
+
+    // Whether the id's value was noted as handed out.
+    pub(crate) fn has_note(&self, id: ResourceId) -> bool
+        ensures { result ≡ noted_in self.now id }
+    {
+        self.out.contains(&id)
+    }
+
+    // Notes that the id's value is handed out.
+    pub(crate) fn note(&mut self, id: ResourceId) -> Result<(), OutOfMemory>
+        ensures ok { OnOk result ((q : ResourceId) → noted_in self.new q ≡ (same_id id q || noted_in self.old q)) }
+        ensures err { OnErr result ((q : ResourceId) → noted_in self.new q ≡ noted_in self.old q) }
+        ensures slots { (q : ResourceId) → slot_at self.new q ≡ slot_at self.old q }
+    {
+        if self.has_note(id) {
+            return Ok(());
+        }
+        match self.out.push(id) {
+            Ok(()) => Ok(()),
+            Err(_) => Err(OutOfMemory),
         }
     }
 
@@ -149,6 +181,7 @@ impl<V> Table<V> {
     pub(crate) fn take(&mut self, id: ResourceId) -> Option<V>
         ensures value { result ≡ slot_value (slot_at self.old id) }
         ensures slots { (q : ResourceId) → slot_at self.new q ≡ with_at (slot_at self.old) id (emptied (slot_at self.old id)) q }
+        ensures noted { (q : ResourceId) → noted_in self.new q ≡ noted_in self.old q }
     {
         match self.slot_mut(id) {
             Some(slot) => slot.value.take(),
@@ -160,7 +193,8 @@ impl<V> Table<V> {
     pub(crate) fn fill(&mut self, id: ResourceId, value: V)
     where
         V: Drop,
-        ensures { (q : ResourceId) → slot_at self.new q ≡ with_at (slot_at self.old) id (filled value (slot_at self.old id)) q }
+        ensures slots { (q : ResourceId) → slot_at self.new q ≡ with_at (slot_at self.old) id (filled value (slot_at self.old id)) q }
+        ensures noted { (q : ResourceId) → noted_in self.new q ≡ noted_in self.old q }
     {
         if let Some(slot) = self.slot_mut(id) {
             slot.value = Some(value);

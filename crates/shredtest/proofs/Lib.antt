@@ -1,3 +1,4 @@
 pub mod Fits
 pub mod PlainReads
 pub mod Worked
+pub mod KeptIds

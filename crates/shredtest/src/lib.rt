@@ -6,6 +6,8 @@ mod both_ways;
 #[cfg(test)]
 mod builder_tests;
 #[cfg(test)]
+mod bundles;
+#[cfg(test)]
 mod dependency_tests;
 #[cfg(test)]
 mod gate;

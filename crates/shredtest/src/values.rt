@@ -1,9 +1,9 @@
-//! Two kinds of resources, for the tests.
+//! Three kinds of resources, for the tests.
 ghost use Rattle.std.specs.Prelude.{◌≡◌, MatchOption, MatchResult};
 ghost use Rattle.shred_world.specs.declared.id.Kind.{Kind};
-ghost use Rattle.shredtest.specs.Values.{kind_of, count_kind, name_kind};
+ghost use Rattle.shredtest.specs.Values.{kind_of, count_kind, name_kind, flag_kind};
 ghost use Rattle.shredtest.specs.declared.values.Value.{Value};
-ghost use Rattle.shredtest.specs.declared.values.Value.TheVariants.{Count, Name};
+ghost use Rattle.shredtest.specs.declared.values.Value.TheVariants.{Count, Name, Flag};
 
 use shred::{Kind, Resource, ResourceValue};
 
@@ -12,6 +12,7 @@ use shred::{Kind, Resource, ResourceValue};
 pub enum Value {
     Count(Count),
     Name(Name),
+    Flag(Flag),
 }
 
 /// A resource of kind 0.
@@ -22,6 +23,10 @@ pub struct Count(pub i64);
 #[derive(Clone, Copy, Debug, PartialEq)]
 pub struct Name(pub u8);
 
+/// A resource of kind 2.
+#[derive(Clone, Copy, Debug, Default, PartialEq)]
+pub struct Flag(pub bool);
+
 impl ResourceValue for Value {
     ghost kind_of = { kind_of };
 
@@ -29,6 +34,7 @@ impl ResourceValue for Value {
         match self {
             Value::Count(_) => Kind(0),
             Value::Name(_) => Kind(1),
+            Value::Flag(_) => Kind(2),
         }
     }
 }
@@ -54,14 +60,14 @@ impl Resource<Value> for Count {
     fn view(value: &Value) -> Option<&Self> {
         match value {
             Value::Count(count) => Some(count),
-            Value::Name(_) => None,
+            _ => None,
         }
     }
 
     fn view_mut(value: &mut Value) -> Option<&mut Self> {
         match value {
             Value::Count(count) => Some(count),
-            Value::Name(_) => None,
+            _ => None,
         }
     }
 
@@ -93,14 +99,53 @@ impl Resource<Value> for Name {
     fn view(value: &Value) -> Option<&Self> {
         match value {
             Value::Name(name) => Some(name),
-            Value::Count(_) => None,
+            _ => None,
         }
     }
 
     fn view_mut(value: &mut Value) -> Option<&mut Self> {
         match value {
             Value::Name(name) => Some(name),
-            Value::Count(_) => None,
+            _ => None,
+        }
+    }
+
+    ghost use Rattle.std.proofs.Common.{refl};
+
+    ghost wrapped_kind = { λ r. refl };
+
+    ghost wrapped_once = { λ r s e. Prim.cc };
+}
+
+impl Resource<Value> for Flag {
+    ghost KIND = { flag_kind };
+
+    const KIND: Kind = Kind(2);
+
+    ghost wrapped = { λ f. Flag f };
+
+    fn wrap(self) -> Value {
+        Value::Flag(self)
+    }
+
+    fn unwrap(value: Value) -> Result<Self, Value> {
+        match value {
+            Value::Flag(flag) => Ok(flag),
+            other => Err(other),
+        }
+    }
+
+    fn view(value: &Value) -> Option<&Self> {
+        match value {
+            Value::Flag(flag) => Some(flag),
+            _ => None,
+        }
+    }
+
+    fn view_mut(value: &mut Value) -> Option<&mut Self> {
+        match value {
+            Value::Flag(flag) => Some(flag),
+            _ => None,
         }
     }
 

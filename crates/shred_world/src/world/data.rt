@@ -1,12 +1,13 @@
 //! Views: what a system is lent of a world.
-ghost use Rattle.std.specs.Prelude.{◌≡◌, ◌&&◌, ◌||◌, Bool, Some, IfOk, IsTrue, true, false, is_some};
+ghost use Rattle.std.specs.Prelude.{◌≡◌, ◌&&◌, ◌||◌, Bool, Some, IfOk, IsTrue, true, false, cond, is_some};
 ghost use Rattle.std.specs.Borrow.{sem};
 ghost use Rattle.shred_world.specs.declared.id.ResourceId.{ResourceId};
 ghost use Rattle.shred_world.specs.Lent.{LendsWritten, LendsNarrow};
 ghost use Rattle.std.specs.Option.{option_copied};
 ghost use Rattle.std.specs.Result.{result_err};
-ghost use Rattle.shred_world.specs.Slots.{among};
-ghost use Rattle.shred_world.specs.Views.{shelf_slot, lent_slot, view_slot, view_held, may_read, may_write, is_out, refusal, table_in, owned_ids, shelves_of};
+ghost use Rattle.shred_world.specs.Grants.{grant_of, map_grant};
+ghost use Rattle.shred_world.specs.Slots.{among, slot_at, held};
+ghost use Rattle.shred_world.specs.Views.{shelf_slot, lent_slot, view_slot, view_held, is_whole, may_read, may_write, is_vacant, is_out, refusal, table_in, owned_ids, shelves_of};
 
 use crate::id::{Kind, ResourceId};
 use crate::resource::{Resource, ResourceValue};
@@ -61,14 +62,14 @@ pub struct View<'s, 'a, V> {
     reads: &'s [ResourceId],
     writes: &'s [ResourceId],
     pub(crate) owned: &'s [ResourceId],
-    out: &'s [ResourceId],
+    pub(crate) whole: bool,
     pub(crate) shelf: &'s [Shelf<'s, V>],
     pub(crate) own: &'a mut Table<V>,
 }
 
 impl<'s, 'a, V: ResourceValue> View<'s, 'a, V> {
     // The slot that is lent shared for an id.
-    fn lent_slot(&self, id: ResourceId) -> Option<&'s Slot<V>>
+    pub(crate) fn lent_slot(&self, id: ResourceId) -> Option<&'s Slot<V>>
         ensures { option_copied result ≡ lent_slot self.now.shelf.now id }
     {
         match self.shelf.first() {
@@ -93,13 +94,19 @@ impl<'s, 'a, V: ResourceValue> View<'s, 'a, V> {
         }
     }
 
-    fn may_write(&self, id: ResourceId) -> bool
-        ensures { result ≡ may_write self.now id }
+    pub(crate) fn is_whole(&self) -> bool
+        ensures { result ≡ is_whole self.now }
     {
-        self.writes.contains(&id) && self.owned.contains(&id)
+        self.whole && self.shelf.is_empty()
     }
 
-    fn may_read(&self, id: ResourceId) -> bool
+    pub(crate) fn may_write(&self, id: ResourceId) -> bool
+        ensures { result ≡ may_write self.now id }
+    {
+        self.is_whole() || (self.writes.contains(&id) && self.owned.contains(&id))
+    }
+
+    pub(crate) fn may_read(&self, id: ResourceId) -> bool
         ensures { result ≡ may_read self.now id }
     {
         self.reads.contains(&id) || self.may_write(id)
@@ -118,11 +125,25 @@ impl<'s, 'a, V: ResourceValue> View<'s, 'a, V> {
     fn is_out(&self, id: ResourceId) -> bool
         ensures { result ≡ is_out self.now id }
     {
-        self.may_write(id) && self.out.contains(&id)
+        self.own.has_note(id) && self.is_vacant(id)
+    }
+
+    // Whether the view's own slot of an id is empty.
+    fn is_vacant(&self, id: ResourceId) -> bool
+        ensures { result ≡ is_vacant (slot_at self.now.own.now id) }
+    {
+        match self.own.slot(id) {
+            Some(slot) => slot.value.is_none(),
+            None => false,
+        }
     }
 
     // The tests of a part that come before the look whether a value is held.
-    fn test<R: Resource<V>>(&self, id: ResourceId, declared: bool) -> Result<(), DataError>
+    pub(crate) fn test<R: Resource<V>>(
+        &self,
+        id: ResourceId,
+        declared: bool,
+    ) -> Result<(), DataError>
         ensures { result_err result ≡ refusal R.KIND id declared (is_out self.now id) true }
     {
         if R::KIND != id.kind() {
@@ -186,17 +207,39 @@ impl<'s, 'a, V: ResourceValue> View<'s, 'a, V> {
         ensures nothing_out { (id : ResourceId) → is_out result id ≡ false }
         ensures shown { (id : ResourceId) → view_held V.kind_of result id ≡ view_held V.kind_of self.old id }
         ensures own { table_in result ≡ table_in self.old }
-        ensures owned { owned_ids result ≡ owned_ids self.old }
+        ensures owned { owned_ids result ≡ cond (is_whole self.old) writes.now (owned_ids self.old) }
         ensures shelf { shelves_of result ≡ shelves_of self.old }
         ensures* back { sem 𝓛 (LendsNarrow V.row self.entry result) }
     {
+        let owned = if self.is_whole() { writes } else { self.owned };
         View {
             reads,
             writes,
-            owned: self.owned,
-            out: &[],
+            owned,
+            whole: false,
             shelf: self.shelf,
             own: &mut *self.own,
+        }
+    }
+}
+
+impl<'s, 'a, V: ResourceValue> View<'s, 'a, V> {
+    // The view of all that a table holds, to read and to write.
+    pub(crate) fn whole(own: &'a mut Table<V>) -> Self
+        ensures name { result.own.ghost_name ≡ own.entry.ghost_name }
+        ensures slots { result.own.now.slots ≡ own.old.slots }
+        ensures whole { is_whole result ≡ true }
+        ensures grant { grant_of V.kind_of result ≡ map_grant (held V.kind_of own.old) }
+    {
+        own.forget_notes();
+        let none: &'s [ResourceId] = &[];
+        View {
+            reads: none,
+            writes: none,
+            owned: none,
+            whole: true,
+            shelf: &[],
+            own,
         }
     }
 }
@@ -211,19 +254,20 @@ impl<'s, 'a, V> View<'s, 'a, V> {
         own: &'a mut Table<V>,
     ) -> Self
         ensures name { result.own.ghost_name ≡ own.entry.ghost_name }
-        ensures own { result.own.now ≡ own.old }
+        ensures slots { result.own.now.slots ≡ own.old.slots }
         ensures reads { result.reads.now ≡ reads.now }
         ensures writes { result.writes.now ≡ writes.now }
         ensures owned { result.owned.now ≡ writes.now }
+        ensures not_whole { is_whole result ≡ false }
         ensures nothing_out { (id : ResourceId) → is_out result id ≡ false }
         ensures shelf { result.shelf.now ≡ shelf.now }
     {
-        let out = &[];
+        own.forget_notes();
         View {
             reads,
             writes,
             owned: writes,
-            out,
+            whole: false,
             shelf,
             own,
         }

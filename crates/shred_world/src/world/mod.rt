@@ -14,11 +14,18 @@ use crate::world::entry::Entry;
 use crate::world::fetch::{Fetch, FetchMut};
 use std::alloc::Global;
 
+pub mod absent;
+pub mod bundle;
 pub mod data;
 pub mod entry;
+mod exec;
 pub mod fetch;
+pub mod handing;
 pub mod parts;
+pub mod read;
 pub mod setup;
+pub mod tuples;
+pub mod write;
 
 /// Why a call of a world was refused.
 #[derive(Clone, Copy, Debug, PartialEq, Eq)]
@@ -51,7 +58,7 @@ pub type Resources<V> = World<V>;
 impl<V: ResourceValue> World<V> {
     ghost use Rattle.shred_world.specs.Worlds.{world_held, table_of_world, IsFilled};
     ghost use Rattle.shred_world.specs.Id.{id_of, kind_of};
-    ghost use Rattle.shred_world.specs.Slots.{with_at, without_at, among};
+    ghost use Rattle.shred_world.specs.Slots.{slot_at, with_at, without_at, among};
     ghost use Rattle.shred_world.specs.Entries.{lent_world, entry_world};
     ghost use Rattle.shred_world.specs.Views.{view_held, may_read, may_write, is_out, table_in, shelves_of};
     ghost use Rattle.shred_world.specs.Lent.{LendsTable, LendsWorld, LendsGot, LendsGotOk};
@@ -348,7 +355,7 @@ impl<V: ResourceValue> World<V> {
         ensures writes { (id : ResourceId) → may_write result id ≡ among writes.now id }
         ensures nothing_out { (id : ResourceId) → is_out result id ≡ false }
         ensures shown { (id : ResourceId) → view_held V.kind_of result id ≡ world_held V.kind_of self.old id }
-        ensures own { table_in result ≡ table_of_world self.old }
+        ensures own { (q : ResourceId) → slot_at (table_in result) q ≡ slot_at (table_of_world self.old) q }
         ensures shelf { shelves_of result ≡ [] }
         ensures* back { sem 𝓛 (LendsWorld V.row self.entry result) }
     {

@@ -5,7 +5,7 @@ ghost use Rattle.shred_world.specs.declared.id.ResourceId.{ResourceId};
 ghost use Rattle.shred_world.specs.Parting.{emptied};
 ghost use Rattle.shred_world.specs.Parts.{DoNotConflict, reads_of, writes_of, written_by, HasRoom, HoldsWritten, Fits, IsJoined, IsEmptied, HoldsSameIds};
 ghost use Rattle.shred_world.specs.Shown.{IsSameSlots};
-ghost use Rattle.shred_world.specs.Slots.{slot_at, among, or_slot};
+ghost use Rattle.shred_world.specs.Slots.{slot_at, noted_in, among, or_slot};
 ghost use Rattle.shred_world.specs.Views.{may_read, may_write, is_out, shelf_slot, lent_slot, view_slot, view_held, table_in, IsSameView};
 ghost use Rattle.shred_world.specs.Beside.{WasParted};
 
@@ -52,7 +52,7 @@ impl<V: Drop> Table<V> {
         }
     }
 
-    // Moves what is in the hands back.
+    // Moves what is in the hands back. Then no value is handed out.
     fn move_all_back(&mut self, pairs: &[(&[ResourceId], &[ResourceId])], hands: &mut [Table<V>])
         requires apart { DoNotConflict pairs.now }
         requires fit { AllZip (Fits self.old) pairs.now hands.old }
@@ -61,10 +61,12 @@ impl<V: Drop> Table<V> {
         ensures rest { (q : ResourceId) → written_by pairs.now q ≡ false → slot_at self.new q ≡ slot_at self.old q }
         ensures slots { (q : ResourceId) → is_some (slot_at self.new q) ≡ is_some (slot_at self.old q) }
         ensures emptied { AllZip IsEmptied hands.old hands.new }
+        ensures noted { (q : ResourceId) → noted_in self.new q ≡ false }
     {
         for i in 0..pairs.len() {
             self.move_back(pairs[i].1, &mut hands[i]);
         }
+        self.forget_notes();
     }
 }
 

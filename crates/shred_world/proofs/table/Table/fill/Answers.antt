@@ -8,5 +8,8 @@ use Rattle.shred_world.proofs.table.Table.fill.Goals as goal
 pub returns-in-Some : goal.returns-in-Some
 returns-in-Some g c =
     let shown : slot_at c.args.self.now c.args.id ≡ Some c.in-Some.slot.now = rw c.in-Some.is at (sym c.slot_mut.ensures.shown) in
-    λ q. OnSome-here c.slot_mut.result c.in-Some.slot c.in-Some.is (c.slot_mut.follows.holds (record { value = Some c.args.value })) q
-    ∙ sym (ap (λ (o : Option (Slot g.row.V.Denot)). with_at (slot_at c.args.self.now) c.args.id (filled c.args.value o) q) shown)
+    let ends = c.slot_mut.follows.holds (record { value = Some c.args.value }) in
+    record {
+      slots = λ q. OnSome-here c.slot_mut.result c.in-Some.slot c.in-Some.is ends.0 q ∙ sym (ap (λ (o : Option (Slot g.row.V.Denot)). with_at (slot_at c.args.self.now) c.args.id (filled c.args.value o) q) shown);
+      noted = ends.1;
+    }

@@ -1,10 +1,16 @@
-use Rattle.std.proofs.Common.{◌≡◌, ◌+◌, ◌++◌, ◌∷◌, [], List, sym, subst, take, slice_index_or}
+use Rattle.std.proofs.Common.{◌≡◌, ◌+◌, ◌++◌, ◌∷◌, [], List, sym, subst, take, slice_index_or, Bool, true, false, Option, None, cond, ap, ◌∙◌}
 use Rattle.std.specs.List.{AllZip}
 use Rattle.std.proofs.lemmas.List.{take_more}
 use Rattle.std.proofs.lemmas.Slice.Zip.{all_zipped_more}
 use Rattle.shred_world.specs.declared.table.Table.{Table}
+use Rattle.shred_world.specs.declared.table.Slot.{Slot}
+use Rattle.shred_world.specs.Parting.{emptied}
 use Rattle.shred_world.specs.Parts.{Pair, HasRoom}
 use Rattle.shred_world.proofs.table.Table.make_hands.Goals as goal
+
+spare : {V : Type 0} (b : Bool) {o : Option (Slot V)} → o ≡ None → o ≡ cond b (emptied o) None
+spare true h = h ∙ ap emptied (sym h)
+spare false h = h
 
 pub loop-pair-preserved : goal.loop-pair-preserved
 loop-pair-preserved g c =
@@ -16,3 +22,6 @@ loop-pair-preserved g c =
     all_zipped_more (HasRoom c.args.self.now) (take i pairs) c.loop-pair.hands.items pair c.make_room.new.hand c.loop-pair.invariant c.in-Ok.ensures.room in
     subst (λ (hs : List (Table g.row.V.Denot)). AllZip (HasRoom c.args.self.now) (take (i + 1) pairs) hs) (sym c.in-Ok-push.ensures.items)
     (subst (λ (ps : List Pair). AllZip (HasRoom c.args.self.now) ps (c.loop-pair.hands.items ++ c.make_room.new.hand ∷ [])) (sym more) zip)
+
+pub make_room-requires : goal.make_room-requires
+make_room-requires g c = λ q. spare _ (c.new-hand.ensures q)

@@ -1,5 +1,7 @@
 use Rattle.std.proofs.Common.{◌≡◌, ◌&&◌, Bool, Option, cond, List, [], slice_index_or, take, refl, sym, ◌∙◌, ap, arith}
 use Rattle.std.specs.Prelude.{is_some}
+use Rattle.std.specs.HashMap.{get}
+use Rattle.shred_world.specs.Id.{same_id}
 use Rattle.std.proofs.lemmas.List.{take_all}
 use Rattle.std.proofs.Math.ListN.{length-set}
 use Rattle.shred_world.specs.declared.table.Slot.{Slot}
@@ -58,15 +60,15 @@ loop-i-preserved g c =
     }
 
 pub returns-clause-joined : goal.returns-clause-joined
-returns-clause-joined g c = joined-all c.loop-i.i c.args.pairs.now c.args.hands.now (slot_at c.args.self.now) (slot_at c.loop-i.self) c.requires.apart (omega arith) (omega (arith, c.loop-i.invariant.long)) c.loop-i.invariant.table
+returns-clause-joined g c = joined-all c.loop-i.i c.args.pairs.now c.args.hands.now (slot_at c.args.self.now) (slot_at c.forget_notes.new.self) c.requires.apart (omega arith) (omega (arith, c.loop-i.invariant.long)) (λ q. (λ i. get same_id (c.forget_notes.ensures.slots i) q) ∙ c.loop-i.invariant.table q)
 
 pub returns-clause-rest : goal.returns-clause-rest
 returns-clause-rest g c = λ q n.
     let whole : take c.loop-i.i c.args.pairs.now ≡ c.args.pairs.now = take_all c.loop-i.i c.args.pairs.now (omega arith) in
-    c.loop-i.invariant.table q ∙ joined-rest c.loop-i.i c.args.pairs.now c.args.hands.now (slot_at c.args.self.now) q (ap (λ (ps : List Pair). written_by ps q) whole ∙ n)
+    (λ i. get same_id (c.forget_notes.ensures.slots i) q) ∙ c.loop-i.invariant.table q ∙ joined-rest c.loop-i.i c.args.pairs.now c.args.hands.now (slot_at c.args.self.now) q (ap (λ (ps : List Pair). written_by ps q) whole ∙ n)
 
 pub returns-clause-slots : goal.returns-clause-slots
-returns-clause-slots g c = λ q. ap is_some (c.loop-i.invariant.table q) ∙ joined-slots (λ r. is_some (slot_at c.args.self.now r)) c.loop-i.i c.args.pairs.now c.args.hands.now (slot_at c.args.self.now) c.requires.fit (λ r. refl) q
+returns-clause-slots g c = λ q. ap is_some ((λ i. get same_id (c.forget_notes.ensures.slots i) q) ∙ c.loop-i.invariant.table q) ∙ joined-slots (λ r. is_some (slot_at c.args.self.now r)) c.loop-i.i c.args.pairs.now c.args.hands.now (slot_at c.args.self.now) c.requires.fit (λ r. refl) q
 
 pub returns-clause-emptied : goal.returns-clause-emptied
 returns-clause-emptied g c = zip-end IsEmptied (λ was now. now ≡ was) c.loop-i.i c.args.hands.now c.loop-i.hands (omega (arith, c.loop-i.invariant.long)) c.loop-i.invariant.same

@@ -12,8 +12,8 @@ returns g c =
     let law : (r : g.row.R.Denot) → kind (wrapped r) ≡ id.kind = λ r. g.met.R.Resource.wrapped_kind r ∙ c.requires.kind in (
       (
         refl,
-        (λ w. OnSome-map c.resource_mut.result (held-written kind c.args.self.now.table (c.resource_mut.follows.lender w) id (wrapped w) (law w)) (c.resource_mut.follows.holds w)),
-        (λ q. ap (slot_held kind q) (c.resource_mut.follows.holds-at-none q)),
+        (λ w. OnSome-map c.resource_mut.result (held-written kind c.args.self.now.table (c.resource_mut.follows.lender w) id (wrapped w) (law w)) (c.resource_mut.follows.holds w).0),
+        (λ q. ap (slot_held kind q) (c.resource_mut.follows.holds-at-none.0 q)),
       ),
       record {
         shown = option_map-shown (λ r. wrapped r.now) c.resource_mut.result (held kind c.args.self.now.table id)

@@ -6,7 +6,8 @@ use Rattle.shred_world.specs.Shown.{IsSameSlots}
 use Rattle.shred_world.specs.Slots.{slot_at, slot_held, among}
 use Rattle.shred_world.specs.Views.{lent_slot}
 use Rattle.shred_world.proofs.Pairs.{zip-length}
-use Rattle.shred_world.proofs.Beside.{zip-map, zip-through, written-none, second, shown-over, left-slots, fit-over, room-again, held-over, held-joined}
+use Rattle.shred_world.proofs.Beside.{zip-map, zip-through, written-none, shown-over, left-slots, fit-over, room-again, held-over, held-joined}
+use Rattle.shred_world.proofs.Refusals.{hidden}
 use Rattle.shred_world.proofs.world.data.View.part.Goals as goal
 
 pub work_parted-requires : goal.work_parted-requires
@@ -33,7 +34,7 @@ returns-clause-parted g c =
       works = c.work_parted.ensures.works;
       shown = zip-map (HoldsWritten was.own.now) _ pairs c.move_all_out.new.hands
           (λ i d h below holds q declared. shown-over (among (writes_of (get_or pairs i d)) q) (written_by pairs q) (among was.owned.now q) (slot_at was.own.now q) (slot_at now q) (slot_at h q) (lent_slot was.shelf.now q)
-          (holds q) (c.move_all_out.ensures.left q) (λ w. second (among was.writes.now q) (among was.owned.now q) (c.requires.writes_within i d below q w)) (λ out. written-none i pairs d q c.requires.apart below declared out))
+          (holds q) (c.move_all_out.ensures.left q) (λ w. hidden was q (c.requires.writes_within i d below q w)) (λ out. written-none i pairs d q c.requires.apart below declared out))
           c.move_all_out.ensures.hands;
       joined = c.move_all_back.ensures.joined;
     }

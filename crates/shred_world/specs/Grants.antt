@@ -1,0 +1,41 @@
+-- Grants: what views grant, and how handing a value out and giving one back change it.
+use Rattle.std.specs.Prelude.{true, false, Bool, not, ◌&&◌, ◌||◌, Option, Some, None, List, [], ◌∷◌}
+use Rattle.shred_world.specs.declared.id.Kind.{Kind}
+use Rattle.shred_world.specs.declared.id.ResourceId.{ResourceId}
+use Rattle.shred_world.specs.declared.world.data.View.{View}
+use Rattle.shred_world.specs.Id.{same_id}
+use Rattle.shred_world.specs.Slots.{with_at}
+use Rattle.shred_world.specs.Views.{may_read, may_write, is_own, is_out, view_held}
+
+-- which ids may be read, which may be written, which values are not shared, which are out, and what is held
+pub record Grant (V : Type 0) : Type 0 where
+  pub reads : ResourceId → Bool
+  pub writes : ResourceId → Bool
+  pub own : ResourceId → Bool
+  pub out : ResourceId → Bool
+  pub held : ResourceId → Option V
+
+-- what a view grants
+abbrev pub grant_of : {V : Type 0} → (V → Kind) → View V → Grant V
+grant_of kind v = record { reads = may_read v; writes = may_write v; own = is_own v; out = is_out v; held = view_held kind v }
+
+-- all of a map: each id may be read and written, nothing is shared, and nothing is out
+abbrev pub map_grant : {V : Type 0} → (ResourceId → Option V) → Grant V
+map_grant m = record { reads = λ q. true; writes = λ q. true; own = λ q. true; out = λ q. false; held = m }
+
+-- the grant after the value under the id was handed out
+abbrev pub without : {V : Type 0} → Grant V → ResourceId → Grant V
+without g id = record g { out = λ q. same_id id q || g.out q; held = with_at g.held id None }
+
+-- the grant after this value was given back under the id
+abbrev pub with_back : {V : Type 0} → Grant V → ResourceId → V → Grant V
+with_back g id v = record g { out = λ q. not (same_id id q) && g.out q; held = with_at g.held id (Some v) }
+
+-- values that were moved out, with their ids
+abbrev pub Moved : Type 0 → Type 0
+Moved V = List (ResourceId × V)
+
+-- the grant after these were given back, the last of them first
+abbrev pub given_back : {V : Type 0} → Grant V → Moved V → Grant V
+given_back g [] = g
+given_back g (m ∷ ms) = with_back (given_back g ms) m.0 m.1

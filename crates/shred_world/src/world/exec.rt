@@ -1,0 +1,82 @@
+//! Bundles of a world: their setup, and calls with them.
+ghost use Rattle.std.specs.Prelude.{◌≡◌, Option, Ok};
+ghost use Rattle.shred_world.specs.Executed.{IsCalled, IsHeldAfter, IsExecuted, MayCall, KeepsIds};
+ghost use Rattle.shred_world.specs.Grants.{grant_of, map_grant};
+ghost use Rattle.shred_world.specs.Slots.{held};
+ghost use Rattle.shred_world.specs.Views.{table_of, IsSameLoan};
+ghost use Rattle.shred_world.specs.Worlds.{world_held};
+ghost use Rattle.shred_world.specs.declared.id.ResourceId.{ResourceId};
+
+use crate::resource::ResourceValue;
+use crate::table::Table;
+use crate::world::bundle::SystemData;
+use crate::world::data::{DataError, View};
+use crate::world::{World, WorldError};
+
+impl<V: ResourceValue> World<V> {
+    /// Sets the world up for the bundle.
+    pub fn setup<'s, D: SystemData<'s, V>>(&mut self) -> Result<(), WorldError>
+    where
+        V: 's,
+        ensures { D.sets_up (world_held V.kind_of self.old) result (world_held V.kind_of self.new) }
+    {
+        D::setup(self)
+    }
+
+    /// Sets the world up for the bundle, takes it, calls the closure once with it, and gives it back. What the setup did
+    /// before a refusal stays. The closure leaves in the bundle what the bundle was taken with; it is called only where
+    /// nothing was refused.
+    pub fn exec<'s, D: SystemData<'s, V>, A, F: FnOnce(&mut D) -> A>(
+        &mut self,
+        run: F,
+    ) -> Result<A, DataError>
+    where
+        V: 's,
+        F: Drop,
+        requires callable { (middle : ResourceId → Option V) → D.sets_up (world_held V.kind_of self.old) (Ok tt) middle → MayCall F.FnOnce run D.shows D.moved (map_grant middle) D.parts }
+        requires kept { (middle : ResourceId → Option V) → D.sets_up (world_held V.kind_of self.old) (Ok tt) middle → KeepsIds F.FnOnce run D.shows D.moved (map_grant middle) D.parts }
+        ensures { IsExecuted D.sets_up F.FnOnce run D.shows D.moved D.parts (world_held V.kind_of self.old) result (world_held V.kind_of self.new) }
+    {
+        if let Err(error) = self.setup::<D>() {
+            return Err(DataError::from(error));
+        }
+        call_with::<V, D, A, F>(&mut self.table, run)
+    }
+}
+
+// One call with a bundle of what a table holds.
+fn call_with<'s, V: ResourceValue + 's, D: SystemData<'s, V>, A, F: FnOnce(&mut D) -> A>(
+    own: &mut Table<V>,
+    run: F,
+) -> Result<A, DataError>
+where
+    F: Drop,
+    requires callable { MayCall F.FnOnce run D.shows D.moved (map_grant (held V.kind_of own.old)) D.parts }
+    requires kept { KeepsIds F.FnOnce run D.shows D.moved (map_grant (held V.kind_of own.old)) D.parts }
+    ensures { IsHeldAfter F.FnOnce run D.shows D.moved D.parts (held V.kind_of own.old) result (held V.kind_of own.new) }
+{
+    let mut view = View::whole(own);
+    call_on(&mut view, run)
+}
+
+// One call with a bundle of what a view shows.
+fn call_on<'s, V: ResourceValue + 's, D: SystemData<'s, V>, A, F: FnOnce(&mut D) -> A>(
+    view: &mut View<'s, '_, V>,
+    run: F,
+) -> Result<A, DataError>
+where
+    F: Drop,
+    requires callable { MayCall F.FnOnce run D.shows D.moved (grant_of V.kind_of view.old) D.parts }
+    requires kept { KeepsIds F.FnOnce run D.shows D.moved (grant_of V.kind_of view.old) D.parts }
+    ensures called { IsCalled F.FnOnce run D.shows D.moved D.parts (grant_of V.kind_of view.old) result (grant_of V.kind_of view.new) }
+    ensures table { table_of view.new ≡ table_of view.old }
+    ensures loan { IsSameLoan view.old view.new }
+{
+    let mut bundle = match view.system_data::<D>() {
+        Ok(bundle) => bundle,
+        Err(error) => return Err(error),
+    };
+    let answer = run(&mut bundle);
+    view.give_back(bundle);
+    Ok(answer)
+}

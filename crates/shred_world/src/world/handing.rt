@@ -1,0 +1,129 @@
+//! Resources that a view hands out, and that come back to it.
+ghost use Rattle.std.specs.Prelude.{◌≡◌, ◌||◌, IsTrue, IsSome, None, cond, OnOk, OnErr, IfOk};
+ghost use Rattle.std.specs.Option.{option_map, option_copied};
+ghost use Rattle.shred_world.specs.declared.id.ResourceId.{ResourceId};
+ghost use Rattle.shred_world.specs.Bundles.{after_moved};
+ghost use Rattle.shred_world.specs.Grants.{grant_of, with_back};
+ghost use Rattle.shred_world.specs.Handing.{handed, moved_out, moved_value};
+ghost use Rattle.shred_world.specs.Id.{kind_of, same_id};
+ghost use Rattle.shred_world.specs.Parting.{emptied};
+ghost use Rattle.shred_world.specs.Slots.{slot_at, with_at, held};
+ghost use Rattle.shred_world.specs.Views.{view_held, is_out, is_own, noted, table_in, table_of, HasSameLists, IsSameLoan};
+
+use crate::accessor::OutOfMemory;
+use crate::id::ResourceId;
+use crate::resource::{Resource, ResourceValue};
+use crate::world::data::View;
+
+/// A resource that a view has handed out: lent shared, or moved out of its slot.
+pub(crate) enum Handed<'s, R> {
+    Lent(&'s R),
+    Moved(R),
+}
+
+impl<'s, 'a, V: ResourceValue> View<'s, 'a, V> {
+    // Moves out what the view's own slot of the id holds, which is noted.
+    fn take_noted<R: Resource<V>>(&mut self, id: ResourceId) -> Option<R>
+    where
+        V: Drop,
+        requires kind { R.KIND ≡ kind_of id }
+        requires held { IsSome (held V.kind_of (table_in self.old) id) }
+        ensures taken { option_map R.wrapped result ≡ held V.kind_of (table_in self.old) id }
+        ensures own { (q : ResourceId) → slot_at (table_in self.new) q ≡ with_at (slot_at (table_in self.old)) id (emptied (slot_at (table_in self.old) id)) q }
+        ensures name { table_of self.new ≡ table_of self.old }
+        ensures lists { HasSameLists self.old self.new }
+        ensures noted { (q : ResourceId) → noted self.new q ≡ noted self.old q }
+    {
+        let Some(value) = self.own.take(id) else {
+            return None;
+        };
+        match R::unwrap(value) {
+            Ok(resource) => Some(resource),
+            Err(_) => None,
+        }
+    }
+
+    // Moves out what the view's own slot of an id of the resource's kind holds, if it holds something.
+    #[tactic(auto, using(crate::proofs::Refusals::own_held))]
+    pub(crate) fn take_out<R: Resource<V>>(
+        &mut self,
+        id: ResourceId,
+    ) -> Result<Option<R>, OutOfMemory>
+    where
+        V: Drop,
+        requires kind { R.KIND ≡ kind_of id }
+        ensures taken { IfOk result (λ found. option_map R.wrapped found ≡ moved_value V.kind_of self.old id) }
+        ensures after { OnOk result (grant_of V.kind_of self.new ≡ after_moved (grant_of V.kind_of self.old) id (moved_value V.kind_of self.old id)) }
+        ensures unchanged { OnErr result (grant_of V.kind_of self.new ≡ grant_of V.kind_of self.old) }
+        ensures no_room { OnErr result (IsSome (moved_value V.kind_of self.old id)) }
+        ensures loan { IsSameLoan self.old self.new }
+    {
+        if self.own.get(id).is_none() {
+            return Ok(None);
+        }
+        match self.own.note(id) {
+            Ok(()) => Ok(self.take_noted(id)),
+            Err(error) => Err(error),
+        }
+    }
+
+    // Puts a resource into the slot of an id of its kind, out of which one was moved.
+    pub(crate) fn put_back<R: Resource<V>>(&mut self, id: ResourceId, resource: R)
+    where
+        V: Drop,
+        requires kind { R.KIND ≡ kind_of id }
+        requires out { IsTrue (is_out self.old id) }
+        ensures after { grant_of V.kind_of self.new ≡ with_back (grant_of V.kind_of self.old) id (R.wrapped resource) }
+        ensures loan { IsSameLoan self.old self.new }
+    {
+        self.own.fill(id, resource.wrap());
+    }
+
+    // What is lent shared under the id, where the view's own table is not to have it.
+    fn shared(&self, id: ResourceId) -> Option<&'s V>
+        ensures { option_copied result ≡ cond (is_own self.now id) None (view_held V.kind_of self.now id) }
+    {
+        if self.own.slot(id).is_some() || self.is_whole() || self.owned.contains(&id) {
+            return None;
+        }
+        match self.lent_slot(id) {
+            Some(slot) => slot.held(id),
+            None => None,
+        }
+    }
+
+    // The resource that is lent shared under an id of its kind.
+    fn lend_shared<R: Resource<V>>(&self, id: ResourceId) -> Option<Handed<'s, R>>
+        requires kind { R.KIND ≡ kind_of id }
+        ensures shown { option_map (λ h. R.wrapped (handed h)) result ≡ cond (is_own self.now id) None (view_held V.kind_of self.now id) }
+        ensures not_moved { moved_out result ≡ None }
+    {
+        match R::view(self.shared(id)?) {
+            Some(resource) => Some(Handed::Lent(resource)),
+            None => None,
+        }
+    }
+
+    // Hands out what is held under an id of the resource's kind, if something is.
+    #[tactic(auto, using(crate::proofs::Grants::moved_shown, crate::proofs::Grants::shared_shown))]
+    pub(crate) fn hand_out<R: Resource<V>>(
+        &mut self,
+        id: ResourceId,
+    ) -> Result<Option<Handed<'s, R>>, OutOfMemory>
+    where
+        V: Drop,
+        requires kind { R.KIND ≡ kind_of id }
+        ensures shown { IfOk result (λ found. option_map (λ h. R.wrapped (handed h)) found ≡ view_held V.kind_of self.old id) }
+        ensures moved { IfOk result (λ found. option_map R.wrapped (moved_out found) ≡ moved_value V.kind_of self.old id) }
+        ensures after { OnOk result (grant_of V.kind_of self.new ≡ after_moved (grant_of V.kind_of self.old) id (moved_value V.kind_of self.old id)) }
+        ensures unchanged { OnErr result (grant_of V.kind_of self.new ≡ grant_of V.kind_of self.old) }
+        ensures no_room { OnErr result (IsSome (moved_value V.kind_of self.old id)) }
+        ensures loan { IsSameLoan self.old self.new }
+    {
+        match self.take_out(id) {
+            Err(error) => Err(error),
+            Ok(Some(resource)) => Ok(Some(Handed::Moved(resource))),
+            Ok(None) => Ok(self.lend_shared(id)),
+        }
+    }
+}

@@ -1,0 +1,102 @@
+//! Bundles that are taken of views and given back.
+use crate::values::{Count, Flag, Name, Value};
+use shred::{
+    DataError, Kind, Read, ReadExpect, ResourceId, SystemData, View, World, Write, WriteExpect,
+};
+use std::test::Fail;
+
+const X: Kind = Kind(0);
+
+const Y: Kind = Kind(1);
+
+const Z: Kind = Kind(2);
+
+fn id(kind: Kind) -> ResourceId {
+    ResourceId::from_type_id(kind)
+}
+
+// What a bundle is refused for; one that is not refused is given back.
+fn refusal<'s, D: SystemData<'s, Value>>(view: &mut View<'s, '_, Value>) -> Option<DataError> {
+    match view.system_data::<D>() {
+        Ok(bundle) => {
+            view.give_back(bundle);
+            None
+        }
+        Err(error) => Some(error),
+    }
+}
+
+#[test]
+fn parts_are_tested_in_their_order(rt: HostRuntime) -> Result<(), Fail> {
+    let mut world: World<Value> = World::empty(rt.alloc());
+    world.insert(Count(1)).map_err(|_| "memory")?;
+    let reads = [id(X)];
+    let writes = [id(Y)];
+    let mut view = world.lend(&reads, &writes);
+    assert_eq!(rt; refusal::<Read<Count>>(&mut view), None);
+    assert_eq!(rt;
+        refusal::<WriteExpect<Count>>(&mut view),
+        Some(DataError::Undeclared(id(X)))
+    );
+    assert_eq!(rt;
+        refusal::<Read<Flag>>(&mut view),
+        Some(DataError::Undeclared(id(Z)))
+    );
+    assert_eq!(rt;
+        refusal::<WriteExpect<Name>>(&mut view),
+        Some(DataError::Missing(id(Y)))
+    );
+    assert_eq!(rt; refusal::<Option<WriteExpect<Name>>>(&mut view), None);
+    assert_eq!(rt;
+        refusal::<Option<Read<Flag>>>(&mut view),
+        Some(DataError::Undeclared(id(Z)))
+    );
+    Ok(())
+}
+
+#[test]
+fn a_written_id_goes_out_once(rt: HostRuntime) -> Result<(), Fail> {
+    let mut world: World<Value> = World::empty(rt.alloc());
+    world.insert(Name(2)).map_err(|_| "memory")?;
+    let writes = [id(Y)];
+    let mut view = world.lend(&[], &writes);
+    assert_eq!(rt;
+        refusal::<(WriteExpect<Name>, ReadExpect<Name>)>(&mut view),
+        Some(DataError::Taken(id(Y)))
+    );
+    assert_eq!(rt; view.read::<Name>(id(Y)).copied(), Ok(Name(2)));
+    Ok(())
+}
+
+#[test]
+fn what_is_written_in_a_bundle_is_given_back(rt: HostRuntime) -> Result<(), Fail> {
+    let mut world: World<Value> = World::empty(rt.alloc());
+    world.insert(Count(1)).map_err(|_| "memory")?;
+    world.insert(Name(2)).map_err(|_| "memory")?;
+    let reads = [id(X)];
+    let writes = [id(Y)];
+    let mut view = world.lend(&reads, &writes);
+    match view.system_data::<(Read<Count>, WriteExpect<Name>)>() {
+        Ok((count, mut name)) => {
+            assert_eq!(rt; *count, Count(1));
+            *name = Name(7);
+            assert_eq!(rt; *name, Name(7));
+            assert!(rt; matches!(view.read::<Name>(id(Y)), Err(DataError::Taken(_))));
+            view.give_back((count, name));
+        }
+        Err(_) => return Err("refused")?,
+    }
+    assert_eq!(rt; view.read::<Name>(id(Y)).copied(), Ok(Name(7)));
+    assert_eq!(rt; view.read::<Count>(id(X)).copied(), Ok(Count(1)));
+    Ok(())
+}
+
+#[test]
+fn the_lists_of_a_tuple_are_those_of_its_parts(rt: HostRuntime) -> Result<(), Fail> {
+    type Parts<'s> = (Read<'s, Count>, Write<Flag>, Option<Read<'s, Count>>);
+    let reads = <Parts as SystemData<Value>>::reads(rt.alloc()).map_err(|_| "memory")?;
+    let writes = <Parts as SystemData<Value>>::writes(rt.alloc()).map_err(|_| "memory")?;
+    assert_eq!(rt; reads.as_slice(), [id(X), id(X)].as_slice());
+    assert_eq!(rt; writes.as_slice(), [id(Z)].as_slice());
+    Ok(())
+}

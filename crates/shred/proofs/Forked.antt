@@ -16,7 +16,7 @@ use Rattle.shred_world.specs.Slots.{slot_at, slot_held, held, among, or_slot}
 use Rattle.shred_world.proofs.Ids.{among-true, among-contains}
 use Rattle.shred_world.proofs.Moves.{emptied-twice}
 use Rattle.shred_world.proofs.Pairs.{zip-get}
-use Rattle.shred.specs.Hands.{KeepsRoom, IsSameButHand, WriteApart, Fits, IsBack, IsMovedOut}
+use Rattle.shred.specs.Hands.{KeepsRoom, IsSameButHand, WriteApart, HoldsWritten, Fits, IsBack, IsMovedOut, HasEntryRoom, HasRooms}
 use Rattle.shred.specs.Lanes.{IsReady}
 use Rattle.shred.specs.OwnLists.{IsOwnEntry, IsOwnGroup}
 use Rattle.shred.specs.PlanOf.{entry_plan, group_plan, groups_plan}
@@ -49,6 +49,10 @@ module _ {V S : Type 0} where
   written_by_group x room k d below q there =
       among-contains x.written.items q (subst (λ (ids : List ResourceId). Contains ids q) (sym room.same_writes)
       (Contains-flat_map (λ e. e.access.writes) (group_plan x) (get_or (group_plan x) k d) q (contains-at (group_plan x) k d below) (among-true (get_or (group_plan x) k d).access.writes q there)))
+
+  pub entry-writes : (x : Group V S) → KeepsRoom x → (k : ℕ) (d : Entry V S) → k < length x.entries.items → (q : ResourceId) → among (get_or x.entries.items k d).writes.items q ≡ true → among x.written.items q ≡ true
+  entry-writes x room k d below q there =
+      written_by_group x room k (entry_plan d) (rw (length-map x.entries.items entry_plan) below) q (rw (get_or-map entry_plan x.entries.items k d (entry_plan d) below) there)
 
   -- what a group writes, its access writes
   pub access_writes : (x : Group V S) → KeepsRoom x → (q : ResourceId) → among x.written.items q ≡ true → Contains (group_access (group_plan x)).writes q
@@ -93,10 +97,18 @@ module _ {V : Type 0} (before after : Table V) (taken : ResourceId → Bool) (le
   pub empty-left : (q : ResourceId) → IsTrue (taken q) → slot_at after q ≡ emptied (slot_at after q)
   empty-left q there = let is : slot_at after q ≡ emptied (slot_at before q) = left q ∙ ap (λ (b : Bool). cond b (emptied (slot_at before q)) (slot_at before q)) there in is ∙ sym (emptied-twice (slot_at before q)) ∙ ap emptied (sym is)
 
+  -- where a table has room for some of the moved values, their hand has
+  in_hand : {S : Type 0} (y : Group V S) → HoldsWritten before y → (q : ResourceId) (b : Bool) → (b ≡ true → among y.written.items q ≡ true) → cond b (emptied (slot_at before q)) None ≡ cond b (emptied (slot_at y.hand q)) None
+  in_hand y holds q true there = ap emptied (sym (holds q ∙ ap (λ (b : Bool). cond b (slot_at before q) None) (there refl)))
+  in_hand y holds q false there = refl
+
   -- a group whose values were moved out is ready to run
-  pub is-ready : {S : Type 0} (reads writes : S → List ResourceId) (x y : Group V S) → KeepsRoom x → IsOwnGroup reads writes x → IsMovedOut before x y → IsReady reads writes (slot_at after) y
-  is-ready {S} reads writes x y room own moved = record {
-    own_lists = subst (λ (items : List (Entry S)). All (IsOwnEntry reads writes) items) (ap (λ entries. entries.items) (sym moved.0.entries)) own;
+  pub is-ready : {S : Type 0} (reads writes : S → List ResourceId) (x y : Group V S) → KeepsRoom x → IsOwnGroup reads writes x → HasRooms before x → IsMovedOut before x y → IsReady reads writes (slot_at after) y
+  is-ready {S} reads writes x y room own rooms moved = record {
+    rooms = subst (λ (items : List (Entry V S)). All (HasEntryRoom y.hand) items) (ap (λ entries. entries.items) (sym moved.0.entries)) (λ k d below q.
+        let e = get_or x.entries.items k d in
+        rooms k d below q ∙ in_hand y moved.1 q (among e.writes.items q) (λ there. same-written x y moved.0 q ∙ entry-writes x room k d below q there));
+    own_lists = subst (λ (items : List (Entry V S)). All (IsOwnEntry reads writes) items) (ap (λ entries. entries.items) (sym moved.0.entries)) own;
     own_slots = subst (λ plan. All (λ e. HasOwnSlots e.access.writes (slot_at after) y.hand) plan) (sym (same-plan x y moved.0)) (λ k d below q there none.
         let here : among y.written.items q ≡ true = same-written x y moved.0 q ∙ written_by_group x room k d below q there in
         none-left q (sym (ap (λ (b : Bool). cond b (slot_at before q) None) here) ∙ sym (moved.1 q) ∙ none));

@@ -26,7 +26,7 @@ use Rattle.shred.specs.declared.dispatch.entry.Entry.{Entry}
 use Rattle.shred.specs.declared.dispatch.entry.Group.{Group}
 use Rattle.shred.specs.declared.dispatch.run.StageFault.{StageFault}
 use Rattle.shred.specs.Entries.{GroupRun, StageRun, group_states}
-use Rattle.shred.specs.Hands.{KeepsRoom, IsSameButHand, some_writes, Fits, IsBack, IsMadeRoom, IsMovedOut, IsLeftSpare, WriteApart, HasRoom}
+use Rattle.shred.specs.Hands.{KeepsRoom, IsSameButHand, some_writes, Fits, IsBack, IsMadeRoom, IsMovedOut, IsLeftSpare, WriteApart, HasRoom, HasRooms}
 use Rattle.shred.specs.OwnLists.{IsOwnEntry, IsOwnGroup}
 use Rattle.shred.specs.Lanes.{IsReady, GroupWent}
 use Rattle.shred.specs.PlanOf.{group_plan, groups_plan, group_numbers, numbers_of}
@@ -66,7 +66,7 @@ module _ {V S : Type 0} where
   left-states xs ys zip = zip-states xs ys (zip-both IsLeftSpare (λ x. ⊤) (λ x y. (p : Agent) → group_states y p ≡ group_states x p) (λ x y s any. states-left x y s.0) xs ys zip (λ k d below. tt))
 
   pub own-left : (reads writes : S → List ResourceId) (x y : Group V S) → IsLeftSpare x y → IsOwnGroup reads writes x → IsOwnGroup reads writes y
-  own-left reads writes x y s own = subst (λ (items : List (Entry S)). All (IsOwnEntry reads writes) items) (ap (λ entries. entries.items) (sym s.0.entries)) own
+  own-left reads writes x y s own = subst (λ (items : List (Entry V S)). All (IsOwnEntry reads writes) items) (ap (λ entries. entries.items) (sym s.0.entries)) own
 
   pub room-left : (x y : Group V S) → IsLeftSpare x y → x.written.items ≡ (group_access (group_plan x)).writes → KeepsRoom y
   room-left x y s says = record { same_writes = ap (λ written. written.items) s.0.written ∙ says ∙ ap (λ g. (group_access g).writes) (sym (same-plan x y s.0)); spare = s.1 }
@@ -115,11 +115,11 @@ module _ {V S : Type 0} (before : Table V) (start made : List (Group V S)) (room
         (zip-any (IsMadeRoom before) (λ x. among x.written.items q) (λ y. among y.written.items q) (λ x y m. same-written x y m.0 q) start made rooms)
 
     -- the groups are ready to run
-    pub ready-through : (reads writes : S → List ResourceId) (after : Table V) → All KeepsRoom start → All (IsOwnGroup reads writes) start
+    pub ready-through : (reads writes : S → List ResourceId) (after : Table V) → All KeepsRoom start → All (IsOwnGroup reads writes) start → All (HasRooms before) start
         → ((q : ResourceId) → slot_at after q ≡ cond (some_writes start q) (emptied (slot_at before q)) (slot_at before q)) → All (IsReady reads writes (slot_at after)) out
-    ready-through reads writes after room own left =
-        zip-all (IsMovedOut before) (λ x. KeepsRoom x × IsOwnGroup reads writes x) (IsReady reads writes (slot_at after)) (λ x y m h. is-ready before after (some_writes start) left reads writes x y h.0 h.1 m) start out moved-through
-        (λ k d below. (room k d below, own k d below))
+    ready-through reads writes after room own rooms left =
+        zip-all (IsMovedOut before) (λ x. KeepsRoom x × IsOwnGroup reads writes x × HasRooms before x) (IsReady reads writes (slot_at after)) (λ x y m h. is-ready before after (some_writes start) left reads writes x y h.0 h.1 h.2 m) start out moved-through
+        (λ k d below. (room k d below, own k d below, rooms k d below))
 
 module _ {V S E : Type 0} (kind : V → Kind) (step : Step V S E) (reads writes : S → List ResourceId) (before after : Table V) (start out ran : List (Group V S)) (a : Answer (StageFault E))
     (apart : AreApart group_access (groups_plan start)) (room : All KeepsRoom start) (moved : AllZip (IsMovedOut before) start out)

@@ -26,11 +26,11 @@ own_lists-of_same reads writes kept_reads kept_writes same_reads same_writes = r
 }
 
 -- a group of one entry
-pub own_alone : {V S : Type 0} (reads writes : S → List ResourceId) (group : Group V S) (entry : Entry S) → group.entries.items ≡ entry ∷ [] → IsOwnEntry reads writes entry → IsOwnGroup reads writes group
-own_alone {S} reads writes group entry e own = subst (λ (items : List (Entry S)). All (IsOwnEntry reads writes) items) (sym e) (All-cons (IsOwnEntry reads writes) entry [] own (All-nil (IsOwnEntry reads writes)))
+pub own_alone : {V S : Type 0} (reads writes : S → List ResourceId) (group : Group V S) (entry : Entry V S) → group.entries.items ≡ entry ∷ [] → IsOwnEntry reads writes entry → IsOwnGroup reads writes group
+own_alone {V} {S} reads writes group entry e own = subst (λ (items : List (Entry V S)). All (IsOwnEntry reads writes) items) (sym e) (All-cons (IsOwnEntry reads writes) entry [] own (All-nil (IsOwnEntry reads writes)))
 
 -- a group with the entry at its end where the push was done, and else as before
-pub own_after_push : {V S E : Type 0} (reads writes : S → List ResourceId) (result : Result (Unit {0}) E) (old new : Group V S) (entry : Entry S) → OnOk result (new.entries.items ≡ old.entries.items ++ entry ∷ [])
+pub own_after_push : {V S E : Type 0} (reads writes : S → List ResourceId) (result : Result (Unit {0}) E) (old new : Group V S) (entry : Entry V S) → OnOk result (new.entries.items ≡ old.entries.items ++ entry ∷ [])
     → OnErr result (new.entries.items ≡ old.entries.items) → IsOwnGroup reads writes old → IsOwnEntry reads writes entry → IsOwnGroup reads writes new
-own_after_push {S} reads writes (Ok done) old new entry added same before own = subst (λ (items : List (Entry S)). All (IsOwnEntry reads writes) items) (sym added) (All-push (IsOwnEntry reads writes) old.entries.items entry before own)
-own_after_push {S} reads writes (Err e) old new entry added same before own = subst (λ (items : List (Entry S)). All (IsOwnEntry reads writes) items) (sym same) before
+own_after_push {V} {S} reads writes (Ok done) old new entry added same before own = subst (λ (items : List (Entry V S)). All (IsOwnEntry reads writes) items) (sym added) (All-push (IsOwnEntry reads writes) old.entries.items entry before own)
+own_after_push {V} {S} reads writes (Err e) old new entry added same before own = subst (λ (items : List (Entry V S)). All (IsOwnEntry reads writes) items) (sym same) before

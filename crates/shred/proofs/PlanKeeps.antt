@@ -1,5 +1,5 @@
 -- What a plan keeps when one of its stages changes, and where a found place leads.
-use Rattle.std.proofs.Common.{◌≡◌, ℕ, ◌<◌, ◌≤◌, List, [], ◌∷◌, ◌++◌, length, get_or, set, Option, Some, Result, Ok, Err, refl, sym, ◌∙◌, ap, subst, inl, arith, length-append}
+use Rattle.std.proofs.Common.{◌≡◌, ℕ, ◌<◌, ◌≤◌, List, [], ◌∷◌, ◌++◌, length, get_or, set, Option, Some, None, Result, Ok, Err, refl, sym, ◌∙◌, ap, subst, inl, arith, length-append}
 use Rattle.std.specs.List.{All}
 use Rattle.std.specs.Result.{OnOk, OnErr}
 use Rattle.std.proofs.lemmas.List.{map-set, set-get_or, get_or-map, length-map}
@@ -8,7 +8,7 @@ use Rattle.shred_world.specs.declared.id.ResourceId.{ResourceId}
 use Rattle.shred_model.specs.Access.{Conflicts}
 use Rattle.shred_model.specs.Plan as model
 use Rattle.shred_model.specs.Plan.{group_access, group_ids, stage_ids, plan_ids}
-use Rattle.shred.specs.Placement.{IsPlaced, in_new_group, at_end_of_group}
+use Rattle.shred.specs.Placement.{NoneAdmits, IsPlaced, in_new_group, at_end_of_group}
 use Rattle.shred.specs.PlanOf.{group_plan, groups_plan}
 use Rattle.shred.specs.Search.{OthersDoNotConflict, PlaceIs}
 use Rattle.shred.specs.Soundness.{IsSmallGroup}
@@ -85,6 +85,11 @@ pub known_place : {I : Type 0} (plan : model.Plan I) (barrier start : ℕ) (copi
     → PlaceIs plan barrier start copied entry answer → copied ≡ dependencies → answer ≡ Some (k, found) → found ≡ spot → PlaceIs plan barrier start dependencies entry (Some (k, spot))
 known_place plan barrier start copied dependencies entry answer k found spot is same e f =
     subst (λ s. PlaceIs plan barrier start dependencies entry (Some (k, s))) f (subst (λ a. PlaceIs plan barrier start dependencies entry a) e (subst (λ ids. PlaceIs plan barrier start ids entry answer) same is))
+
+pub known_none : {I : Type 0} (plan : model.Plan I) (barrier start : ℕ) (copied dependencies : List ℕ) (entry : model.Entry I) (answer : Option (ℕ × Spot))
+    → PlaceIs plan barrier start copied entry answer → copied ≡ dependencies → answer ≡ None → NoneAdmits plan barrier start dependencies entry (length plan)
+known_none plan barrier start copied dependencies entry answer is same e =
+    subst (λ a. PlaceIs plan barrier start dependencies entry a) e (subst (λ ids. PlaceIs plan barrier start ids entry answer) same is)
 
 pub OnOk-both : {T E : Type 0} {P Q R : Type 0} (result : Result T E) → (P → Q → R) → OnOk result P → OnOk result Q → OnOk result R
 OnOk-both (Ok x) join p q = join p q

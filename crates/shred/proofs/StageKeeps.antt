@@ -26,7 +26,7 @@ IsKeptBy reads writes groups = record { some_group : 0 < length groups; small_gr
 single_is_small : {I : Type 0} (entry : model.Entry I) (group : model.Group I) → group ≡ entry ∷ [] → IsSmallGroup group
 single_is_small entry group e = rw e (omega arith, omega arith)
 
-pub kept_after_group : {V S : Type 0} (reads writes : S → List ResourceId) (groups : List (Group V S)) (new : Group V S) (entry : Entry S) → IsKeptBy reads writes groups → group_plan new ≡ entry_plan entry ∷ [] → KeepsIds new → KeepsRoom new → IsOwnGroup reads writes new
+pub kept_after_group : {V S : Type 0} (reads writes : S → List ResourceId) (groups : List (Group V S)) (new : Group V S) (entry : Entry V S) → IsKeptBy reads writes groups → group_plan new ≡ entry_plan entry ∷ [] → KeepsIds new → KeepsRoom new → IsOwnGroup reads writes new
     → All (λ group. Conflicts (group_access group) (access_of entry) → ⊥) (groups_plan groups) → IsKeptBy reads writes (groups ++ new ∷ [])
 kept_after_group {S} reads writes groups new entry kept single ids room own free =
     let plan : groups_plan (groups ++ new ∷ []) ≡ groups_plan groups ++ group_plan new ∷ [] = map_push group_plan groups new in
@@ -39,7 +39,7 @@ kept_after_group {S} reads writes groups new entry kept single ids room own free
       own_lists = All-push (IsOwnGroup reads writes) groups new kept.own_lists own;
     }
 
-pub kept_alone : {V S : Type 0} (reads writes : S → List ResourceId) (group : Group V S) (entry : Entry S) (groups : List (Group V S)) → groups ≡ group ∷ [] → group_plan group ≡ entry_plan entry ∷ [] → KeepsIds group → KeepsRoom group
+pub kept_alone : {V S : Type 0} (reads writes : S → List ResourceId) (group : Group V S) (entry : Entry V S) (groups : List (Group V S)) → groups ≡ group ∷ [] → group_plan group ≡ entry_plan entry ∷ [] → KeepsIds group → KeepsRoom group
     → IsOwnGroup reads writes group → IsKeptBy reads writes groups
 kept_alone reads writes group entry groups e single ids room own = rw e (record {
   some_group = omega arith;
@@ -79,7 +79,7 @@ apart_after result stage g entry after pushed within apart free =
     (λ e. rw e (rw set-get_or apart))
     (pushed_cases result (get_or stage g []) after entry pushed)
 
-pub kept_after_entry : {V S E : Type 0} (reads writes : S → List ResourceId) (result : Result (Unit {0}) E) (groups : List (Group V S)) (g : ℕ) (new : Group V S) (entry : Entry S) → IsKeptBy reads writes groups → g < length (groups_plan groups)
+pub kept_after_entry : {V S E : Type 0} (reads writes : S → List ResourceId) (result : Result (Unit {0}) E) (groups : List (Group V S)) (g : ℕ) (new : Group V S) (entry : Entry V S) → IsKeptBy reads writes groups → g < length (groups_plan groups)
     → length (get_or (groups_plan groups) g []) < 4 → OthersDoNotConflict (groups_plan groups) g (access_of entry) → IsPushed result (get_or (groups_plan groups) g []) (entry_plan entry) (group_plan new) → KeepsIds new → KeepsRoom new → IsOwnGroup reads writes new
     → IsKeptBy reads writes (set groups g new)
 kept_after_entry reads writes result groups g new entry kept within few free pushed ids room own = record {

@@ -13,6 +13,12 @@ zip-trans P Q R join (x ∷ xs) [] zs p q = absurd p
 zip-trans P Q R join (x ∷ xs) (y ∷ ys) [] p q = absurd q
 zip-trans P Q R join (x ∷ xs) (y ∷ ys) (z ∷ zs) p q = (join x y z p.0 q.0, zip-trans P Q R join xs ys zs p.1 q.1)
 
+pub zip-weaker : {A B : Type 0} (R Q : A → B → Type 0) → ((x : A) (y : B) → R x y → Q x y) → (xs : List A) (ys : List B) → AllZip R xs ys → AllZip Q xs ys
+zip-weaker R Q leads [] [] zip = tt
+zip-weaker R Q leads [] (y ∷ ys) zip = absurd zip
+zip-weaker R Q leads (x ∷ xs) [] zip = absurd zip
+zip-weaker R Q leads (x ∷ xs) (y ∷ ys) zip = (leads x y zip.0, zip-weaker R Q leads xs ys zip.1)
+
 -- what holds of the one list's items holds of the other's
 pub zip-all : {A B : Type 0} (R : A → B → Type 0) (P : A → Type 0) (Q : B → Type 0) → ((x : A) (y : B) → R x y → P x → Q y) → (xs : List A) (ys : List B) → AllZip R xs ys → All P xs → All Q ys
 zip-all R P Q leads [] [] zip all = All-nil Q

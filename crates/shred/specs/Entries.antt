@@ -31,7 +31,7 @@ module _ {V S E : Type 0} (kind : V → Kind) (step : Step V S E) where
   StageRun stage list answer = RunsEach GroupRun 0 stage list answer
 
 -- the state of the entry's system
-abbrev pub entry_states : {S : Type 0} → Entry S → Agent → Option S
+abbrev pub entry_states : {V S : Type 0} → Entry V S → Agent → Option S
 entry_states entry path = own_state entry.system path
 
 -- the states of a group's systems, by place

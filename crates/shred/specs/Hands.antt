@@ -1,12 +1,13 @@
--- The slots that a group keeps for the values that it writes.
+-- The slots that groups and entries keep for the values that they write.
 use Rattle.std.specs.Prelude.{◌≡◌, Bool, false, ◌&&◌, IsTrue, None, List, cond, is_some, AllPairs}
-use Rattle.std.specs.List.{list_any}
+use Rattle.std.specs.List.{list_any, All, AllZip}
 use Rattle.shred_model.specs.Plan as model
 use Rattle.shred_world.specs.declared.id.ResourceId.{ResourceId}
 use Rattle.shred_world.specs.declared.table.Table.{Table}
 use Rattle.shred_world.specs.Parting.{IsRoom, IsSpare}
 use Rattle.shred_world.specs.Slots.{slot_at, among}
-use Rattle.shred.specs.PlanOf.{group_plan}
+use Rattle.shred.specs.PlanOf.{entry_plan, group_plan}
+use Rattle.shred.specs.declared.dispatch.entry.Entry.{Entry}
 use Rattle.shred.specs.declared.dispatch.entry.Group.{Group}
 
 module _ {V S : Type 0} where
@@ -61,3 +62,49 @@ module _ {V S : Type 0} where
   -- the group is the same but for its hand, which is spare
   abbrev pub IsLeftSpare : Group V S → Group V S → Type 0
   IsLeftSpare old new = IsSameButHand old new × HasSpareHand new
+
+  -- the hand of the entry has only empty slots, under the ids that the entry writes alone
+  abbrev pub HasSpareSlots : Entry V S → Type 0
+  HasSpareSlots entry = IsSpare entry.writes.items entry.hand
+
+  -- the hand of the entry has an empty slot for each id that the entry writes and the table has a slot for, and no other slot
+  abbrev pub HasEntryRoom : Table V → Entry V S → Type 0
+  HasEntryRoom table entry = IsRoom table entry.writes.items entry.hand
+
+  -- so it is of each entry of the group
+  abbrev pub HasRooms : Table V → Group V S → Type 0
+  HasRooms table group = All (HasEntryRoom table) group.entries.items
+
+  -- the entry is the same, but for its hand
+  pub record IsSameEntry (old new : Entry V S) : Type 0 where
+    pub plan : entry_plan new ≡ entry_plan old
+    pub writes : new.writes ≡ old.writes
+    pub reads : new.reads ≡ old.reads
+    pub system : new.system ≡ old.system
+
+  -- The group is the same but for its entries, and so is related each entry.
+  pub record IsSameButEntries (Related : Entry V S → Entry V S → Type 0) (old new : Group V S) : Type 0 where
+    pub ids : new.ids ≡ old.ids
+    pub written : new.written ≡ old.written
+    pub hand : new.hand ≡ old.hand
+    pub entries : AllZip Related old.entries.items new.entries.items
+
+  -- the hands of all the group's entries have only empty slots
+  abbrev pub HasSpareEntries : Group V S → Type 0
+  HasSpareEntries group = All HasSpareSlots group.entries.items
+
+  -- the entry is the same but for its hand, which has room
+  abbrev pub HasMadeRoom : Table V → Entry V S → Entry V S → Type 0
+  HasMadeRoom table old new = IsSameEntry old new × HasEntryRoom table new
+
+  -- the entry is the same but for its hand, which is spare
+  abbrev pub HasLeftSpare : Entry V S → Entry V S → Type 0
+  HasLeftSpare old new = IsSameEntry old new × HasSpareSlots new
+
+  -- the group is the same but for its entries' hands, which have room
+  abbrev pub HasMadeRooms : Table V → Group V S → Group V S → Type 0
+  HasMadeRooms table = IsSameButEntries (HasMadeRoom table)
+
+  -- the group is the same but for its entries' hands, which are spare
+  abbrev pub HasLeftSpares : Group V S → Group V S → Type 0
+  HasLeftSpares = IsSameButEntries HasLeftSpare

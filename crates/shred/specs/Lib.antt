@@ -12,6 +12,7 @@ pub mod OwnLists
 pub mod OwnSlots
 pub mod Known
 pub mod Lanes
+pub mod Lent
 pub mod BuilderPlan
 pub mod Builders
 pub mod Built

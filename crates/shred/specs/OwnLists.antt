@@ -1,15 +1,17 @@
--- Entries whose kept lists are those that their systems declare.
+-- Entries beside whose systems stands what is the systems' own.
 use Rattle.std.specs.Prelude.{List, All}
 use Rattle.shred_world.specs.declared.id.ResourceId.{ResourceId}
+use Rattle.shred_world.specs.Parting.{IsSpare}
 use Rattle.shred.specs.Kept.{AreOwnLists}
 use Rattle.shred.specs.declared.dispatch.entry.Entry.{Entry}
 use Rattle.shred.specs.declared.dispatch.entry.Group.{Group}
 
-module _ {S : Type 0} (reads writes : S → List ResourceId) where
-  -- the kept lists are those of the entry's system
-  abbrev pub IsOwnEntry : Entry S → Type 0
-  IsOwnEntry entry = AreOwnLists (reads entry.system) (writes entry.system) entry.reads.items entry.writes.items
+module _ {V S : Type 0} (reads writes : S → List ResourceId) where
+  -- The kept lists are those of the entry's system, and the entry's hand has only empty slots, for the written ids alone.
+  pub record IsOwnEntry (entry : Entry V S) : Type 0 where
+    pub lists : AreOwnLists (reads entry.system) (writes entry.system) entry.reads.items entry.writes.items
+    pub hand : IsSpare entry.writes.items entry.hand
 
-  -- each entry's kept lists are those of its system
-  abbrev pub IsOwnGroup : {V : Type 0} → Group V S → Type 0
+  -- so it is of each entry
+  abbrev pub IsOwnGroup : Group V S → Type 0
   IsOwnGroup group = All IsOwnEntry group.entries.items

@@ -1,9 +1,18 @@
 -- Tables that have the slots which the entries of a plan write.
-use Rattle.std.specs.Prelude.{All}
+use Rattle.std.specs.Prelude.{◌≡◌, false, None, List, All}
 use Rattle.shred_model.specs.Plan as model
 use Rattle.shred_world.specs.declared.id.ResourceId.{ResourceId}
 use Rattle.shred_world.specs.declared.table.Table.{Table}
 use Rattle.shred_world.specs.Shown.{Lent, HasOwnSlots}
+use Rattle.shred_world.specs.Slots.{slot_at, among, or_slot}
+
+-- what is lent where the table is lent before all else
+abbrev pub lent_before : {V : Type 0} → Table V → Lent V → Lent V
+lent_before own lent id = or_slot (slot_at own id) (lent id)
+
+-- the table has slots of these ids alone
+abbrev pub HasOnlySlots : {V : Type 0} → List ResourceId → Table V → Type 0
+HasOnlySlots ids own = (id : ResourceId) → among ids id ≡ false → slot_at own id ≡ None
 
 module _ {V : Type 0} (lent : Lent V) (own : Table V) where
   -- each id that an entry writes, where it is lent shared, has a slot in the table

@@ -13,11 +13,11 @@ abbrev pub numbers_of : List SystemId → List ℕ
 numbers_of ids = map (λ id. id.0) ids
 
 -- what an entry's system may touch
-abbrev pub access_of : {S : Type 0} → Entry S → Access ResourceId
+abbrev pub access_of : {V S : Type 0} → Entry V S → Access ResourceId
 access_of entry = record { reads = entry.reads.items; writes = entry.writes.items }
 
 -- an entry, but for its system
-abbrev pub entry_plan : {S : Type 0} → Entry S → model.Entry ResourceId
+abbrev pub entry_plan : {V S : Type 0} → Entry V S → model.Entry ResourceId
 entry_plan entry = record { id = entry.id.0; access = access_of entry; time = count_of entry.time }
 
 -- the numbers of the ids beside a group's entries

@@ -140,7 +140,8 @@ where
 }
 
 impl<V: ResourceValue + Drop, S: System<V, Error = E>, E: Drop> Dispatcher<V, S> {
-    /// Runs the stages, one after the other, up to the first that is not Done, on the caller's thread.
+    /// Runs the stages, one after the other, up to the first that is not Done, on the caller's thread. A stage whose
+    /// memory is refused is told as `StageMemory`; it has not begun, and those before it are done.
     pub fn dispatch_seq(&mut self, world: &mut World<V>) -> Result<(), DispatchError<E>>
         ensures ran { LeavesAsOneThread (λ list. PlanRun V.kind_of S.step (dispatcher_plan self.old) list result) (setting_of (dispatcher_states self.old) (world_held V.kind_of world.old)) (setting_of (dispatcher_states self.new) (world_held V.kind_of world.new)) }
         ensures plan { dispatcher_plan self.new ≡ dispatcher_plan self.old }

@@ -8,6 +8,7 @@ ghost use Rattle.shred.specs.Placement.{difference, without};
 ghost use Rattle.shred.specs.Sides.{side_of, group_side};
 ghost use Rattle.shred.specs.Search.{share_item, accesses_conflict, group_conflicts, holds_any, is_touched};
 
+use crate::dispatch::growing::push_or_drop;
 use crate::dispatch::side::Side;
 use crate::system::{RunningTime, System};
 use arrayvec::ArrayVec;
@@ -26,14 +27,16 @@ impl<A: Drop> MadeWith<A> for SystemId {
     }
 }
 
-/// A system, with what was kept of it when it was placed.
+/// A system, with what was kept of it when it was placed, and the slots into which the values that it writes are moved
+/// while it runs.
 #[derive(Drop)]
-pub(crate) struct Entry<S> {
+pub(crate) struct Entry<V, S> {
     pub(crate) id: SystemId,
     pub(crate) reads: Vec<ResourceId>,
     pub(crate) writes: Vec<ResourceId>,
     pub(crate) time: RunningTime,
     pub(crate) system: S,
+    pub(crate) hand: Table<V>,
 }
 
 /// Entries that run one after the other. Beside them stand their ids, the ids that they write, and the slots into which
@@ -41,7 +44,7 @@ pub(crate) struct Entry<S> {
 #[derive(Drop)]
 pub(crate) struct Group<V, S> {
     pub(crate) ids: ArrayVec<SystemId, 4>,
-    pub(crate) entries: Vec<Entry<S>>,
+    pub(crate) entries: Vec<Entry<V, S>>,
     pub(crate) written: Vec<ResourceId>,
     pub(crate) hand: Table<V>,
 }
@@ -52,7 +55,7 @@ fn shares_resource(first: &Vec<ResourceId>, second: &Vec<ResourceId>) -> bool
     check_intersection(first.as_slice(), second.as_slice())
 }
 
-impl<S> Entry<S> {
+impl<V, S> Entry<V, S> {
     /// One of the two kept lists.
     fn side(&self, side: Side) -> &[ResourceId]
         ensures { result.now ≡ side_of side (access_of self.now) }
@@ -64,7 +67,7 @@ impl<S> Entry<S> {
     }
 
     /// Whether one entry writes what the other reads or writes.
-    pub(crate) fn conflicts(&self, other: &Entry<S>) -> bool
+    pub(crate) fn conflicts(&self, other: &Entry<V, S>) -> bool
         ensures { result ≡ accesses_conflict same_id (access_of self.now) (access_of other.now) }
     {
         shares_resource(&self.writes, &other.writes)
@@ -75,7 +78,7 @@ impl<S> Entry<S> {
 
 impl<V, S> Group<V, S> {
     /// Whether an entry of the group conflicts with this one.
-    pub(crate) fn conflicts(&self, entry: &Entry<S>) -> bool
+    pub(crate) fn conflicts(&self, entry: &Entry<V, S>) -> bool
         ensures { result ≡ group_conflicts same_id (access_of entry.now) (group_plan self.now) }
     {
         for member in &self.entries {
@@ -95,7 +98,7 @@ impl<V, S> Group<V, S> {
     }
 
     /// Whether the entry has to come after this group: they conflict, or the group holds an id that is left.
-    pub(crate) fn is_touched(&self, left: &[SystemId], entry: &Entry<S>) -> bool
+    pub(crate) fn is_touched(&self, left: &[SystemId], entry: &Entry<V, S>) -> bool
         requires { KeepsIds self.now }
         ensures { result ≡ is_touched same_id (numbers_of left.now) (access_of entry.now) (group_plan self.now) }
     {
@@ -116,8 +119,9 @@ impl<V, S> Group<V, S> {
     }
 
     /// A group of one entry.
-    pub(crate) fn new(alloc: Global, entry: Entry<S>) -> Result<Self, OutOfMemory>
+    pub(crate) fn new(alloc: Global, entry: Entry<V, S>) -> Result<Self, OutOfMemory>
     where
+        V: Drop,
         S: Drop,
         ensures plan { IfOk result (λ group. group_plan group ≡ entry_plan entry ∷ []) }
         ensures ids { IfOk result KeepsIds }
@@ -142,8 +146,9 @@ impl<V, S> Group<V, S> {
     }
 
     /// Puts the entry at the group's end.
-    pub(crate) fn push(&mut self, entry: Entry<S>) -> Result<(), OutOfMemory>
+    pub(crate) fn push(&mut self, entry: Entry<V, S>) -> Result<(), OutOfMemory>
     where
+        V: Drop,
         S: Drop,
         requires few { length self.old.entries.items < 4 }
         requires ids { KeepsIds self.old }
@@ -164,14 +169,14 @@ impl<V, S> Group<V, S> {
         {
             return Err(OutOfMemory);
         }
-        match self.entries.push(entry) {
+        match push_or_drop(&mut self.entries, entry) {
             Ok(()) => {
                 self.ids.push(id);
                 Ok(())
             }
-            Err(_) => {
+            Err(error) => {
                 self.written.truncate(written);
-                Err(OutOfMemory)
+                Err(error)
             }
         }
     }

@@ -1,15 +1,52 @@
-//! Moving what groups write into their hands, and back.
+//! Making room for what groups and entries write, and moving it into the groups' hands and back.
 ghost use Rattle.std.specs.Prelude.{◌≡◌, IsTrue, false, cond, All, OnOk, OnErr};
 ghost use Rattle.std.specs.List.{AllZip};
 ghost use Rattle.shred_world.specs.Parting.{emptied};
 ghost use Rattle.shred_world.specs.Slots.{slot_at, among};
 ghost use Rattle.shred_world.specs.declared.id.ResourceId.{ResourceId};
-ghost use Rattle.shred.specs.Hands.{HasSpareHand, IsSameButHand, WriteApart, some_writes, HasRoom, HoldsWritten, Fits, IsBack, IsMadeRoom, IsMovedOut, IsLeftSpare};
+ghost use Rattle.shred.specs.Hands.{HasSpareHand, IsSameButHand, WriteApart, some_writes, HasRoom, HoldsWritten, Fits, IsBack, IsMadeRoom, IsMovedOut, IsLeftSpare, HasSpareSlots, HasSpareEntries, HasMadeRoom, HasMadeRooms, HasLeftSpare, HasLeftSpares};
 
-use crate::dispatch::entry::Group;
+use crate::dispatch::entry::{Entry, Group};
 use shred_world::{OutOfMemory, Table};
 
+impl<V: Drop, S> Entry<V, S> {
+    // Makes room for what the entry writes.
+    fn make_room(&mut self, table: &Table<V>) -> Result<(), OutOfMemory>
+        requires { HasSpareSlots self.old }
+        ensures ok { OnOk result (HasMadeRoom table.now self.old self.new) }
+        ensures err { OnErr result (HasLeftSpare self.old self.new) }
+    {
+        table.make_room(self.writes.as_slice(), &mut self.hand)
+    }
+}
+
+// Makes room in every entry's hand.
+fn make_rooms_of<V: Drop, S>(
+    entries: &mut [Entry<V, S>],
+    table: &Table<V>,
+) -> Result<(), OutOfMemory>
+    requires { All HasSpareSlots entries.old }
+    ensures ok { OnOk result (AllZip (HasMadeRoom table.now) entries.old entries.new) }
+    ensures err { OnErr result (AllZip HasLeftSpare entries.old entries.new) }
+{
+    for entry in entries.iter_mut() {
+        if let Err(error) = entry.make_room(table) {
+            return Err(error);
+        }
+    }
+    Ok(())
+}
+
 impl<V: Drop, S> Group<V, S> {
+    // Makes room in its entries' hands.
+    fn make_entry_room(&mut self, table: &Table<V>) -> Result<(), OutOfMemory>
+        requires { HasSpareEntries self.old }
+        ensures ok { OnOk result (HasMadeRooms table.now self.old self.new) }
+        ensures err { OnErr result (HasLeftSpares self.old self.new) }
+    {
+        make_rooms_of(self.entries.as_mut_slice(), table)
+    }
+
     // Makes room for what the group writes.
     fn make_room(&mut self, table: &Table<V>) -> Result<(), OutOfMemory>
         requires { HasSpareHand self.old }
@@ -37,6 +74,23 @@ impl<V: Drop, S> Group<V, S> {
     {
         table.move_back(self.written.as_slice(), &mut self.hand);
     }
+}
+
+// Makes room in the hand of every entry of the groups.
+pub(crate) fn make_entry_rooms<V: Drop, S>(
+    groups: &mut [Group<V, S>],
+    table: &Table<V>,
+) -> Result<(), OutOfMemory>
+    requires { All HasSpareEntries groups.old }
+    ensures ok { OnOk result (AllZip (HasMadeRooms table.now) groups.old groups.new) }
+    ensures err { OnErr result (AllZip HasLeftSpares groups.old groups.new) }
+{
+    for group in groups.iter_mut() {
+        if let Err(error) = group.make_entry_room(table) {
+            return Err(error);
+        }
+    }
+    Ok(())
 }
 
 // Makes room in every group's hand.

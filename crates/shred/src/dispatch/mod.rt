@@ -6,6 +6,7 @@ pub mod builder;
 pub mod dispatcher;
 pub mod entry;
 pub mod fork;
+pub mod growing;
 pub mod hands;
 pub mod look_up;
 pub mod printing;

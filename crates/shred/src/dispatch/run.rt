@@ -5,19 +5,21 @@ ghost use Rattle.shred_model.specs.Runs.{Ran, first_fault};
 ghost use Rattle.shred_model.specs.States.{setting_of, listed_states};
 ghost use Rattle.shred.specs.Entries.{EntryRun, GroupRun, StageRun, entry_states, group_states};
 ghost use Rattle.shred.specs.Kept.{AreOwnLists};
-ghost use Rattle.shred.specs.Hands.{KeepsRoom};
+ghost use Rattle.shred.specs.Hands.{KeepsRoom, HasEntryRoom, HasRooms};
 ghost use Rattle.shred.specs.OwnLists.{IsOwnEntry, IsOwnGroup};
-ghost use Rattle.shred.specs.OwnSlots.{HasGroupSlots, HasStageSlots};
+ghost use Rattle.shred.specs.OwnSlots.{lent_before, HasOnlySlots, HasGroupSlots, HasStageSlots};
 ghost use Rattle.shred.specs.PlanOf.{access_of, entry_plan, group_plan, group_numbers, groups_plan};
+ghost use Rattle.shred.specs.Plans.{StageTurn};
 ghost use Rattle.shred.specs.Steps.{declared_of};
 ghost use Rattle.shred_world.specs.declared.id.ResourceId.{ResourceId};
 ghost use Rattle.shred_world.specs.Shown.{shown, HasOwnSlots, IsSameSlots};
 ghost use Rattle.shred_world.specs.Slots.{among};
-ghost use Rattle.shred_world.specs.Views.{lent_slot};
+ghost use Rattle.shred_world.specs.Views.{lent_slot, shelf_slot};
 
 use crate::dispatch::entry::{Entry, Group, SystemId};
+use crate::dispatch::hands::make_entry_rooms;
 use crate::system::{Fault, System};
-use shred_world::{ResourceId, ResourceValue, Shelf, Table, View};
+use shred_world::{OutOfMemory, ResourceId, ResourceValue, Shelf, Table, View};
 
 /// Why a stage did not end as Done.
 #[derive(Debug, Drop)]
@@ -28,7 +30,7 @@ pub enum StageFault<E> {
     Memory,
 }
 
-// One step of a system.
+// One step of a system, over a table that has what it writes and nothing else.
 fn step_over<'s, V: ResourceValue, S: System<V>>(
     reads: &'s [ResourceId],
     writes: &'s [ResourceId],
@@ -38,6 +40,7 @@ fn step_over<'s, V: ResourceValue, S: System<V>>(
 ) -> Result<(), Fault<S::Error>>
     requires own_lists { AreOwnLists (S.reads system.old) (S.writes system.old) reads.now writes.now }
     requires own_slots { HasOwnSlots writes.now (lent_slot shelf.now) own.old }
+    requires only_own { HasOnlySlots writes.now own.old }
     ensures step { S.step system.old (declared_of (record { reads = reads.now; writes = writes.now }) (shown V.kind_of (lent_slot shelf.now) own.old)) result system.new (declared_of (record { reads = reads.now; writes = writes.now }) (shown V.kind_of (lent_slot shelf.now) own.new)) }
     ensures kinds { (id : ResourceId) → option_map V.kind_of (shown V.kind_of (lent_slot shelf.now) own.new id) ≡ option_map V.kind_of (shown V.kind_of (lent_slot shelf.now) own.old id) }
     ensures slots { IsSameSlots own.old own.new }
@@ -48,40 +51,79 @@ fn step_over<'s, V: ResourceValue, S: System<V>>(
     system.run(&mut view)
 }
 
-// One step of the entry's system.
-fn step<V: ResourceValue, S: System<V>>(
-    entry: &mut Entry<S>,
+// The shelf on which a table stands before what is lent behind it.
+fn shelf_before<'s, V>(own: &'s Table<V>, shelf: &'s [Shelf<'s, V>]) -> Shelf<'s, V>
+    ensures { (id : ResourceId) → shelf_slot result id ≡ lent_before own.now (lent_slot shelf.now) id }
+{
+    match shelf.first() {
+        Some(rest) => Shelf::Before(own, &[], rest),
+        None => Shelf::Last(own),
+    }
+}
+
+// One step of the entry's system, over the entry's hand, while the table is lent shared.
+fn step_in_hand<V: ResourceValue, S: System<V>>(
+    entry: &mut Entry<V, S>,
+    shelf: &[Shelf<V>],
+    own: &Table<V>,
+) -> Result<(), Fault<S::Error>>
+    requires own_lists { AreOwnLists (S.reads entry.old.system) (S.writes entry.old.system) entry.old.reads.items entry.old.writes.items }
+    requires own_slots { HasOwnSlots entry.old.writes.items (lent_before own.now (lent_slot shelf.now)) entry.old.hand }
+    requires only_own { HasOnlySlots entry.old.writes.items entry.old.hand }
+    ensures step { S.step entry.old.system (declared_of (access_of entry.old) (shown V.kind_of (lent_before own.now (lent_slot shelf.now)) entry.old.hand)) result entry.new.system (declared_of (access_of entry.old) (shown V.kind_of (lent_before own.now (lent_slot shelf.now)) entry.new.hand)) }
+    ensures kinds { (id : ResourceId) → option_map V.kind_of (shown V.kind_of (lent_before own.now (lent_slot shelf.now)) entry.new.hand id) ≡ option_map V.kind_of (shown V.kind_of (lent_before own.now (lent_slot shelf.now)) entry.old.hand id) }
+    ensures slots { IsSameSlots entry.old.hand entry.new.hand }
+    ensures frame { (id : ResourceId) → among entry.old.writes.items id ≡ false → shown V.kind_of (lent_before own.now (lent_slot shelf.now)) entry.new.hand id ≡ shown V.kind_of (lent_before own.now (lent_slot shelf.now)) entry.old.hand id }
+    ensures plan { entry_plan entry.new ≡ entry_plan entry.old }
+    ensures writes { entry.new.writes ≡ entry.old.writes }
+    ensures own_lists { AreOwnLists (S.reads entry.new.system) (S.writes entry.new.system) entry.new.reads.items entry.new.writes.items }
+{
+    let behind = [shelf_before(own, shelf)];
+    step_over(
+        entry.reads.as_slice(),
+        entry.writes.as_slice(),
+        &behind,
+        &mut entry.system,
+        &mut entry.hand,
+    )
+}
+
+// One step of the entry's system. What it writes is moved into the entry's hand before, and back after, so all else can
+// be lent shared.
+fn step<V: ResourceValue + Drop, S: System<V>>(
+    entry: &mut Entry<V, S>,
     shelf: &[Shelf<V>],
     own: &mut Table<V>,
 ) -> Result<(), Fault<S::Error>>
     requires own_lists { IsOwnEntry S.reads S.writes entry.old }
     requires own_slots { HasOwnSlots entry.old.writes.items (lent_slot shelf.now) own.old }
+    requires room { HasEntryRoom own.old entry.old }
     ensures step { S.step entry.old.system (declared_of (access_of entry.old) (shown V.kind_of (lent_slot shelf.now) own.old)) result entry.new.system (declared_of (access_of entry.old) (shown V.kind_of (lent_slot shelf.now) own.new)) }
     ensures kinds { (id : ResourceId) → option_map V.kind_of (shown V.kind_of (lent_slot shelf.now) own.new id) ≡ option_map V.kind_of (shown V.kind_of (lent_slot shelf.now) own.old id) }
     ensures slots { IsSameSlots own.old own.new }
     ensures frame { (id : ResourceId) → among entry.old.writes.items id ≡ false → shown V.kind_of (lent_slot shelf.now) own.new id ≡ shown V.kind_of (lent_slot shelf.now) own.old id }
-    ensures kept { entry_plan entry.new ≡ entry_plan entry.old }
+    ensures plan { entry_plan entry.new ≡ entry_plan entry.old }
     ensures own_lists { IsOwnEntry S.reads S.writes entry.new }
+    ensures room { HasEntryRoom own.new entry.new }
 {
-    step_over(
-        entry.reads.as_slice(),
-        entry.writes.as_slice(),
-        shelf,
-        &mut entry.system,
-        own,
-    )
+    own.move_out(entry.writes.as_slice(), &mut entry.hand);
+    let outcome = step_in_hand(entry, shelf, own);
+    own.move_back(entry.writes.as_slice(), &mut entry.hand);
+    outcome
 }
 
-pub(crate) fn run_entry<V: ResourceValue, S: System<V>>(
-    entry: &mut Entry<S>,
+pub(crate) fn run_entry<V: ResourceValue + Drop, S: System<V>>(
+    entry: &mut Entry<V, S>,
     shelf: &[Shelf<V>],
     own: &mut Table<V>,
 ) -> Result<(), StageFault<S::Error>>
     requires own_lists { IsOwnEntry S.reads S.writes entry.old }
     requires own_slots { HasOwnSlots entry.old.writes.items (lent_slot shelf.now) own.old }
+    requires room { HasEntryRoom own.old entry.old }
     ensures ran { Ran (EntryRun V.kind_of S.step 0 (entry_plan entry.old)) (setting_of (entry_states entry.old) (shown V.kind_of (lent_slot shelf.now) own.old)) result (setting_of (entry_states entry.new) (shown V.kind_of (lent_slot shelf.now) own.new)) }
     ensures plan { entry_plan entry.new ≡ entry_plan entry.old }
     ensures own_lists { IsOwnEntry S.reads S.writes entry.new }
+    ensures room { HasEntryRoom own.new entry.new }
     ensures kinds { (id : ResourceId) → option_map V.kind_of (shown V.kind_of (lent_slot shelf.now) own.new id) ≡ option_map V.kind_of (shown V.kind_of (lent_slot shelf.now) own.old id) }
     ensures slots { IsSameSlots own.old own.new }
 {
@@ -95,16 +137,18 @@ pub(crate) fn run_entry<V: ResourceValue, S: System<V>>(
 }
 
 // The entries' steps, in order, up to the first that is not Done.
-pub(crate) fn run_entries<V: ResourceValue, S: System<V>>(
-    entries: &mut [Entry<S>],
+pub(crate) fn run_entries<V: ResourceValue + Drop, S: System<V>>(
+    entries: &mut [Entry<V, S>],
     shelf: &[Shelf<V>],
     own: &mut Table<V>,
 ) -> Result<(), StageFault<S::Error>>
     requires own_lists { All (IsOwnEntry S.reads S.writes) entries.old }
     requires own_slots { HasGroupSlots (lent_slot shelf.now) own.old (map entry_plan entries.old) }
+    requires rooms { All (HasEntryRoom own.old) entries.old }
     ensures ran { Ran (GroupRun V.kind_of S.step 0 (map entry_plan entries.old)) (setting_of (listed_states entry_states entries.old) (shown V.kind_of (lent_slot shelf.now) own.old)) result (setting_of (listed_states entry_states entries.new) (shown V.kind_of (lent_slot shelf.now) own.new)) }
     ensures plan { map entry_plan entries.new ≡ map entry_plan entries.old }
     ensures own_lists { All (IsOwnEntry S.reads S.writes) entries.new }
+    ensures rooms { All (HasEntryRoom own.new) entries.new }
     ensures kinds { (id : ResourceId) → option_map V.kind_of (shown V.kind_of (lent_slot shelf.now) own.new id) ≡ option_map V.kind_of (shown V.kind_of (lent_slot shelf.now) own.old id) }
     ensures slots { IsSameSlots own.old own.new }
 {
@@ -116,16 +160,18 @@ pub(crate) fn run_entries<V: ResourceValue, S: System<V>>(
     Ok(())
 }
 
-pub(crate) fn run_group<V: ResourceValue, S: System<V>>(
+pub(crate) fn run_group<V: ResourceValue + Drop, S: System<V>>(
     group: &mut Group<V, S>,
     shelf: &[Shelf<V>],
     own: &mut Table<V>,
 ) -> Result<(), StageFault<S::Error>>
     requires own_lists { IsOwnGroup S.reads S.writes group.old }
     requires own_slots { HasGroupSlots (lent_slot shelf.now) own.old (group_plan group.old) }
+    requires rooms { HasRooms own.old group.old }
     ensures ran { Ran (GroupRun V.kind_of S.step 0 (group_plan group.old)) (setting_of (group_states group.old) (shown V.kind_of (lent_slot shelf.now) own.old)) result (setting_of (group_states group.new) (shown V.kind_of (lent_slot shelf.now) own.new)) }
     ensures plan { group_plan group.new ≡ group_plan group.old }
     ensures own_lists { IsOwnGroup S.reads S.writes group.new }
+    ensures rooms { HasRooms own.new group.new }
     ensures ids { group.new.ids ≡ group.old.ids }
     ensures written { group.new.written ≡ group.old.written }
     ensures hand { group.new.hand ≡ group.old.hand }
@@ -149,13 +195,14 @@ pub(crate) fn first<E: Drop>(
 }
 
 // The groups' runs, one after the other, every group's.
-pub(crate) fn run_groups<V: ResourceValue, S: System<V, Error = E>, E: Drop>(
+pub(crate) fn run_groups<V: ResourceValue + Drop, S: System<V, Error = E>, E: Drop>(
     groups: &mut [Group<V, S>],
     shelf: &[Shelf<V>],
     own: &mut Table<V>,
 ) -> Result<(), StageFault<E>>
     requires own_lists { All (IsOwnGroup S.reads S.writes) groups.old }
     requires own_slots { HasStageSlots (lent_slot shelf.now) own.old (groups_plan groups.old) }
+    requires rooms { All (HasRooms own.old) groups.old }
     requires room { All KeepsRoom groups.old }
     ensures ran { Ran (StageRun V.kind_of S.step (groups_plan groups.old)) (setting_of (listed_states group_states groups.old) (shown V.kind_of (lent_slot shelf.now) own.old)) result (setting_of (listed_states group_states groups.new) (shown V.kind_of (lent_slot shelf.now) own.new)) }
     ensures plan { groups_plan groups.new ≡ groups_plan groups.old }
@@ -173,8 +220,31 @@ pub(crate) fn run_groups<V: ResourceValue, S: System<V, Error = E>, E: Drop>(
     answer
 }
 
+// The groups' runs, where there is room for what their entries write; else nothing is run.
+fn run_turn<V: ResourceValue + Drop, S: System<V, Error = E>, E: Drop>(
+    groups: &mut [Group<V, S>],
+    shelf: &[Shelf<V>],
+    own: &mut Table<V>,
+) -> Result<(), StageFault<E>>
+    requires own_lists { All (IsOwnGroup S.reads S.writes) groups.old }
+    requires own_slots { HasStageSlots (lent_slot shelf.now) own.old (groups_plan groups.old) }
+    requires room { All KeepsRoom groups.old }
+    ensures ran { Ran (StageTurn V.kind_of S.step (groups_plan groups.old)) (setting_of (listed_states group_states groups.old) (shown V.kind_of (lent_slot shelf.now) own.old)) result (setting_of (listed_states group_states groups.new) (shown V.kind_of (lent_slot shelf.now) own.new)) }
+    ensures plan { groups_plan groups.new ≡ groups_plan groups.old }
+    ensures own_lists { All (IsOwnGroup S.reads S.writes) groups.new }
+    ensures ids { map group_numbers groups.new ≡ map group_numbers groups.old }
+    ensures room { All KeepsRoom groups.new }
+    ensures kinds { (id : ResourceId) → option_map V.kind_of (shown V.kind_of (lent_slot shelf.now) own.new id) ≡ option_map V.kind_of (shown V.kind_of (lent_slot shelf.now) own.old id) }
+    ensures slots { IsSameSlots own.old own.new }
+{
+    if let Err(OutOfMemory) = make_entry_rooms(groups, own) {
+        return Err(StageFault::Memory);
+    }
+    run_groups(groups, shelf, own)
+}
+
 // The same, of the groups of a stage.
-pub(crate) fn run_stage<V: ResourceValue, S: System<V, Error = E>, E: Drop>(
+pub(crate) fn run_stage<V: ResourceValue + Drop, S: System<V, Error = E>, E: Drop>(
     groups: &mut Vec<Group<V, S>>,
     shelf: &[Shelf<V>],
     own: &mut Table<V>,
@@ -182,7 +252,7 @@ pub(crate) fn run_stage<V: ResourceValue, S: System<V, Error = E>, E: Drop>(
     requires own_lists { All (IsOwnGroup S.reads S.writes) groups.old.items }
     requires own_slots { HasStageSlots (lent_slot shelf.now) own.old (groups_plan groups.old.items) }
     requires room { All KeepsRoom groups.old.items }
-    ensures ran { Ran (StageRun V.kind_of S.step (groups_plan groups.old.items)) (setting_of (listed_states group_states groups.old.items) (shown V.kind_of (lent_slot shelf.now) own.old)) result (setting_of (listed_states group_states groups.new.items) (shown V.kind_of (lent_slot shelf.now) own.new)) }
+    ensures ran { Ran (StageTurn V.kind_of S.step (groups_plan groups.old.items)) (setting_of (listed_states group_states groups.old.items) (shown V.kind_of (lent_slot shelf.now) own.old)) result (setting_of (listed_states group_states groups.new.items) (shown V.kind_of (lent_slot shelf.now) own.new)) }
     ensures plan { groups_plan groups.new.items ≡ groups_plan groups.old.items }
     ensures own_lists { All (IsOwnGroup S.reads S.writes) groups.new.items }
     ensures ids { map group_numbers groups.new.items ≡ map group_numbers groups.old.items }
@@ -190,5 +260,5 @@ pub(crate) fn run_stage<V: ResourceValue, S: System<V, Error = E>, E: Drop>(
     ensures kinds { (id : ResourceId) → option_map V.kind_of (shown V.kind_of (lent_slot shelf.now) own.new id) ≡ option_map V.kind_of (shown V.kind_of (lent_slot shelf.now) own.old id) }
     ensures slots { IsSameSlots own.old own.new }
 {
-    run_groups(groups.as_mut_slice(), shelf, own)
+    run_turn(groups.as_mut_slice(), shelf, own)
 }

@@ -41,7 +41,7 @@ impl<V: ResourceValue, S: System<V>> Stage<V, S> {
     ghost use Rattle.shred.specs.StagePlan.{stage_plan};
 
     /// A stage with this entry alone.
-    pub(crate) fn new(alloc: Global, entry: Entry<S>) -> Result<Self, OutOfMemory>
+    pub(crate) fn new(alloc: Global, entry: Entry<V, S>) -> Result<Self, OutOfMemory>
     where
         V: Drop,
         S: Drop,
@@ -79,7 +79,7 @@ impl<V: ResourceValue, S: System<V>> Stage<V, S> {
     }
 
     /// Where the stage takes the entry, if it does, while these dependencies are left.
-    pub(crate) fn spot_for(&self, left: &[SystemId], entry: &Entry<S>) -> Option<Spot>
+    pub(crate) fn spot_for(&self, left: &[SystemId], entry: &Entry<V, S>) -> Option<Spot>
         ensures { SpotIs (numbers_of left.now) (entry_plan entry.now) (stage_plan self.now) result }
     {
         match self.touched(left, entry) {
@@ -92,7 +92,7 @@ impl<V: ResourceValue, S: System<V>> Stage<V, S> {
     }
 
     /// Which groups the entry has to come after.
-    fn touched(&self, left: &[SystemId], entry: &Entry<S>) -> Touched
+    fn touched(&self, left: &[SystemId], entry: &Entry<V, S>) -> Touched
         ensures { TouchedIs (is_touched same_id (numbers_of left.now) (access_of entry.now)) (stage_plan self.now) result }
     {
         let mut touched = Touched::Nothing;
@@ -108,7 +108,7 @@ impl<V: ResourceValue, S: System<V>> Stage<V, S> {
     }
 
     /// Whether the entry may stand at the end of this group, the only one that it has to come after.
-    fn may_end(&self, left: &[SystemId], entry: &Entry<S>, group: usize) -> bool
+    fn may_end(&self, left: &[SystemId], entry: &Entry<V, S>, group: usize) -> bool
         requires { group < length (stage_plan self.now) }
         ensures { result ≡ may_end same_id (numbers_of left.now) (entry_plan entry.now) (stage_plan self.now) (slice_index_or (stage_plan self.now) group []) }
     {
@@ -155,7 +155,7 @@ impl<V: ResourceValue, S: System<V>> Stage<V, S> {
     }
 
     /// Gives the entry a new last group.
-    pub(crate) fn push_group(&mut self, entry: Entry<S>) -> Result<(), OutOfMemory>
+    pub(crate) fn push_group(&mut self, entry: Entry<V, S>) -> Result<(), OutOfMemory>
     where
         V: Drop,
         S: Drop,
@@ -177,8 +177,9 @@ impl<V: ResourceValue, S: System<V>> Stage<V, S> {
     }
 
     /// Puts the entry at the end of a group.
-    pub(crate) fn push_entry(&mut self, group: usize, entry: Entry<S>) -> Result<(), OutOfMemory>
+    pub(crate) fn push_entry(&mut self, group: usize, entry: Entry<V, S>) -> Result<(), OutOfMemory>
     where
+        V: Drop,
         S: Drop,
         requires within { group < length (stage_plan self.old) }
         requires room { length (slice_index_or (stage_plan self.old) group []) < 4 }
@@ -202,7 +203,9 @@ impl<V: ResourceValue + Drop, S: System<V, Error = E>, E: Drop> Stage<V, S> {
     ghost use Rattle.shred.specs.Plans.{StageTurn, stage_states};
     ghost use Rattle.shred.specs.StagePlan.{stage_plan};
 
-    /// Runs every group, one after the other, each up to its first system that is not Done, on the caller's thread.
+    /// Runs every group, one after the other, each up to its first system that is not Done, on the caller's thread. The
+    /// memory that the stage needs is taken before any group begins; where it is refused, the answer is `Memory`, and
+    /// nothing has run.
     pub fn execute_seq(&mut self, world: &mut World<V>) -> Result<(), StageFault<E>>
         ensures ran { LeavesAsOneThread (λ list. StageTurn V.kind_of S.step (stage_plan self.old) list result) (setting_of (stage_states self.old) (world_held V.kind_of world.old)) (setting_of (stage_states self.new) (world_held V.kind_of world.new)) }
         ensures plan { stage_plan self.new ≡ stage_plan self.old }

@@ -19,6 +19,7 @@ ghost use Rattle.shred.specs.Sides.{stage_side, plan_reads, plan_writes};
 ghost use Rattle.shred.specs.StagePlan.{plan_of};
 
 use crate::dispatch::entry::{Entry, SystemId};
+use crate::dispatch::growing::push_or_drop;
 use crate::dispatch::printing::{PrintError, print};
 use crate::dispatch::side::Side;
 use crate::dispatch::sink::PlanSink;
@@ -26,7 +27,7 @@ use crate::dispatch::sorted::sort_without_doubles;
 use crate::dispatch::spot::Spot;
 use crate::dispatch::stage::Stage;
 use crate::system::System;
-use shred_world::{Accessor, OutOfMemory, ResourceId, ResourceValue};
+use shred_world::{Accessor, OutOfMemory, ResourceId, ResourceValue, Table};
 use smallvec::SmallVec;
 use std::alloc::Global;
 use std::collections::HashMap;
@@ -99,7 +100,8 @@ impl<V: ResourceValue, S: System<V>> StagesBuilder<V, S> {
         ensures barrier { barrier_of self.new ≡ barrier_of self.old }
     {
         let start = self.barrier;
-        match kept_entry::<V, S>(id, system) {
+        let alloc = *self.stages.allocator();
+        match kept_entry(alloc, id, system) {
             Ok(entry) => self.place(start, dependencies, entry),
             Err(e) => Err(e),
         }
@@ -189,7 +191,7 @@ impl<V: ResourceValue, S: System<V>> StagesBuilder<V, S> {
         &mut self,
         start: usize,
         dependencies: &[SystemId],
-        entry: Entry<S>,
+        entry: Entry<V, S>,
     ) -> Result<(), OutOfMemory>
     where
         V: Drop,
@@ -215,7 +217,7 @@ impl<V: ResourceValue, S: System<V>> StagesBuilder<V, S> {
     }
 
     /// Gives the entry a new last group of this stage.
-    fn push_group(&mut self, stage: usize, entry: Entry<S>) -> Result<(), OutOfMemory>
+    fn push_group(&mut self, stage: usize, entry: Entry<V, S>) -> Result<(), OutOfMemory>
     where
         V: Drop,
         S: Drop,
@@ -232,8 +234,14 @@ impl<V: ResourceValue, S: System<V>> StagesBuilder<V, S> {
     }
 
     /// Puts the entry at the end of this group.
-    fn push_entry(&mut self, stage: usize, group: usize, entry: Entry<S>) -> Result<(), OutOfMemory>
+    fn push_entry(
+        &mut self,
+        stage: usize,
+        group: usize,
+        entry: Entry<V, S>,
+    ) -> Result<(), OutOfMemory>
     where
+        V: Drop,
         S: Drop,
         requires within { stage < length (planned self.old) }
         requires within_stage { group < length (slice_index_or (planned self.old) stage []) }
@@ -251,7 +259,7 @@ impl<V: ResourceValue, S: System<V>> StagesBuilder<V, S> {
     }
 
     /// Gives the entry a new last stage.
-    fn push_stage(&mut self, entry: Entry<S>) -> Result<(), OutOfMemory>
+    fn push_stage(&mut self, entry: Entry<V, S>) -> Result<(), OutOfMemory>
     where
         V: Drop,
         S: Drop,
@@ -264,10 +272,7 @@ impl<V: ResourceValue, S: System<V>> StagesBuilder<V, S> {
     {
         let alloc = *self.stages.allocator();
         match Stage::new(alloc, entry) {
-            Ok(stage) => match self.stages.push(stage) {
-                Ok(()) => Ok(()),
-                Err(_) => Err(OutOfMemory),
-            },
+            Ok(stage) => push_or_drop(&mut self.stages, stage),
             Err(e) => Err(e),
         }
     }
@@ -277,7 +282,7 @@ impl<V: ResourceValue, S: System<V>> StagesBuilder<V, S> {
         &self,
         start: usize,
         mut left: SmallVec<SystemId, 4>,
-        entry: &Entry<S>,
+        entry: &Entry<V, S>,
     ) -> Option<(usize, Spot)>
         requires { barrier_of self.now ≤ start }
         ensures { PlaceIs (planned self.now) (barrier_of self.now) start (numbers_of left.items) (entry_plan entry.now) result }
@@ -296,10 +301,11 @@ impl<V: ResourceValue, S: System<V>> StagesBuilder<V, S> {
 }
 
 /// What is kept of a system.
-fn kept_entry<V: ResourceValue, S: System<V> + Drop>(
+fn kept_entry<V: ResourceValue + Drop, S: System<V> + Drop>(
+    alloc: Global,
     id: SystemId,
     system: S,
-) -> Result<Entry<S>, OutOfMemory>
+) -> Result<Entry<V, S>, OutOfMemory>
     ensures kept { IfOk result (λ entry. IsKept id.0 (S.reads system) (S.writes system) (S.time system) (entry_plan entry)) }
     ensures same { IfOk result (λ entry. entry.system ≡ system) }
     ensures own_lists { IfOk result (IsOwnEntry S.reads S.writes) }
@@ -324,5 +330,6 @@ fn kept_entry<V: ResourceValue, S: System<V> + Drop>(
         writes,
         time,
         system,
+        hand: Table::new(alloc),
     })
 }

@@ -8,9 +8,9 @@ use Rattle.shred.proofs.dispatch.beside.fork_stage.Goals as goal
 
 pub returns-clause-ran : goal.returns-clause-ran
 returns-clause-ran g c =
-    let same : length c.run_forked.new.groups ≡ c.args.groups.now.len = search rules in
-    rw (with_items_is c.args.groups.now c.run_forked.new.groups same) (rw c.as_mut_slice.ensures.value at c.run_forked.ensures.ran)
+    let same : length c.fork_turn.new.groups ≡ c.args.groups.now.len = search rules in
+    rw (with_items_is c.args.groups.now c.fork_turn.new.groups same) (rw c.as_mut_slice.ensures.value at c.fork_turn.ensures.ran)
 
-pub run_forked-requires-clause-apart : goal.run_forked-requires-clause-apart
-run_forked-requires-clause-apart g c κs within =
+pub fork_turn-requires-clause-apart : goal.fork_turn-requires-clause-apart
+fork_turn-requires-clause-apart g c κs within =
     subst (λ (groups : List (Group g.row.V.Denot g.row.S.Denot)). AreApart group_access (groups_plan groups)) (sym c.as_mut_slice.ensures.value) c.requires.apart

@@ -36,7 +36,7 @@ run_beside-answer-requires-after_bounds g c κs within =
     let made = c.make_rooms.new.groups in
     let out = c.move_all_out.new.groups in
     let after = c.move_all_out.new.table in
-    ready-through before start made c.in_default.ensures.ok out c.move_all_out.ensures.hands g.S.System.reads g.S.System.writes after c.requires.room c.requires.own_lists
+    ready-through before start made c.in_default.ensures.ok out c.move_all_out.ensures.hands g.S.System.reads g.S.System.writes after c.requires.room c.requires.own_lists c.requires.rooms
     (left-through before start made c.in_default.ensures.ok out c.move_all_out.ensures.hands after c.move_all_out.ensures.left)
 
 pub move_all_back-requires-clause-apart : goal.move_all_back-requires-clause-apart

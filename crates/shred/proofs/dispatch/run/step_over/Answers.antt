@@ -1,4 +1,4 @@
-use Rattle.std.proofs.Common.{◌≡◌, refl, sym, subst, ap, ◌∙◌}
+use Rattle.std.proofs.Common.{◌≡◌, sym, subst, ap, ◌∙◌}
 use Rattle.std.specs.HashMap.{get}
 use Rattle.std.specs.Prelude.{is_some}
 use Rattle.shred.specs.Steps.{declared_of}

@@ -1,10 +1,8 @@
-use Rattle.std.proofs.Common.{inl}
 use Rattle.shred_model.specs.States.{listed_states}
 use Rattle.shred_model.proofs.OneThread.{Ran-as_one_thread}
-use Rattle.shred_model.proofs.Ran.{Ran-as}
 use Rattle.shred_world.proofs.Ids.{tell_ids}
 use Rattle.shred.specs.Plans.{StageTurn, stage_states}
-use Rattle.shred.specs.Entries.{StageRun, group_states}
+use Rattle.shred.specs.Entries.{group_states}
 use Rattle.shred.specs.StagePlan.{stage_plan}
 use Rattle.shred.proofs.Alone.{ran_alone, kinds_alone}
 use Rattle.shred.proofs.FramedRuns.{turn_framed}
@@ -18,11 +16,10 @@ invariant_of-self g c = stays g.S.System.reads g.S.System.writes c.run_stage.new
 pub returns-clause-ran : goal.returns-clause-ran
 returns-clause-ran g c =
     let kind = g.V.ResourceValue.kind_of in
-    let run = StageRun kind g.S.System.step (stage_plan c.args.self.now) in
     let turn = StageTurn kind g.S.System.step (stage_plan c.args.self.now) in
     let old = c.args.world.now.table in
-    let ran = ran_alone kind run (stage_states c.args.self.now) (listed_states group_states c.run_stage.new.groups.items) old c.run_stage.new.own c.run_stage.result (rw c.table_mut.ensures.shown at c.run_stage.ensures.ran) in
-    Ran-as_one_thread tell_ids turn _ c.run_stage.result _ (turn_framed kind g.S.System.step (stage_plan c.args.self.now)) (Ran-as run _ c.run_stage.result _ turn c.run_stage.result (λ list is. inl is) ran)
+    let ran = ran_alone kind turn (stage_states c.args.self.now) (listed_states group_states c.run_stage.new.groups.items) old c.run_stage.new.own c.run_stage.result (rw c.table_mut.ensures.shown at c.run_stage.ensures.ran) in
+    Ran-as_one_thread tell_ids turn _ c.run_stage.result _ (turn_framed kind g.S.System.step (stage_plan c.args.self.now)) ran
 
 pub returns-clause-kinds : goal.returns-clause-kinds
 returns-clause-kinds g c = kinds_alone g.V.ResourceValue.kind_of c.args.world.now.table c.run_stage.new.own (rw c.table_mut.ensures.shown at c.run_stage.ensures.kinds)

@@ -10,6 +10,11 @@ use Rattle.shred.proofs.KeptLists.{own_after_push}
 use Rattle.shred.proofs.StageKeeps.{IsKeptBy, kept_after_entry, plan_when_pushed, plan_when_refused}
 use Rattle.shred.proofs.dispatch.stage.Stage.push_entry.Goals as goal
 
+pub push-requires-clause-room : goal.push-requires-clause-room
+push-requires-clause-room g c =
+    let within : c.args.group < length c.args.self.now.groups.items = rw (length-map c.args.self.now.groups.items group_plan) at c.requires.within in
+    rw c.index_mut.ensures.value (c.args.self.now.keep_room c.args.group c.index_mut.result.now within)
+
 pub invariant_of-self : goal.invariant_of-self
 invariant_of-self g c =
     let old = c.args.self.now in

@@ -1,8 +1,10 @@
 //! Kinds of resources, and the ids under which a world holds them.
-ghost use Rattle.std.specs.Prelude.{◌≡◌, ℕ};
+ghost use Rattle.std.specs.Prelude.{◌≡◌, ℕ, [], ◌∷◌, IfOk};
 ghost use Rattle.shred_world.specs.Id.{id_of, kind_of, dynamic_id_of};
 
+use crate::accessor::OutOfMemory;
 use crate::resource::{Resource, ResourceValue};
+use std::alloc::Global;
 
 /// The number of a resource's type.
 #[derive(Clone, Copy, Debug, PartialEq, Eq, PartialOrd, Ord, Hash)]
@@ -56,5 +58,15 @@ impl ResourceId {
         ensures { result ≡ dynamic_id_of self }
     {
         self.dynamic_id
+    }
+    // A list of this id alone.
+    pub(crate) fn listed(self, alloc: Global) -> Result<Vec<ResourceId>, OutOfMemory>
+        ensures { IfOk result (λ ids. ids.items ≡ self ∷ []) }
+    {
+        let mut ids = Vec::new(alloc);
+        match ids.push(self) {
+            Ok(()) => Ok(ids),
+            Err(_) => Err(OutOfMemory),
+        }
     }
 }

@@ -11,14 +11,12 @@ use crate::resource::{Resource, ResourceValue};
 use crate::world::bundle::SystemData;
 use crate::world::data::{DataError, View};
 use crate::world::read::Read;
-use crate::world::setup::SetupHandler;
 use crate::world::write::Write;
 use crate::world::{World, WorldError};
 use std::alloc::Global;
 use std::marker::PhantomData;
 
-impl<'s, V: ResourceValue + Drop, T: Resource<V>, F: SetupHandler<V, T>> SystemData<'s, V>
-    for Option<Read<'s, T, F>> {
+impl<'s, V: ResourceValue + Drop, T: Resource<V>, F> SystemData<'s, V> for Option<Read<'s, T, F>> {
     ghost read_ids = { id_of T.KIND 0 ∷ [] };
 
     ghost written_ids = { [] };
@@ -52,21 +50,20 @@ impl<'s, V: ResourceValue + Drop, T: Resource<V>, F: SetupHandler<V, T>> SystemD
 
     fn give_back(self, view: &mut View<'s, '_, V>) {
         if let Some(read) = self {
-            read.give_back(view);
+            read.put_back(view);
         }
     }
 
     fn reads(alloc: Global) -> Result<Vec<ResourceId>, OutOfMemory> {
-        Read::<'s, T, F>::reads(alloc)
+        ResourceId::new::<V, T>().listed(alloc)
     }
 
     fn writes(alloc: Global) -> Result<Vec<ResourceId>, OutOfMemory> {
-        Read::<'s, T, F>::writes(alloc)
+        Ok(Vec::new(alloc))
     }
 }
 
-impl<'s, V: ResourceValue + Drop, T: Resource<V>, F: SetupHandler<V, T>> SystemData<'s, V>
-    for Option<Write<T, F>> {
+impl<'s, V: ResourceValue + Drop, T: Resource<V>, F> SystemData<'s, V> for Option<Write<T, F>> {
     ghost read_ids = { [] };
 
     ghost written_ids = { id_of T.KIND 0 ∷ [] };
@@ -100,16 +97,16 @@ impl<'s, V: ResourceValue + Drop, T: Resource<V>, F: SetupHandler<V, T>> SystemD
 
     fn give_back(self, view: &mut View<'s, '_, V>) {
         if let Some(write) = self {
-            write.give_back(view);
+            view.put_back(ResourceId::new::<V, T>(), write.into_resource());
         }
     }
 
     fn reads(alloc: Global) -> Result<Vec<ResourceId>, OutOfMemory> {
-        Write::<T, F>::reads(alloc)
+        Ok(Vec::new(alloc))
     }
 
     fn writes(alloc: Global) -> Result<Vec<ResourceId>, OutOfMemory> {
-        Write::<T, F>::writes(alloc)
+        ResourceId::new::<V, T>().listed(alloc)
     }
 }
 

@@ -1,6 +1,9 @@
 //! Resources that are taken of a view to be read.
 ghost use Rattle.std.specs.Prelude.{◌≡◌, [], ◌∷◌, Some, None, true, false};
+ghost use Rattle.shred_world.specs.Bundles.{ids_of, AreOut};
+ghost use Rattle.shred_world.specs.Grants.{grant_of, given_back};
 ghost use Rattle.shred_world.specs.Id.{id_of};
+ghost use Rattle.shred_world.specs.Views.{is_out, IsSameLoan};
 ghost use Rattle.shred_world.specs.BundleParts.{read_value, moved_of_read, moved_to_read};
 ghost use Rattle.shred_world.specs.Fetched.{fetched};
 
@@ -50,6 +53,26 @@ impl<'s, T, F> From<Fetch<'s, T>> for Read<'s, T, F> {
     }
 }
 
+impl<'s, T, F> Read<'s, T, F> {
+    // Puts the resource back where it was moved out.
+    pub(crate) fn put_back<V: ResourceValue + Drop>(self, view: &mut View<'s, '_, V>)
+    where
+        T: Resource<V>,
+        requires out { AreOut (is_out view.old) (ids_of (moved_to_read T.wrapped (id_of T.KIND 0) self)) }
+        ensures returned { grant_of V.kind_of view.new ≡ given_back (grant_of V.kind_of view.old) (moved_to_read T.wrapped (id_of T.KIND 0) self.entry) }
+        ensures loan { IsSameLoan view.old view.new }
+    {
+        let Read {
+            resource,
+            handler: _,
+        } = self;
+        match resource {
+            Handed::Lent(_) => {}
+            Handed::Moved(resource) => view.put_back(ResourceId::new::<V, T>(), resource),
+        }
+    }
+}
+
 impl<'s, V: ResourceValue + Drop, T: Resource<V>, F: SetupHandler<V, T>> SystemData<'s, V>
     for Read<'s, T, F> {
     ghost read_ids = { id_of T.KIND 0 ∷ [] };
@@ -84,22 +107,11 @@ impl<'s, V: ResourceValue + Drop, T: Resource<V>, F: SetupHandler<V, T>> SystemD
     }
 
     fn give_back(self, view: &mut View<'s, '_, V>) {
-        let Read {
-            resource,
-            handler: _,
-        } = self;
-        match resource {
-            Handed::Lent(_) => {}
-            Handed::Moved(resource) => view.put_back(ResourceId::new::<V, T>(), resource),
-        }
+        self.put_back(view);
     }
 
     fn reads(alloc: Global) -> Result<Vec<ResourceId>, OutOfMemory> {
-        let mut ids = Vec::new(alloc);
-        match ids.push(ResourceId::new::<V, T>()) {
-            Ok(()) => Ok(ids),
-            Err(_) => Err(OutOfMemory),
-        }
+        ResourceId::new::<V, T>().listed(alloc)
     }
 
     fn writes(alloc: Global) -> Result<Vec<ResourceId>, OutOfMemory> {

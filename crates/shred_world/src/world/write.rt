@@ -46,6 +46,19 @@ impl<T, F> DerefMut for Write<T, F> {
     }
 }
 
+impl<T, F> Write<T, F> {
+    // The resource that is held.
+    pub(crate) fn into_resource(self) -> T
+        ensures { result ≡ written_value self }
+    {
+        let Write {
+            resource,
+            handler: _,
+        } = self;
+        resource
+    }
+}
+
 impl<'s, V: ResourceValue + Drop, T: Resource<V>, F: SetupHandler<V, T>> SystemData<'s, V>
     for Write<T, F> {
     ghost read_ids = { [] };
@@ -80,11 +93,7 @@ impl<'s, V: ResourceValue + Drop, T: Resource<V>, F: SetupHandler<V, T>> SystemD
     }
 
     fn give_back(self, view: &mut View<'s, '_, V>) {
-        let Write {
-            resource,
-            handler: _,
-        } = self;
-        view.put_back(ResourceId::new::<V, T>(), resource);
+        view.put_back(ResourceId::new::<V, T>(), self.into_resource());
     }
 
     fn reads(alloc: Global) -> Result<Vec<ResourceId>, OutOfMemory> {
@@ -92,10 +101,6 @@ impl<'s, V: ResourceValue + Drop, T: Resource<V>, F: SetupHandler<V, T>> SystemD
     }
 
     fn writes(alloc: Global) -> Result<Vec<ResourceId>, OutOfMemory> {
-        let mut ids = Vec::new(alloc);
-        match ids.push(ResourceId::new::<V, T>()) {
-            Ok(()) => Ok(ids),
-            Err(_) => Err(OutOfMemory),
-        }
+        ResourceId::new::<V, T>().listed(alloc)
     }
 }

@@ -11,3 +11,4 @@ pub mod Pairs
 pub mod Beside
 pub mod Grants
 pub mod Bundles
+pub mod Whole

@@ -81,6 +81,10 @@ abbrev pub AreOut : (ResourceId → Bool) → List ResourceId → Type 0
 AreOut out [] = ⊤
 AreOut out (id ∷ ids) = IsTrue (out id) × (among ids id ≡ false) × AreOut out ids
 
+-- these ids are out, each stands once, and no other id is out
+abbrev pub AreAllOut : (ResourceId → Bool) → List ResourceId → Type 0
+AreAllOut out ids = AreOut out ids × ((id : ResourceId) → out id ≡ among ids id)
+
 -- what a setup may leave: the map before, the answer, and the map after
 abbrev pub Setup : Type 0 → Type 1
 Setup V = (ResourceId → Option V) → Result (Unit {0}) WorldError → (ResourceId → Option V) → Type 0

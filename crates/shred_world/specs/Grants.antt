@@ -2,10 +2,11 @@
 use Rattle.std.specs.Prelude.{true, false, Bool, not, ◌&&◌, ◌||◌, Option, Some, None, List, [], ◌∷◌}
 use Rattle.shred_world.specs.declared.id.Kind.{Kind}
 use Rattle.shred_world.specs.declared.id.ResourceId.{ResourceId}
+use Rattle.shred_world.specs.declared.table.Table.{Table}
 use Rattle.shred_world.specs.declared.world.data.View.{View}
 use Rattle.shred_world.specs.Id.{same_id}
-use Rattle.shred_world.specs.Slots.{with_at}
-use Rattle.shred_world.specs.Views.{may_read, may_write, is_own, is_out, view_held}
+use Rattle.shred_world.specs.Slots.{slot_at, noted_in, held, with_at}
+use Rattle.shred_world.specs.Views.{may_read, may_write, is_own, is_vacant, is_out, view_held}
 
 -- which ids may be read, which may be written, which values are not shared, which are out, and what is held
 pub record Grant (V : Type 0) : Type 0 where
@@ -22,6 +23,14 @@ grant_of kind v = record { reads = may_read v; writes = may_write v; own = is_ow
 -- all of a map: each id may be read and written, nothing is shared, and nothing is out
 abbrev pub map_grant : {V : Type 0} → (ResourceId → Option V) → Grant V
 map_grant m = record { reads = λ q. true; writes = λ q. true; own = λ q. true; out = λ q. false; held = m }
+
+-- whether the value of the id is handed out of the table
+abbrev pub is_out_in : {V : Type 0} → Table V → ResourceId → Bool
+is_out_in t id = noted_in t id && is_vacant (slot_at t id)
+
+-- all of a table: each id may be read and written, and nothing is shared
+abbrev pub table_grant : {V : Type 0} → (V → Kind) → Table V → Grant V
+table_grant kind t = record { reads = λ q. true; writes = λ q. true; own = λ q. true; out = is_out_in t; held = held kind t }
 
 -- the grant after the value under the id was handed out
 abbrev pub without : {V : Type 0} → Grant V → ResourceId → Grant V

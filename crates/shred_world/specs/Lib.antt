@@ -14,3 +14,4 @@ pub mod Bundles
 pub mod Handing
 pub mod BundleParts
 pub mod Executed
+pub mod LentBundles

@@ -18,6 +18,7 @@ pub use world::bundle::SystemData;
 pub use world::data::{DataError, Shelf, View};
 pub use world::entry::Entry;
 pub use world::fetch::{Fetch, FetchMut};
+pub use world::lent::Lent;
 pub use world::parts::PartsWork;
 pub use world::read::{Read, ReadExpect};
 pub use world::setup::{DefaultProvider, PanicHandler, SetupHandler};

@@ -5,7 +5,7 @@ ghost use Rattle.shred_world.specs.declared.id.ResourceId.{ResourceId};
 ghost use Rattle.shred_world.specs.Lent.{LendsWritten, LendsNarrow};
 ghost use Rattle.std.specs.Option.{option_copied};
 ghost use Rattle.std.specs.Result.{result_err};
-ghost use Rattle.shred_world.specs.Grants.{grant_of, map_grant};
+ghost use Rattle.shred_world.specs.Grants.{grant_of, map_grant, table_grant};
 ghost use Rattle.shred_world.specs.Slots.{among, slot_at, held};
 ghost use Rattle.shred_world.specs.Views.{shelf_slot, lent_slot, view_slot, view_held, is_whole, may_read, may_write, is_vacant, is_out, refusal, table_in, owned_ids, shelves_of};
 
@@ -232,6 +232,16 @@ impl<'s, 'a, V: ResourceValue> View<'s, 'a, V> {
         ensures grant { grant_of V.kind_of result ≡ map_grant (held V.kind_of own.old) }
     {
         own.forget_notes();
+        Self::whole_as_left(own)
+    }
+
+    // The same, with what is noted as handed out.
+    pub(crate) fn whole_as_left(own: &'a mut Table<V>) -> Self
+        ensures name { result.own.ghost_name ≡ own.entry.ghost_name }
+        ensures table { result.own.now ≡ own.old }
+        ensures whole { is_whole result ≡ true }
+        ensures grant { grant_of V.kind_of result ≡ table_grant V.kind_of own.old }
+    {
         let none: &'s [ResourceId] = &[];
         View {
             reads: none,

@@ -21,6 +21,7 @@ pub mod entry;
 mod exec;
 pub mod fetch;
 pub mod handing;
+pub mod lent;
 pub mod parts;
 pub mod read;
 pub mod setup;

@@ -1,4 +1,4 @@
-use Rattle.std.proofs.Common.{Result, refl, subst}
+use Rattle.std.proofs.Common.{refl, subst}
 use Rattle.shred_world.specs.Worlds.{world_held}
 use Rattle.shred_world.proofs.world.World.exec.Goals as goal
 

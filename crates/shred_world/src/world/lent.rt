@@ -1,0 +1,111 @@
+//! Bundles that are taken on a world, and go back to it.
+ghost use Rattle.std.specs.Prelude.{◌≡◌, IfOk, IfErr, OnOk, OnErr};
+ghost use Rattle.std.specs.Borrow.{sem, RestsIfErr};
+ghost use Rattle.shred_world.specs.Bundles.{AreOut, AreAllOut, IsRefused, after_parts, ids_of};
+ghost use Rattle.shred_world.specs.Executed.{IsTaken};
+ghost use Rattle.shred_world.specs.Grants.{is_out_in, map_grant, table_grant, given_back};
+ghost use Rattle.shred_world.specs.Lent.{EndsSame};
+ghost use Rattle.shred_world.specs.Slots.{held};
+ghost use Rattle.shred_world.specs.Worlds.{world_held};
+ghost use Rattle.shred_world.specs.contracts.world.World.{the_row as world_row};
+
+use crate::resource::ResourceValue;
+use crate::table::Table;
+use crate::world::World;
+use crate::world::bundle::SystemData;
+use crate::world::data::{DataError, View};
+use std::ops::{Deref, DerefMut};
+
+/// A bundle that was taken on a world. It goes back by `give_back`.
+pub struct Lent<'a, V, D> {
+    world: &'a mut World<V>,
+    bundle: D,
+}
+
+impl<V, D> Deref for Lent<'_, V, D> {
+    ghost use Rattle.shred_world.specs.LentBundles.{lent_bundle};
+
+    type Target = D;
+
+    ghost deref_gives = { λ lent bundle. bundle ≡ lent_bundle lent };
+
+    fn deref(&self) -> &D {
+        &self.bundle
+    }
+}
+
+impl<V, D> DerefMut for Lent<'_, V, D> {
+    ghost use Rattle.shred_world.specs.LentBundles.{lent_bundle, LendsBundle};
+
+    ghost deref_mut_gives = { λ lent bundle. bundle ≡ lent_bundle lent };
+
+    fn deref_mut(&mut self) -> &mut D
+        ensures* written { sem 𝓛 (LendsBundle V.row D.row self.entry result) }
+        ensures shown { result.now ≡ lent_bundle self.old }
+    {
+        &mut self.bundle
+    }
+}
+
+impl<V: ResourceValue, D> Lent<'_, V, D> {
+    ghost use Rattle.shred_world.specs.LentBundles.{lent_bundle, lent_grant};
+
+    /// Gives the bundle back to the world, with its values as they are now. The bundle still has all that it was lent
+    /// with. It takes no memory, and cannot fail.
+    pub fn give_back<'s>(self)
+    where
+        D: SystemData<'s, V>,
+        V: 's,
+        requires { AreAllOut (lent_grant V.kind_of self).out (ids_of (D.moved (lent_bundle self))) }
+        ensures { world_held V.kind_of self.exit.0.now ≡ (given_back (lent_grant V.kind_of self.entry) (D.moved (lent_bundle self.entry))).held }
+    {
+        let Lent { world, bundle } = self;
+        put_into(&mut world.table, bundle);
+    }
+}
+
+impl<V: ResourceValue> World<V> {
+    ghost use Rattle.shred_world.specs.LentBundles.{lender, lent_bundle, lent_grant};
+
+    /// Takes a bundle on the world, where each id may be read and written. Nothing is set up.
+    pub fn system_data<'s, D: SystemData<'s, V>>(&mut self) -> Result<Lent<'_, V, D>, DataError>
+    where
+        V: 's,
+        ensures refused { IfErr result (IsRefused (map_grant (world_held V.kind_of self.old)) D.parts) }
+        ensures taken { IfOk result (λ lent. IsTaken D.shows D.moved (map_grant (world_held V.kind_of self.old)) D.parts (lent_bundle lent)) }
+        ensures left { IfOk result (λ lent. lent_grant V.kind_of lent ≡ after_parts (map_grant (world_held V.kind_of self.old)) D.parts) }
+        ensures out { IfOk result (λ lent. AreAllOut (lent_grant V.kind_of lent).out (ids_of (D.moved (lent_bundle lent)))) }
+        ensures name { IfOk result (λ lent. (lender lent).ghost_name ≡ self.entry.ghost_name) }
+        ensures* unchanged { sem 𝓛 (RestsIfErr (world_row V.row) self.entry (λ lent. (lender lent).ghost_name) result (EndsSame V.kind_of self.old)) }
+    {
+        match take_of(&mut self.table) {
+            Ok(bundle) => Ok(Lent {
+                world: self,
+                bundle,
+            }),
+            Err(error) => Err(error),
+        }
+    }
+}
+
+// A bundle of all that a table holds.
+fn take_of<'s, V: ResourceValue + 's, D: SystemData<'s, V>>(
+    own: &mut Table<V>,
+) -> Result<D, DataError>
+    ensures refused { IfErr result (IsRefused (map_grant (held V.kind_of own.old)) D.parts) }
+    ensures taken { IfOk result (IsTaken D.shows D.moved (map_grant (held V.kind_of own.old)) D.parts) }
+    ensures left { OnOk result (table_grant V.kind_of own.new ≡ after_parts (map_grant (held V.kind_of own.old)) D.parts) }
+    ensures unchanged { OnErr result (held V.kind_of own.new ≡ held V.kind_of own.old) }
+{
+    let mut view = View::whole(own);
+    view.system_data()
+}
+
+// Gives a bundle back to the table that it was taken of.
+fn put_into<'s, V: ResourceValue + 's, D: SystemData<'s, V>>(own: &mut Table<V>, bundle: D)
+    requires { AreOut (is_out_in own.old) (ids_of (D.moved bundle)) }
+    ensures { held V.kind_of own.new ≡ (given_back (table_grant V.kind_of own.old) (D.moved bundle)).held }
+{
+    let mut view = View::whole_as_left(own);
+    view.give_back(bundle);
+}

@@ -15,3 +15,4 @@ pub mod Handing
 pub mod BundleParts
 pub mod Executed
 pub mod LentBundles
+pub mod Accessors

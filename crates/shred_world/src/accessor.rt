@@ -1,9 +1,9 @@
 //! What a system declares to read and to write.
-ghost use Rattle.std.specs.Prelude.{◌≡◌, List, [], IfOk};
+ghost use Rattle.std.specs.Prelude.{◌≡◌, List, IfOk};
+ghost use Rattle.shred_world.specs.Accessors.{batch_reads, batch_writes};
 ghost use Rattle.shred_world.specs.declared.id.ResourceId.{ResourceId};
 
 use crate::id::ResourceId;
-use std::marker::PhantomData;
 
 /// Memory was refused.
 #[derive(Clone, Copy, Debug, PartialEq, Eq)]
@@ -22,4 +22,44 @@ pub trait Accessor {
     /// The ids that are written.
     fn writes(&self) -> Result<Vec<ResourceId>, OutOfMemory>
         ensures { IfOk result (λ ids. ids.items ≡ writes self.now) };
+}
+
+/// An accessor with these two lists.
+#[derive(Drop)]
+pub struct BatchAccessor {
+    reads: Vec<ResourceId>,
+    writes: Vec<ResourceId>,
+}
+
+impl BatchAccessor {
+    /// The accessor with these two lists.
+    pub fn new(reads: Vec<ResourceId>, writes: Vec<ResourceId>) -> Self
+        ensures reads { batch_reads result ≡ reads.items }
+        ensures writes { batch_writes result ≡ writes.items }
+    {
+        BatchAccessor { reads, writes }
+    }
+}
+
+impl Accessor for BatchAccessor {
+    ghost reads = { batch_reads };
+
+    ghost writes = { batch_writes };
+
+    fn reads(&self) -> Result<Vec<ResourceId>, OutOfMemory> {
+        copy_of(&self.reads)
+    }
+
+    fn writes(&self) -> Result<Vec<ResourceId>, OutOfMemory> {
+        copy_of(&self.writes)
+    }
+}
+
+fn copy_of(ids: &Vec<ResourceId>) -> Result<Vec<ResourceId>, OutOfMemory>
+    ensures { IfOk result (λ copy. copy.items ≡ ids.now.items) }
+{
+    match ids.clone() {
+        Ok(copy) => Ok(copy),
+        Err(_) => Err(OutOfMemory),
+    }
 }

@@ -9,13 +9,14 @@ pub mod table;
 pub mod util;
 pub mod world;
 
-pub use accessor::{Accessor, OutOfMemory};
+pub use accessor::{Accessor, BatchAccessor, OutOfMemory};
 pub use id::{Kind, ResourceId};
 pub use resource::{Resource, ResourceValue};
 pub use table::Table;
 pub use util::check_intersection;
 pub use world::bundle::SystemData;
 pub use world::data::{DataError, Shelf, View};
+pub use world::dynamic::DynamicSystemData;
 pub use world::entry::Entry;
 pub use world::fetch::{Fetch, FetchMut};
 pub use world::lent::Lent;

@@ -17,6 +17,7 @@ use std::alloc::Global;
 pub mod absent;
 pub mod bundle;
 pub mod data;
+pub mod dynamic;
 pub mod entry;
 mod exec;
 pub mod fetch;

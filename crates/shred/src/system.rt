@@ -5,6 +5,7 @@ ghost use Rattle.shred.specs.declared.system.RunningTime.{RunningTime};
 ghost use Rattle.shred_world.specs.declared.id.ResourceId.{ResourceId};
 
 use shred_world::{Accessor, DataError, OutOfMemory, ResourceValue, View, World};
+use std::alloc::Global;
 
 /// How long a system is thought to take.
 #[derive(Clone, Copy, Debug, PartialEq, Eq)]
@@ -90,7 +91,7 @@ pub trait System<V: ResourceValue> {
         ensures { result ≡ time self.now };
 
     /// What the system declares.
-    fn accessor(&self) -> Result<Self::Accessor, OutOfMemory>
+    fn accessor(&self, alloc: Global) -> Result<Self::Accessor, OutOfMemory>
         ensures reads { IfOk result (λ a. Self.Accessor.reads a ≡ reads self.now) }
         ensures writes { IfOk result (λ a. Self.Accessor.writes a ≡ writes self.now) };
 

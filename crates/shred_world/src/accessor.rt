@@ -1,9 +1,11 @@
 //! What a system declares to read and to write.
-ghost use Rattle.std.specs.Prelude.{◌≡◌, List, IfOk};
+ghost use Rattle.std.specs.Prelude.{◌≡◌, List, [], IfOk};
 ghost use Rattle.shred_world.specs.Accessors.{batch_reads, batch_writes};
 ghost use Rattle.shred_world.specs.declared.id.ResourceId.{ResourceId};
 
 use crate::id::ResourceId;
+use std::alloc::Global;
+use std::marker::PhantomData;
 
 /// Memory was refused.
 #[derive(Clone, Copy, Debug, PartialEq, Eq)]
@@ -16,12 +18,40 @@ pub trait Accessor {
     ghost writes: { Self → List ResourceId };
 
     /// The ids that are read.
-    fn reads(&self) -> Result<Vec<ResourceId>, OutOfMemory>
+    fn reads(&self, alloc: Global) -> Result<Vec<ResourceId>, OutOfMemory>
         ensures { IfOk result (λ ids. ids.items ≡ reads self.now) };
 
     /// The ids that are written.
-    fn writes(&self) -> Result<Vec<ResourceId>, OutOfMemory>
+    fn writes(&self, alloc: Global) -> Result<Vec<ResourceId>, OutOfMemory>
         ensures { IfOk result (λ ids. ids.items ≡ writes self.now) };
+}
+
+impl Accessor for () {
+    ghost reads = { λ nothing. [] };
+
+    ghost writes = { λ nothing. [] };
+
+    fn reads(&self, alloc: Global) -> Result<Vec<ResourceId>, OutOfMemory> {
+        Ok(Vec::new(alloc))
+    }
+
+    fn writes(&self, alloc: Global) -> Result<Vec<ResourceId>, OutOfMemory> {
+        Ok(Vec::new(alloc))
+    }
+}
+
+impl<T> Accessor for PhantomData<T> {
+    ghost reads = { λ nothing. [] };
+
+    ghost writes = { λ nothing. [] };
+
+    fn reads(&self, alloc: Global) -> Result<Vec<ResourceId>, OutOfMemory> {
+        Ok(Vec::new(alloc))
+    }
+
+    fn writes(&self, alloc: Global) -> Result<Vec<ResourceId>, OutOfMemory> {
+        Ok(Vec::new(alloc))
+    }
 }
 
 /// An accessor with these two lists.
@@ -46,19 +76,19 @@ impl Accessor for BatchAccessor {
 
     ghost writes = { batch_writes };
 
-    fn reads(&self) -> Result<Vec<ResourceId>, OutOfMemory> {
-        copy_of(&self.reads)
+    fn reads(&self, alloc: Global) -> Result<Vec<ResourceId>, OutOfMemory> {
+        copy_of(alloc, &self.reads)
     }
 
-    fn writes(&self) -> Result<Vec<ResourceId>, OutOfMemory> {
-        copy_of(&self.writes)
+    fn writes(&self, alloc: Global) -> Result<Vec<ResourceId>, OutOfMemory> {
+        copy_of(alloc, &self.writes)
     }
 }
 
-fn copy_of(ids: &Vec<ResourceId>) -> Result<Vec<ResourceId>, OutOfMemory>
+fn copy_of(alloc: Global, ids: &Vec<ResourceId>) -> Result<Vec<ResourceId>, OutOfMemory>
     ensures { IfOk result (λ copy. copy.items ≡ ids.now.items) }
 {
-    match ids.clone() {
+    match Vec::from_slice(alloc, ids.as_slice()) {
         Ok(copy) => Ok(copy),
         Err(_) => Err(OutOfMemory),
     }

@@ -74,21 +74,19 @@ fn count_id() -> ResourceId
 
 /// Writes the count and reads nothing.
 #[derive(Drop)]
-pub struct WritesCount {
-    alloc: Global,
-}
+pub struct WritesCount;
 
 impl Accessor for WritesCount {
     ghost reads = { λ accessor. [] };
 
     ghost writes = { λ accessor. id_of (record { 0 = 0 }) 0 ∷ [] };
 
-    fn reads(&self) -> Result<Vec<ResourceId>, OutOfMemory> {
-        Ok(Vec::new(self.alloc))
+    fn reads(&self, alloc: Global) -> Result<Vec<ResourceId>, OutOfMemory> {
+        Ok(Vec::new(alloc))
     }
 
-    fn writes(&self) -> Result<Vec<ResourceId>, OutOfMemory> {
-        match Vec::from_slice(self.alloc, &[count_id()]) {
+    fn writes(&self, alloc: Global) -> Result<Vec<ResourceId>, OutOfMemory> {
+        match Vec::from_slice(alloc, &[count_id()]) {
             Ok(ids) => Ok(ids),
             Err(_) => Err(OutOfMemory),
         }
@@ -97,9 +95,7 @@ impl Accessor for WritesCount {
 
 /// Sets the count to 7.
 #[derive(Drop)]
-pub struct SetToSeven {
-    alloc: Global,
-}
+pub struct SetToSeven;
 
 impl System<Value> for SetToSeven {
     type Error = DataError;
@@ -133,8 +129,8 @@ impl System<Value> for SetToSeven {
         RunningTime::Average
     }
 
-    fn accessor(&self) -> Result<WritesCount, OutOfMemory> {
-        Ok(WritesCount { alloc: self.alloc })
+    fn accessor(&self, _alloc: Global) -> Result<WritesCount, OutOfMemory> {
+        Ok(WritesCount)
     }
 
     fn setup(&mut self, _world: &mut World<Value>) -> Result<(), Fault<DataError>> {
@@ -152,7 +148,7 @@ pub fn count_after_dispatch(alloc: Global) -> Option<i64> {
     world.insert_by_id(count_id(), Count(1)).ok()?;
 
     let mut builder: StagesBuilder<Value, SetToSeven> = StagesBuilder::new(alloc);
-    builder.insert(&[], SystemId(0), SetToSeven { alloc }).ok()?;
+    builder.insert(&[], SystemId(0), SetToSeven).ok()?;
 
     let mut dispatcher = new_dispatcher(builder.build());
     dispatcher.dispatch_seq(&mut world).ok()?;

@@ -21,14 +21,12 @@ pub(crate) fn count_id(number: u64) -> ResourceId
 #[derive(Drop)]
 pub(crate) struct AddOne {
     pub(crate) number: u64,
-    pub(crate) alloc: Global,
 }
 
 /// The ids of one such system.
 #[derive(Drop)]
 pub(crate) struct OneOfEach {
     number: u64,
-    alloc: Global,
 }
 
 fn one(alloc: Global, number: u64) -> Result<Vec<ResourceId>, OutOfMemory>
@@ -45,12 +43,12 @@ impl Accessor for OneOfEach {
 
     ghost writes = { λ accessor. id_of (record { 0 = 0 }) accessor.number ∷ [] };
 
-    fn reads(&self) -> Result<Vec<ResourceId>, OutOfMemory> {
-        one(self.alloc, 0)
+    fn reads(&self, alloc: Global) -> Result<Vec<ResourceId>, OutOfMemory> {
+        one(alloc, 0)
     }
 
-    fn writes(&self) -> Result<Vec<ResourceId>, OutOfMemory> {
-        one(self.alloc, self.number)
+    fn writes(&self, alloc: Global) -> Result<Vec<ResourceId>, OutOfMemory> {
+        one(alloc, self.number)
     }
 }
 
@@ -86,10 +84,9 @@ impl System<Value> for AddOne {
         RunningTime::Average
     }
 
-    fn accessor(&self) -> Result<OneOfEach, OutOfMemory> {
+    fn accessor(&self, _alloc: Global) -> Result<OneOfEach, OutOfMemory> {
         Ok(OneOfEach {
             number: self.number,
-            alloc: self.alloc,
         })
     }
 

@@ -37,10 +37,7 @@ fn world_of(alloc: Global, systems: u64) -> Result<World<Value>, Stopped> {
 fn dispatcher_of(alloc: Global, systems: u64) -> Result<Dispatcher<Value, AddOne>, Stopped> {
     let mut builder = StagesBuilder::new(alloc);
     for number in 0..systems {
-        let system = AddOne {
-            number: number + 1,
-            alloc,
-        };
+        let system = AddOne { number: number + 1 };
         if builder
             .insert(&[], SystemId(number as usize), system)
             .is_err()

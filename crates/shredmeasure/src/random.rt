@@ -19,10 +19,10 @@ pub(crate) struct Lists {
     writes: Vec<ResourceId>,
 }
 
-fn copied(ids: &Vec<ResourceId>) -> Result<Vec<ResourceId>, OutOfMemory>
+fn copied(alloc: Global, ids: &Vec<ResourceId>) -> Result<Vec<ResourceId>, OutOfMemory>
     ensures { IfOk result (λ copy. copy.items ≡ ids.now.items) }
 {
-    match Vec::from_slice(*ids.allocator(), ids.as_slice()) {
+    match Vec::from_slice(alloc, ids.as_slice()) {
         Ok(copy) => Ok(copy),
         Err(_) => Err(OutOfMemory),
     }
@@ -33,12 +33,12 @@ impl Accessor for Lists {
 
     ghost writes = { λ lists. lists.writes.items };
 
-    fn reads(&self) -> Result<Vec<ResourceId>, OutOfMemory> {
-        copied(&self.reads)
+    fn reads(&self, alloc: Global) -> Result<Vec<ResourceId>, OutOfMemory> {
+        copied(alloc, &self.reads)
     }
 
-    fn writes(&self) -> Result<Vec<ResourceId>, OutOfMemory> {
-        copied(&self.writes)
+    fn writes(&self, alloc: Global) -> Result<Vec<ResourceId>, OutOfMemory> {
+        copied(alloc, &self.writes)
     }
 }
 
@@ -103,12 +103,12 @@ impl System<Value> for Planned {
         RunningTime::Average
     }
 
-    fn accessor(&self) -> Result<Lists, OutOfMemory> {
-        let reads = match copied(&self.lists.reads) {
+    fn accessor(&self, alloc: Global) -> Result<Lists, OutOfMemory> {
+        let reads = match copied(alloc, &self.lists.reads) {
             Ok(reads) => reads,
             Err(e) => return Err(e),
         };
-        let writes = match copied(&self.lists.writes) {
+        let writes = match copied(alloc, &self.lists.writes) {
             Ok(writes) => writes,
             Err(e) => return Err(e),
         };

@@ -47,13 +47,13 @@ impl Declared {
         Ok(())
     }
 
-    pub(crate) fn copy(&self) -> Result<Declared, OutOfMemory>
+    pub(crate) fn copy(&self, alloc: Global) -> Result<Declared, OutOfMemory>
         ensures reads { IfOk result (λ copy. copy.reads.items ≡ self.now.reads.items) }
         ensures writes { IfOk result (λ copy. copy.writes.items ≡ self.now.writes.items) }
     {
         Ok(Declared {
-            reads: copy_ids(&self.reads)?,
-            writes: copy_ids(&self.writes)?,
+            reads: copy_ids(alloc, &self.reads)?,
+            writes: copy_ids(alloc, &self.writes)?,
         })
     }
 }
@@ -63,19 +63,19 @@ impl Accessor for Declared {
 
     ghost writes = { λ declared. declared.writes.items };
 
-    fn reads(&self) -> Result<Vec<ResourceId>, OutOfMemory> {
-        copy_ids(&self.reads)
+    fn reads(&self, alloc: Global) -> Result<Vec<ResourceId>, OutOfMemory> {
+        copy_ids(alloc, &self.reads)
     }
 
-    fn writes(&self) -> Result<Vec<ResourceId>, OutOfMemory> {
-        copy_ids(&self.writes)
+    fn writes(&self, alloc: Global) -> Result<Vec<ResourceId>, OutOfMemory> {
+        copy_ids(alloc, &self.writes)
     }
 }
 
-fn copy_ids(ids: &Vec<ResourceId>) -> Result<Vec<ResourceId>, OutOfMemory>
+fn copy_ids(alloc: Global, ids: &Vec<ResourceId>) -> Result<Vec<ResourceId>, OutOfMemory>
     ensures { IfOk result (λ copy. copy.items ≡ ids.now.items) }
 {
-    match ids.clone() {
+    match Vec::from_slice(alloc, ids.as_slice()) {
         Ok(copy) => Ok(copy),
         Err(_) => Err(OutOfMemory),
     }

@@ -73,8 +73,8 @@ impl System<Value> for ScriptSystem {
         self.time
     }
 
-    fn accessor(&self) -> Result<Declared, OutOfMemory> {
-        self.declared.copy()
+    fn accessor(&self, alloc: Global) -> Result<Declared, OutOfMemory> {
+        self.declared.copy(alloc)
     }
 
     fn setup(&mut self, _world: &mut World<Value>) -> Result<(), Fault<Refusal>> {

@@ -21,7 +21,6 @@ fn count_id(number: u64) -> ResourceId
 #[derive(Drop)]
 struct OneWritten {
     number: u64,
-    alloc: Global,
 }
 
 impl Accessor for OneWritten {
@@ -29,12 +28,12 @@ impl Accessor for OneWritten {
 
     ghost writes = { λ accessor. id_of count_kind accessor.number ∷ [] };
 
-    fn reads(&self) -> Result<Vec<ResourceId>, OutOfMemory> {
-        Ok(Vec::new(self.alloc))
+    fn reads(&self, alloc: Global) -> Result<Vec<ResourceId>, OutOfMemory> {
+        Ok(Vec::new(alloc))
     }
 
-    fn writes(&self) -> Result<Vec<ResourceId>, OutOfMemory> {
-        match Vec::from_slice(self.alloc, &[count_id(self.number)]) {
+    fn writes(&self, alloc: Global) -> Result<Vec<ResourceId>, OutOfMemory> {
+        match Vec::from_slice(alloc, &[count_id(self.number)]) {
             Ok(ids) => Ok(ids),
             Err(_) => Err(OutOfMemory),
         }
@@ -48,7 +47,6 @@ struct Adds {
     amount: i64,
     code: u8,
     time: RunningTime,
-    alloc: Global,
 }
 
 impl System<Value> for Adds {
@@ -84,10 +82,9 @@ impl System<Value> for Adds {
         self.time
     }
 
-    fn accessor(&self) -> Result<OneWritten, OutOfMemory> {
+    fn accessor(&self, _alloc: Global) -> Result<OneWritten, OutOfMemory> {
         Ok(OneWritten {
             number: self.number,
-            alloc: self.alloc,
         })
     }
 
@@ -112,7 +109,6 @@ fn dispatcher_of(alloc: Global, rows: &[Row]) -> Result<Dispatcher<Value, Adds>,
             amount,
             code,
             time,
-            alloc,
         };
         builder.insert(&[], SystemId(id), system)?;
     }

@@ -4,8 +4,8 @@ ghost use Rattle.shred.specs.declared.system.RunningTime.TheVariants.{Average};
 
 use crate::values::Value;
 use shred::{
-    Accessor, DispatchError, Dispatcher, Fault, OutOfMemory, ResourceId, RunningTime,
-    StagesBuilder, System, SystemId, View, World, new_dispatcher,
+    DispatchError, Dispatcher, Fault, OutOfMemory, RunningTime, StagesBuilder, System, SystemId,
+    View, World, new_dispatcher,
 };
 use std::alloc::Global;
 use std::sync::atomic::{AtomicBool, Ordering};
@@ -14,37 +14,17 @@ use std::test::Fail;
 /// How often a system looks for the other's flag.
 const TURNS: u32 = 10_000_000;
 
-#[derive(Drop)]
-struct NoIds {
-    alloc: Global,
-}
-
-impl Accessor for NoIds {
-    ghost reads = { λ accessor. [] };
-
-    ghost writes = { λ accessor. [] };
-
-    fn reads(&self) -> Result<Vec<ResourceId>, OutOfMemory> {
-        Ok(Vec::new(self.alloc))
-    }
-
-    fn writes(&self) -> Result<Vec<ResourceId>, OutOfMemory> {
-        Ok(Vec::new(self.alloc))
-    }
-}
-
 /// Raises its flag, and refuses if it never sees the other's.
 #[derive(Drop)]
 struct Meets<'f> {
     own: &'f AtomicBool,
     other: &'f AtomicBool,
-    alloc: Global,
 }
 
 impl<'f> System<Value> for Meets<'f> {
     type Error = u8;
 
-    type Accessor = NoIds;
+    type Accessor = ();
 
     ghost reads = { λ system. [] };
 
@@ -72,8 +52,8 @@ impl<'f> System<Value> for Meets<'f> {
         RunningTime::Average
     }
 
-    fn accessor(&self) -> Result<NoIds, OutOfMemory> {
-        Ok(NoIds { alloc: self.alloc })
+    fn accessor(&self, _alloc: Global) -> Result<(), OutOfMemory> {
+        Ok(())
     }
 
     fn setup(&mut self, _world: &mut World<Value>) -> Result<(), Fault<u8>> {
@@ -94,13 +74,11 @@ fn two_that_meet<'f>(
     let one = Meets {
         own: first,
         other: second,
-        alloc,
     };
     builder.insert(&[], SystemId(0), one)?;
     let two = Meets {
         own: second,
         other: first,
-        alloc,
     };
     builder.insert(&[], SystemId(1), two)?;
     Ok(new_dispatcher(builder.build()))

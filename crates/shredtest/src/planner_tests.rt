@@ -35,10 +35,10 @@ pub(crate) struct Declared {
     writes: Vec<ResourceId>,
 }
 
-fn copied(ids: &Vec<ResourceId>) -> Result<Vec<ResourceId>, OutOfMemory>
+fn copied(alloc: Global, ids: &Vec<ResourceId>) -> Result<Vec<ResourceId>, OutOfMemory>
     ensures { IfOk result (λ copy. copy.items ≡ ids.now.items) }
 {
-    match Vec::from_slice(*ids.allocator(), ids.as_slice()) {
+    match Vec::from_slice(alloc, ids.as_slice()) {
         Ok(copy) => Ok(copy),
         Err(_) => Err(OutOfMemory),
     }
@@ -49,12 +49,12 @@ impl Accessor for Declared {
 
     ghost writes = { λ d. d.writes.items };
 
-    fn reads(&self) -> Result<Vec<ResourceId>, OutOfMemory> {
-        copied(&self.reads)
+    fn reads(&self, alloc: Global) -> Result<Vec<ResourceId>, OutOfMemory> {
+        copied(alloc, &self.reads)
     }
 
-    fn writes(&self) -> Result<Vec<ResourceId>, OutOfMemory> {
-        copied(&self.writes)
+    fn writes(&self, alloc: Global) -> Result<Vec<ResourceId>, OutOfMemory> {
+        copied(alloc, &self.writes)
     }
 }
 
@@ -98,12 +98,12 @@ impl System<Value> for OnlyPlanned {
         self.time
     }
 
-    fn accessor(&self) -> Result<Declared, OutOfMemory> {
-        let reads = match copied(&self.declared.reads) {
+    fn accessor(&self, alloc: Global) -> Result<Declared, OutOfMemory> {
+        let reads = match copied(alloc, &self.declared.reads) {
             Ok(reads) => reads,
             Err(e) => return Err(e),
         };
-        let writes = match copied(&self.declared.writes) {
+        let writes = match copied(alloc, &self.declared.writes) {
             Ok(writes) => writes,
             Err(e) => return Err(e),
         };

@@ -311,15 +311,15 @@ fn kept_entry<V: ResourceValue + Drop, S: System<V> + Drop>(
     ensures own_lists { IfOk result (IsOwnEntry S.reads S.writes) }
 {
     let time = system.running_time();
-    let accessor = match system.accessor() {
+    let accessor = match system.accessor(alloc) {
         Ok(accessor) => accessor,
         Err(e) => return Err(e),
     };
-    let mut reads = match accessor.reads() {
+    let mut reads = match accessor.reads(alloc) {
         Ok(reads) => reads,
         Err(e) => return Err(e),
     };
-    let writes = match accessor.writes() {
+    let writes = match accessor.writes(alloc) {
         Ok(writes) => writes,
         Err(e) => return Err(e),
     };

@@ -7,7 +7,7 @@ use crate::dispatch::builder::DispatcherBuilder;
 use crate::dispatch::entry::SystemId;
 use crate::dispatch::stages_builder::StagesBuilder;
 use crate::system::{Fault, RunningTime, System};
-use shred_world::{Accessor, Kind, OutOfMemory, ResourceId, ResourceValue, View, World};
+use shred_world::{Kind, OutOfMemory, ResourceValue, View, World};
 use std::alloc::Global;
 use std::collections::HashMap;
 use std::test::Fail;
@@ -24,30 +24,14 @@ impl ResourceValue for Nothing {
     }
 }
 
-/// A system that touches nothing, and its lists.
+/// A system that touches nothing.
 #[derive(Drop)]
-struct Idle {
-    alloc: Global,
-}
-
-impl Accessor for Idle {
-    ghost reads = { λ _. [] };
-
-    ghost writes = { λ _. [] };
-
-    fn reads(&self) -> Result<Vec<ResourceId>, OutOfMemory> {
-        Ok(Vec::new(self.alloc))
-    }
-
-    fn writes(&self) -> Result<Vec<ResourceId>, OutOfMemory> {
-        Ok(Vec::new(self.alloc))
-    }
-}
+struct Idle;
 
 impl System<Nothing> for Idle {
     type Error = u8;
 
-    type Accessor = Idle;
+    type Accessor = ();
 
     ghost reads = { λ _. [] };
 
@@ -69,8 +53,8 @@ impl System<Nothing> for Idle {
         RunningTime::Short
     }
 
-    fn accessor(&self) -> Result<Idle, OutOfMemory> {
-        Ok(Idle { alloc: self.alloc })
+    fn accessor(&self, _alloc: Global) -> Result<(), OutOfMemory> {
+        Ok(())
     }
 
     fn setup(&mut self, _world: &mut World<Nothing>) -> Result<(), Fault<u8>> {
@@ -95,7 +79,7 @@ fn builder_at(alloc: Global, next: usize) -> DispatcherBuilder<Nothing, Idle> {
 fn the_greatest_id_is_never_given(rt: HostRuntime) -> Result<(), Fail> {
     let alloc = rt.alloc();
     let mut builder = builder_at(alloc, usize::MAX);
-    let refused = builder.add(Idle { alloc }, "a", &[]);
+    let refused = builder.add(Idle, "a", &[]);
     assert_eq!(rt; refused, Err(AddError::IdsExhausted));
     assert_eq!(rt; builder.next, usize::MAX);
     assert!(rt; builder.names.is_empty());
@@ -108,13 +92,13 @@ fn the_last_id_is_given(rt: HostRuntime) -> Result<(), Fail> {
     let alloc = rt.alloc();
     let last = usize::MAX - 1;
     let mut builder = builder_at(alloc, last);
-    let added = builder.add(Idle { alloc }, "a", &[]);
+    let added = builder.add(Idle, "a", &[]);
     assert_eq!(rt; added, Ok(SystemId(last)));
-    let unknown = builder.add(Idle { alloc }, "a", &["b"]);
+    let unknown = builder.add(Idle, "a", &["b"]);
     assert_eq!(rt; unknown, Err(AddError::NoSuchSystem { place: 0 }));
-    let taken = builder.add(Idle { alloc }, "a", &[]);
+    let taken = builder.add(Idle, "a", &[]);
     assert_eq!(rt; taken, Err(AddError::NameTaken));
-    let exhausted = builder.add(Idle { alloc }, "b", &["a"]);
+    let exhausted = builder.add(Idle, "b", &["a"]);
     assert_eq!(rt; exhausted, Err(AddError::IdsExhausted));
     Ok(())
 }

@@ -2,3 +2,4 @@ pub mod Fits
 pub mod PlainReads
 pub mod Worked
 pub mod KeptIds
+pub mod GivenBack

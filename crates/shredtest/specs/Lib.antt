@@ -2,3 +2,4 @@ pub mod Values
 pub mod Plain
 pub mod Slow
 pub mod Parted
+pub mod Chosen

@@ -2,15 +2,19 @@
 #![tactic(auto)]
 
 #[cfg(test)]
+mod accessor_tests;
+#[cfg(test)]
 mod both_ways;
 #[cfg(test)]
 mod builder_tests;
 #[cfg(test)]
 mod bundles;
+pub mod chosen;
 #[cfg(test)]
 mod dependency_tests;
 #[cfg(test)]
 mod gate;
+pub mod lent_calls;
 pub mod parted;
 pub mod parted_counts;
 #[cfg(test)]

@@ -1,0 +1,79 @@
+//! A bundle of a caller's own, with an accessor of his own: what it reads is chosen when the program runs.
+ghost use Rattle.std.specs.Prelude.{[], ◌∷◌, true, false, cond};
+ghost use Rattle.shred_world.specs.Bundles.{NoSetup};
+ghost use Rattle.shred_world.specs.BundleParts.{moved_if_read};
+ghost use Rattle.shred_world.specs.Id.{id_of};
+ghost use Rattle.shredtest.specs.Chosen.{shown_chosen};
+ghost use Rattle.shredtest.specs.Values.{count_kind};
+ghost use Rattle.shredtest.specs.declared.values.Value.TheVariants.{Count as counted};
+
+use crate::values::{Count, Value};
+use shred::{
+    Accessor, DataError, DynamicSystemData, OutOfMemory, ReadExpect, ResourceId, View, World,
+    WorldError,
+};
+use std::alloc::Global;
+
+/// Whether the count is read.
+#[derive(Drop)]
+pub struct Choice {
+    pub reads_count: bool,
+}
+
+impl Accessor for Choice {
+    ghost reads = { λ choice. cond choice.reads_count (id_of count_kind 0 ∷ []) [] };
+
+    ghost writes = { λ choice. [] };
+
+    fn reads(&self, alloc: Global) -> Result<Vec<ResourceId>, OutOfMemory> {
+        if !self.reads_count {
+            return Ok(Vec::new(alloc));
+        }
+        match Vec::from_slice(alloc, &[ResourceId::new::<Value, Count>()]) {
+            Ok(ids) => Ok(ids),
+            Err(_) => Err(OutOfMemory),
+        }
+    }
+
+    fn writes(&self, alloc: Global) -> Result<Vec<ResourceId>, OutOfMemory> {
+        Ok(Vec::new(alloc))
+    }
+}
+
+/// The count, where it is chosen.
+pub struct Chosen<'s> {
+    pub count: Option<ReadExpect<'s, Count>>,
+}
+
+impl<'s> DynamicSystemData<'s, Value> for Chosen<'s> {
+    type Accessor = Choice;
+
+    ghost sets_up = { λ choice. NoSetup };
+
+    ghost parts = { λ choice. cond choice.reads_count (record { kind = count_kind; id = id_of count_kind 0; is_written = false; may_be_absent = false } ∷ []) [] };
+
+    ghost shows = { λ chosen. shown_chosen chosen.count };
+
+    ghost moved = { λ chosen. moved_if_read (λ count. counted count) (id_of count_kind 0) chosen.count };
+
+    fn setup(_choice: &Choice, _world: &mut World<Value>) -> Result<(), WorldError> {
+        Ok(())
+    }
+
+    fn fetch(choice: &Choice, view: &mut View<'s, '_, Value>) -> Result<Self, DataError> {
+        if !choice.reads_count {
+            return Ok(Chosen { count: None });
+        }
+        match view.system_data::<ReadExpect<Count>>() {
+            Ok(count) => Ok(Chosen { count: Some(count) }),
+            Err(error) => Err(error),
+        }
+    }
+
+    fn give_back(self, view: &mut View<'s, '_, Value>) {
+        let Chosen { count } = self;
+        if let Some(count) = count {
+            view.give_back(count);
+        }
+    }
+}

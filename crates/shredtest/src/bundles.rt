@@ -3,6 +3,7 @@ use crate::values::{Count, Flag, Name, Value};
 use shred::{
     DataError, Kind, Read, ReadExpect, ResourceId, SystemData, View, World, Write, WriteExpect,
 };
+use std::marker::PhantomData;
 use std::test::Fail;
 
 const X: Kind = Kind(0);
@@ -98,5 +99,71 @@ fn the_lists_of_a_tuple_are_those_of_its_parts(rt: HostRuntime) -> Result<(), Fa
     let writes = <Parts as SystemData<Value>>::writes(rt.alloc()).map_err(|_| "memory")?;
     assert_eq!(rt; reads.as_slice(), [id(X), id(X)].as_slice());
     assert_eq!(rt; writes.as_slice(), [id(Z)].as_slice());
+    Ok(())
+}
+
+#[test]
+fn what_is_declared_and_held_is_shown(rt: HostRuntime) -> Result<(), Fail> {
+    let mut world: World<Value> = World::empty(rt.alloc());
+    world.insert(Count(5)).map_err(|_| "memory")?;
+    let reads = [id(X)];
+    let writes = [id(Y)];
+    let mut view = world.lend(&reads, &writes);
+    let count = view.system_data::<Read<Count>>().map_err(|_| "refused")?;
+    assert_eq!(rt; *count, Count(5));
+    view.give_back(count);
+    let held = view
+        .system_data::<Option<Read<Count>>>()
+        .map_err(|_| "refused")?;
+    assert_eq!(rt; held.as_ref().map(|count| count.0), Some(5));
+    view.give_back(held);
+    let absent = view
+        .system_data::<Option<WriteExpect<Name>>>()
+        .map_err(|_| "refused")?;
+    assert!(rt; absent.is_none());
+    view.give_back(absent);
+    let of_nothing = view
+        .system_data::<((), PhantomData<Flag>)>()
+        .map_err(|_| "refused")?;
+    view.give_back(of_nothing);
+    assert_eq!(rt; view.read::<Count>(id(X)).copied(), Ok(Count(5)));
+    Ok(())
+}
+
+#[test]
+fn an_option_that_is_written_is_given_back(rt: HostRuntime) -> Result<(), Fail> {
+    let mut world: World<Value> = World::empty(rt.alloc());
+    world.insert(Name(2)).map_err(|_| "memory")?;
+    let writes = [id(Y)];
+    let mut view = world.lend(&[], &writes);
+    match view.system_data::<Option<WriteExpect<Name>>>() {
+        Ok(Some(mut name)) => {
+            *name = Name(7);
+            assert_eq!(rt;
+                refusal::<Option<ReadExpect<Name>>>(&mut view),
+                Some(DataError::Taken(id(Y)))
+            );
+            view.give_back(Some(name));
+        }
+        _ => return Err("refused")?,
+    }
+    assert_eq!(rt; view.read::<Name>(id(Y)).copied(), Ok(Name(7)));
+    Ok(())
+}
+
+#[test]
+fn a_fetch_is_a_read_that_is_lent(rt: HostRuntime) -> Result<(), Fail> {
+    let mut fetched: World<Value> = World::empty(rt.alloc());
+    fetched.insert(Count(5)).map_err(|_| "memory")?;
+    let mut world: World<Value> = World::empty(rt.alloc());
+    world.insert(Count(1)).map_err(|_| "memory")?;
+    let fetch = fetched.fetch::<Count>().map_err(|_| "missing")?;
+    let clone = fetch.clone().map_err(|_| "memory")?;
+    let read: Read<Count> = Read::from(clone);
+    assert_eq!(rt; *read, *fetch);
+    assert_eq!(rt; *read, Count(5));
+    let mut view = world.lend(&[], &[]);
+    view.give_back(read);
+    assert_eq!(rt; world.fetch::<Count>().map(|count| count.0), Ok(1));
     Ok(())
 }

@@ -13,6 +13,8 @@ pub mod chosen;
 #[cfg(test)]
 mod dependency_tests;
 #[cfg(test)]
+mod exec_tests;
+#[cfg(test)]
 mod gate;
 pub mod lent_calls;
 pub mod parted;
@@ -25,6 +27,8 @@ mod planner_tests;
 #[cfg(test)]
 mod script;
 pub mod slow_placement;
+#[cfg(test)]
+mod tuples;
 pub mod values;
 #[cfg(test)]
 mod world;

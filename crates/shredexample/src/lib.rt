@@ -1,6 +1,9 @@
 //! A count that one system sets.
 #![tactic(auto)]
 
+pub mod counting;
+pub mod limits;
+
 ghost use Rattle.std.specs.Prelude.{◌≡◌, [], ◌∷◌, Some, IfOk, pos};
 ghost use Rattle.shred_world.specs.Id.{id_of};
 ghost use Rattle.shred.specs.declared.system.RunningTime.TheVariants.{Average};

@@ -17,6 +17,8 @@ mod exec_tests;
 #[cfg(test)]
 mod gate;
 pub mod lent_calls;
+#[cfg(test)]
+mod own_bundle;
 pub mod parted;
 pub mod parted_counts;
 #[cfg(test)]

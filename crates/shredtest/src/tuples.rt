@@ -141,52 +141,63 @@ fn the_first_part_that_fails_is_told(rt: HostRuntime) -> Result<(), Fail> {
     Ok(())
 }
 
-// Sets the count and the name, and gives those that stood there.
-fn exchange(count: &mut Count, name: &mut Name, new: u8) -> (i64, u8) {
-    let old = (count.0, name.0);
-    *count = Count(i64::from(new));
-    *name = Name(new);
-    old
+type C = Write<Count>;
+
+type N = WriteExpect<Name>;
+
+type F<'s> = Read<'s, Flag>;
+
+/// A count, a name and a flag.
+type Found = Option<(i64, u8, bool)>;
+
+fn found_in_four<'s>(view: &mut View<'s, '_, Value>) -> Found {
+    let bundle = view.system_data::<(C, (), F<'s>, N)>().ok()?;
+    let found = (bundle.0.0, bundle.3.0, bundle.2.0);
+    view.give_back(bundle);
+    Some(found)
+}
+
+fn found_in_five<'s>(view: &mut View<'s, '_, Value>) -> Found {
+    let bundle = view.system_data::<((), N, F<'s>, (), C)>().ok()?;
+    let found = (bundle.4.0, bundle.1.0, bundle.2.0);
+    view.give_back(bundle);
+    Some(found)
+}
+
+fn found_in_six<'s>(view: &mut View<'s, '_, Value>) -> Found {
+    let bundle = view.system_data::<(F<'s>, (), N, (), (), C)>().ok()?;
+    let found = (bundle.5.0, bundle.2.0, bundle.0.0);
+    view.give_back(bundle);
+    Some(found)
+}
+
+fn found_in_seven<'s>(view: &mut View<'s, '_, Value>) -> Found {
+    let bundle = view.system_data::<((), C, (), (), N, (), F<'s>)>().ok()?;
+    let found = (bundle.1.0, bundle.4.0, bundle.6.0);
+    view.give_back(bundle);
+    Some(found)
+}
+
+fn found_in_eight<'s>(view: &mut View<'s, '_, Value>) -> Found {
+    let bundle = view
+        .system_data::<(N, (), (), F<'s>, (), (), (), C)>()
+        .ok()?;
+    let found = (bundle.7.0, bundle.0.0, bundle.3.0);
+    view.give_back(bundle);
+    Some(found)
 }
 
 #[test]
-fn every_part_is_lent_and_given_back(rt: HostRuntime) -> Result<(), Fail> {
-    type C = Write<Count>;
-    type N = WriteExpect<Name>;
-    type F<'s> = Read<'s, Flag>;
+fn every_part_shows_what_is_held(rt: HostRuntime) -> Result<(), Fail> {
     let mut world = full_world(&rt)?;
-    let one = world.exec::<(N,), _, _>(|(name,)| name.0);
-    assert_eq!(rt; one, Ok(2));
-    let four = world.exec::<(C, (), F, N), _, _>(|(count, _, flag, name)| {
-        (flag.0, exchange(count, name, 4))
-    });
-    assert_eq!(rt; four, Ok((true, (1, 2))));
-    let five = world.exec::<((), N, F, (), C), _, _>(|(_, name, flag, _, count)| {
-        (flag.0, exchange(count, name, 5))
-    });
-    assert_eq!(rt; five, Ok((true, (4, 4))));
-    let six = world.exec::<(F, (), N, (), C, ()), _, _>(|(flag, _, name, _, count, _)| {
-        (flag.0, exchange(count, name, 6))
-    });
-    assert_eq!(rt; six, Ok((true, (5, 5))));
-    let seven = world.exec::<((), C, (), (), N, (), F), _, _>(|(_, count, _, _, name, _, flag)| (
-        flag.0,
-        exchange(count, name, 7),
-    ));
-    assert_eq!(rt; seven, Ok((true, (6, 6))));
-    let eight = world.exec::<(N, (), (), F, (), (), (), C), _, _>(|(
-        name,
-        _,
-        _,
-        flag,
-        _,
-        _,
-        _,
-        count,
-    )| (flag.0, exchange(count, name, 8)));
-    assert_eq!(rt; eight, Ok((true, (7, 7))));
-    assert_eq!(rt; world.fetch::<Count>().map(|count| count.0), Ok(8));
-    assert_eq!(rt; world.fetch::<Name>().map(|name| name.0), Ok(8));
-    assert_eq!(rt; world.fetch::<Flag>().map(|flag| flag.0), Ok(true));
+    let reads = [id(2)];
+    let writes = [id(0), id(1)];
+    let mut view = world.lend(&reads, &writes);
+    assert_eq!(rt; found_in_four(&mut view), Some((1, 2, true)));
+    assert_eq!(rt; found_in_five(&mut view), Some((1, 2, true)));
+    assert_eq!(rt; found_in_six(&mut view), Some((1, 2, true)));
+    assert_eq!(rt; found_in_seven(&mut view), Some((1, 2, true)));
+    assert_eq!(rt; found_in_eight(&mut view), Some((1, 2, true)));
+    assert_eq!(rt; view.read::<Name>(id(1)).copied(), Ok(Name(2)));
     Ok(())
 }

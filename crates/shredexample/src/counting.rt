@@ -1,0 +1,108 @@
+//! A bundle of a caller's own: a count, how far it may go, and what it was when it was taken.
+ghost use Rattle.std.specs.Prelude.{◌≡◌, [], ◌∷◌, Some, IfOk, true, false, not};
+ghost use Rattle.std.specs.Ordering.{int_eq};
+ghost use Rattle.shred_world.specs.BundleParts.{written_value, read_value, moved_to_read};
+ghost use Rattle.shred_world.specs.Id.{id_of};
+ghost use Rattle.shred_world.specs.Worlds.{world_held};
+ghost use Rattle.shredexample.specs.Limits.{StartsAtZero, counted_up, kind_of, count_kind, limit_kind};
+ghost use Rattle.shredexample.specs.declared.limits.Value.TheVariants.{Counted, Limited};
+
+use crate::limits::{Count, Limit, Value};
+use shred::{
+    DataError, OutOfMemory, ReadExpect, ResourceId, SystemData, View, World, WorldError,
+    WriteExpect,
+};
+use std::alloc::Global;
+
+/// A count, how far it may go, and what it was when it was taken.
+pub struct Counting<'s> {
+    count: WriteExpect<Count>,
+    limit: ReadExpect<'s, Limit>,
+    taken: Count,
+}
+
+impl<'s> Counting<'s> {
+    /// Counts one more, unless the limit is reached.
+    pub fn count_one(&mut self)
+        ensures counted { written_value self.new.count ≡ counted_up (written_value self.old.count) (read_value self.old.limit) }
+        ensures limit { self.new.limit ≡ self.old.limit }
+        ensures taken { self.new.taken ≡ self.old.taken }
+    {
+        if self.count.0 < self.limit.0 {
+            self.count.0 += 1;
+        }
+    }
+
+    /// Whether the count is another than when it was taken.
+    pub fn has_counted(&self) -> bool
+        ensures { result ≡ not (int_eq (written_value self.now.count).0 self.now.taken.0) }
+    {
+        self.count.0 != self.taken.0
+    }
+}
+
+impl<'s> SystemData<'s, Value> for Counting<'s> {
+    ghost read_ids = { id_of limit_kind 0 ∷ [] };
+
+    ghost written_ids = { id_of count_kind 0 ∷ [] };
+
+    ghost sets_up = { StartsAtZero };
+
+    ghost parts = { record { kind = count_kind; id = id_of count_kind 0; is_written = true; may_be_absent = false } ∷ record { kind = limit_kind; id = id_of limit_kind 0; is_written = false; may_be_absent = false } ∷ [] };
+
+    ghost shows = { λ bundle. Some (Counted (written_value bundle.count)) ∷ Some (Limited (read_value bundle.limit)) ∷ [] };
+
+    ghost moved = { λ bundle. (id_of count_kind 0, Counted (written_value bundle.count)) ∷ moved_to_read (λ limit. Limited limit) (id_of limit_kind 0) bundle.limit };
+
+    fn setup(world: &mut World<Value>) -> Result<(), WorldError>
+        ensures { StartsAtZero (world_held kind_of world.old) result (world_held kind_of world.new) }
+    {
+        match world.entry().or_insert(Count(0)) {
+            Ok(_) => Ok(()),
+            Err(error) => Err(error),
+        }
+    }
+
+    fn fetch(view: &mut View<'s, '_, Value>) -> Result<Self, DataError> {
+        match view.system_data::<(WriteExpect<Count>, ReadExpect<'s, Limit>)>() {
+            Ok((count, limit)) => {
+                let taken = *count;
+                Ok(Counting {
+                    count,
+                    limit,
+                    taken,
+                })
+            }
+            Err(error) => Err(error),
+        }
+    }
+
+    fn give_back(self, view: &mut View<'s, '_, Value>) {
+        let Counting {
+            count,
+            limit,
+            taken: _,
+        } = self;
+        view.give_back((count, limit));
+    }
+
+    fn reads(alloc: Global) -> Result<Vec<ResourceId>, OutOfMemory>
+        ensures { IfOk result (λ ids. ids.items ≡ id_of limit_kind 0 ∷ []) }
+    {
+        <ReadExpect<'s, Limit> as SystemData<'s, Value>>::reads(alloc)
+    }
+
+    fn writes(alloc: Global) -> Result<Vec<ResourceId>, OutOfMemory>
+        ensures { IfOk result (λ ids. ids.items ≡ id_of count_kind 0 ∷ []) }
+    {
+        <WriteExpect<Count> as SystemData<'s, Value>>::writes(alloc)
+    }
+}
+
+/// Counts one more in a world that holds a limit, and says whether the count has changed.
+pub fn count_one_in(world: &mut World<Value>) -> Result<bool, DataError> {
+    world.exec::<Counting, _, _>(|counting| {
+        counting.count_one();
+        counting.has_counted()
+    })
+}

@@ -54,16 +54,14 @@ fn a_setup_does_what_its_parts_do(rt: HostRuntime) -> Result<(), Fail> {
 #[test]
 fn what_one_call_writes_the_next_one_reads(rt: HostRuntime) -> Result<(), Fail> {
     let mut world: World<Value> = World::empty(rt.alloc());
-    let first = world.exec::<(Read<Count>, Read<Flag>), _, _>(|(count, flag)| (count.0, flag.0));
+    let first = world.exec::<(Read<Count>, Read<Flag>), _, _>(|both| (both.0.0, both.1.0));
     assert_eq!(rt; first, Ok((0, false)));
     let written = world.exec::<(Write<Flag>, Write<Count>), _, _>(|(flag, count)| {
         flag.0 = true;
         count.0 = 43;
     });
     assert_eq!(rt; written, Ok(()));
-    let second = world.exec::<(ReadExpect<Count>, Read<Flag>), _, _>(|(count, flag)| (
-        count.0, flag.0,
-    ));
+    let second = world.exec::<(ReadExpect<Count>, Read<Flag>), _, _>(|both| (both.0.0, both.1.0));
     assert_eq!(rt; second, Ok((43, true)));
     assert_eq!(rt; count_in(&world), Some(43));
     Ok(())

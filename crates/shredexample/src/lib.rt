@@ -4,7 +4,7 @@
 pub mod counting;
 pub mod limits;
 
-ghost use Rattle.std.specs.Prelude.{◌≡◌, [], ◌∷◌, Some, IfOk, pos};
+ghost use Rattle.std.specs.Prelude.{◌≡◌, [], ◌∷◌, Some, IfOk, IfSome, pos};
 ghost use Rattle.shred_world.specs.Id.{id_of};
 ghost use Rattle.shred.specs.declared.system.RunningTime.TheVariants.{Average};
 ghost use Rattle.shredexample.specs.declared.Value.TheVariants.{Count};
@@ -146,7 +146,9 @@ impl System<Value> for SetToSeven {
 }
 
 /// The count after one dispatch, which is 7; none where something was refused.
-pub fn count_after_dispatch(alloc: Global) -> Option<i64> {
+pub fn count_after_dispatch(alloc: Global) -> Option<i64>
+    ensures { IfSome result (λ count. count ≡ pos 7) }
+{
     let mut world: World<Value> = World::empty(alloc);
     world.insert_by_id(count_id(), Count(1)).ok()?;
 

@@ -1,9 +1,16 @@
 -- What the measured system does to its count.
-use Rattle.std.specs.Prelude.{◌≡◌, ℤ, pos, Option, Some}
+use Rattle.std.specs.Prelude.{◌≡◌, ℤ, pos, Option, Some, IfOk}
 use Rattle.std.specs.Int.{w64, int_wrapping_add}
+use Rattle.shred_world.specs.declared.world.data.DataError.{DataError}
+use Rattle.shred.specs.Steps.{Step}
 use Rattle.shredexample.specs.declared.Value.{Value}
-use Rattle.shredexample.specs.declared.Value.TheVariants.{Count as counted}
+use Rattle.shredmeasure.specs.declared.adder.AddOne.{AddOne}
+use Rattle.shredmeasure.specs.Counts.{count_id, count_of}
 
 -- a count was held before, and after it one more, which wraps past 64 bits with sign
 abbrev pub IsOneMore : Option Value → Option Value → Type 0
-IsOneMore before after = (number : ℤ) × (before ≡ Some (counted (record { 0 = number }))) × (after ≡ Some (counted (record { 0 = int_wrapping_add w64 number (pos 1) })))
+IsOneMore before after = (number : ℤ) × (before ≡ Some (count_of number)) × (after ≡ Some (count_of (int_wrapping_add w64 number (pos 1))))
+
+-- a step leaves the system as it was, and where it is Done, the count of its number is one more
+abbrev pub adds_one : Step Value AddOne DataError
+adds_one before seen outcome after left = (after ≡ before) × IfOk outcome (λ done. IsOneMore (seen (count_id before.number)) (left (count_id before.number)))

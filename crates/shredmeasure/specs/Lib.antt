@@ -1,1 +1,5 @@
+pub mod Counts
 pub mod Adds
+pub mod Adders
+pub mod Random
+pub mod Measured

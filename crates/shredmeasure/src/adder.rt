@@ -2,7 +2,7 @@
 ghost use Rattle.std.specs.Prelude.{◌≡◌, [], ◌∷◌, Ok, IfOk};
 ghost use Rattle.shred_world.specs.Id.{id_of};
 ghost use Rattle.shred.specs.declared.system.RunningTime.TheVariants.{Average};
-ghost use Rattle.shredmeasure.specs.Adds.{IsOneMore};
+ghost use Rattle.shredmeasure.specs.Adds.{adds_one};
 
 use shred::{
     Accessor, DataError, Fault, Kind, OutOfMemory, ResourceId, RunningTime, System, View, World,
@@ -64,7 +64,7 @@ impl System<Value> for AddOne {
     ghost time = { λ system. Average };
 
     // A run that is Done adds 1 to the count of its number, within 64 bits with sign.
-    ghost step = { λ before seen outcome after left. (after ≡ before) × IfOk outcome (λ done. IsOneMore (seen (id_of (record { 0 = 0 }) before.number)) (left (id_of (record { 0 = 0 }) before.number))) };
+    ghost step = { adds_one };
 
     ghost sets_up = { λ before seen outcome after left. (after ≡ before) × (outcome ≡ Ok tt) × (left ≡ seen) };
 

@@ -5,14 +5,29 @@
 //! accesses of one to six ids over 300 resources, and the number of stages of all plans is printed.
 #![tactic(auto)]
 
+ghost use Rattle.std.specs.Prelude.{◌≡◌, ℕ, ◌*◌, length, IfOk, pos};
+ghost use Rattle.std.specs.Int.{w64, int_wrap};
+ghost use Rattle.shred_model.specs.OneThread.{LeavesAsOneThread};
+ghost use Rattle.shred_model.specs.Plan.{Plan};
+ghost use Rattle.shred_model.specs.States.{setting_of};
+ghost use Rattle.shred_world.specs.declared.id.ResourceId.{ResourceId};
+ghost use Rattle.shred_world.specs.Worlds.{world_held};
+ghost use Rattle.shred.specs.Dispatchers.{dispatcher_plan, dispatcher_states};
+ghost use Rattle.shred.specs.Plans.{PlanRun};
+ghost use Rattle.shredmeasure.specs.Adders.{HasOneForEach};
+ghost use Rattle.shredmeasure.specs.Adds.{adds_one};
+ghost use Rattle.shredmeasure.specs.Counts.{count_id as id_of, kind_of, number_of, sum_to, zeros_to};
+ghost use Rattle.shredmeasure.specs.Measured.{IsMeasured};
+ghost use Rattle.shredmeasure.specs.Random.{AreDrawn, AreDrawnOften};
+
 mod adder;
 mod order;
 mod random;
 
 use adder::{AddOne, count_id};
-use order::{Mode, Order};
+use order::{Mode, Order, Place};
 use random::Planned;
-use shred::{Dispatcher, StagesBuilder, SystemId, World, new_dispatcher};
+use shred::{DataError, DispatchError, Dispatcher, StagesBuilder, SystemId, World, new_dispatcher};
 use shredexample::{Count, Value};
 use std::alloc::Global;
 use std::io::{Read, Write};
@@ -24,17 +39,25 @@ use std::thread::Threads;
 struct Stopped;
 
 /// The shared count, and one for each system.
-fn world_of(alloc: Global, systems: u64) -> Result<World<Value>, Stopped> {
+fn world_of(alloc: Global, systems: u64) -> Result<World<Value>, Stopped>
+    ensures { IfOk result (λ world. (id : ResourceId) → world_held kind_of world id ≡ zeros_to systems id) }
+{
     let mut world = World::empty(alloc);
-    for number in 0..=systems {
-        if world.insert_by_id(count_id(number), Count(0)).is_err() {
+    if world.insert_by_id(count_id(0), Count(0)).is_err() {
+        return Err(Stopped);
+    }
+    for number in 0..systems {
+        if world.insert_by_id(count_id(number + 1), Count(0)).is_err() {
             return Err(Stopped);
         }
     }
     Ok(world)
 }
 
-fn dispatcher_of(alloc: Global, systems: u64) -> Result<Dispatcher<Value, AddOne>, Stopped> {
+/// A system for each number from 1 to this one.
+fn dispatcher_of(alloc: Global, systems: u64) -> Result<Dispatcher<Value, AddOne>, Stopped>
+    ensures { IfOk result (λ dispatcher. HasOneForEach systems (dispatcher_plan dispatcher)) }
+{
     let mut builder = StagesBuilder::new(alloc);
     for number in 0..systems {
         let system = AddOne { number: number + 1 };
@@ -50,30 +73,44 @@ fn dispatcher_of(alloc: Global, systems: u64) -> Result<Dispatcher<Value, AddOne
 
 fn dispatch<R: Threads + Sync>(
     rt: &R,
-    mode: Mode,
+    place: Place,
     dispatcher: &mut Dispatcher<Value, AddOne>,
     world: &mut World<Value>,
-) -> Result<(), Stopped> {
-    let done = match mode {
-        Mode::OnCaller => dispatcher.dispatch_seq(world).is_ok(),
-        Mode::OnThreads => dispatcher.dispatch_par(rt, world).is_ok(),
-        Mode::Planning => true,
-    };
-    if done { Ok(()) } else { Err(Stopped) }
+) -> Result<(), DispatchError<DataError>>
+    ensures ran { LeavesAsOneThread (λ list. PlanRun kind_of adds_one (dispatcher_plan dispatcher.old) list result) (setting_of (dispatcher_states dispatcher.old) (world_held kind_of world.old)) (setting_of (dispatcher_states dispatcher.new) (world_held kind_of world.new)) }
+    ensures plan { dispatcher_plan dispatcher.new ≡ dispatcher_plan dispatcher.old }
+{
+    match place {
+        Place::OnCaller => dispatcher.dispatch_seq(world),
+        Place::OnThreads => dispatcher.dispatch_par(rt, world),
+    }
 }
 
-fn sum_of(world: &World<Value>, systems: u64) -> i64 {
+// The count of this number, 0 where none is held.
+fn count_at(world: &World<Value>, number: u64) -> i64
+    ensures { result ≡ number_of (world_held kind_of world.now (id_of number)) }
+{
+    match world.try_fetch_by_id::<Count>(count_id(number)) {
+        Ok(Some(count)) => count.0,
+        _ => 0,
+    }
+}
+
+/// The sum of the systems' own counts, which wraps past 64 bits with sign.
+fn sum_of(world: &World<Value>, systems: u64) -> i64
+    ensures { result ≡ int_wrap w64 (sum_to (world_held kind_of world.now) systems) }
+{
     let mut sum: i64 = 0;
-    for number in 1..=systems {
-        if let Ok(Some(count)) = world.try_fetch_by_id::<Count>(count_id(number)) {
-            sum = sum.wrapping_add(count.0);
-        }
+    for number in 0..systems {
+        sum = sum.wrapping_add(count_at(world, number + 1));
     }
     sum
 }
 
-// The number of stages of a plan of random systems.
-fn planned(alloc: Global, systems: u64, seed: &mut u64) -> Result<i64, Stopped> {
+/// The number of stages of a plan of random systems.
+fn planned(alloc: Global, systems: u64, seed: &mut u64) -> Result<usize, Stopped>
+    ensures { IfOk result (λ stages. (plan : Plan ResourceId) × AreDrawn systems seed.old plan seed.new × (stages ≡ length plan)) }
+{
     let mut builder = StagesBuilder::new(alloc);
     for number in 0..systems {
         let Ok(system) = Planned::random(alloc, seed) else {
@@ -86,28 +123,51 @@ fn planned(alloc: Global, systems: u64, seed: &mut u64) -> Result<i64, Stopped> 
             return Err(Stopped);
         }
     }
-    Ok(i64::try_from(builder.build().len()).unwrap_or(i64::MAX))
+    Ok(builder.build().len())
 }
 
-fn planned_often(alloc: Global, order: Order) -> Result<i64, Stopped> {
-    let mut seed = order.systems;
-    let mut stages: i64 = 0;
-    for _ in 0..order.times {
-        stages = stages.wrapping_add(planned(alloc, order.systems, &mut seed)?);
+/// The number of stages of so many such plans, within 64 bits.
+fn planned_often(alloc: Global, systems: u64, times: u64) -> Result<u64, Stopped>
+    ensures { IfOk result (λ stages. (left : ℕ) × AreDrawnOften systems times systems stages left) }
+{
+    let mut seed = systems;
+    let mut stages: u64 = 0;
+    for _ in 0..times {
+        stages = stages.wrapping_add(planned(alloc, systems, &mut seed)? as u64);
     }
     Ok(stages)
 }
 
-fn measured<R: Threads + Sync>(rt: &R, alloc: Global, order: Order) -> Result<i64, Stopped> {
-    if matches!(order.mode, Mode::Planning) {
-        return planned_often(alloc, order);
+/// The sum of the counts after so many dispatches of so many systems.
+fn dispatched_often<R: Threads + Sync>(
+    rt: &R,
+    alloc: Global,
+    place: Place,
+    systems: u64,
+    times: u64,
+) -> Result<i64, Stopped>
+    ensures { IfOk result (λ sum. sum ≡ int_wrap w64 (pos (systems * times))) }
+{
+    let mut world = world_of(alloc, systems)?;
+    let mut dispatcher = dispatcher_of(alloc, systems)?;
+    for _ in 0..times {
+        if dispatch(rt, place, &mut dispatcher, &mut world).is_err() {
+            return Err(Stopped);
+        }
     }
-    let mut world = world_of(alloc, order.systems)?;
-    let mut dispatcher = dispatcher_of(alloc, order.systems)?;
-    for _ in 0..order.times {
-        dispatch(rt, order.mode, &mut dispatcher, &mut world)?;
+    Ok(sum_of(&world, systems))
+}
+
+fn measured<R: Threads + Sync>(rt: &R, alloc: Global, order: Order) -> Result<i64, Stopped>
+    ensures { IfOk result (λ sum. IsMeasured order.mode order.systems order.times sum) }
+{
+    match order.mode {
+        Mode::Dispatching(place) => dispatched_often(rt, alloc, place, order.systems, order.times),
+        Mode::Planning => match planned_often(alloc, order.systems, order.times) {
+            Ok(stages) => Ok(i64::try_from(stages).unwrap_or(i64::MAX)),
+            Err(stopped) => Err(stopped),
+        },
     }
-    Ok(sum_of(&world, order.systems))
 }
 
 fn main(rt: HostRuntime) -> ExitCode {

@@ -1,11 +1,17 @@
 //! What is asked of the program.
 ghost use Rattle.std.specs.Prelude.{◌≤◌, IfSome};
 
+/// Where the groups of a stage run.
+#[derive(Clone, Copy)]
+pub(crate) enum Place {
+    OnCaller,
+    OnThreads,
+}
+
 /// What is done with the systems: they are dispatched, or a plan of random ones is built.
 #[derive(Clone, Copy)]
 pub(crate) enum Mode {
-    OnCaller,
-    OnThreads,
+    Dispatching(Place),
     Planning,
 }
 
@@ -27,8 +33,8 @@ impl Order {
     {
         let mut words = str::from_utf8(line).ok()?.split_ascii_whitespace();
         let mode = match words.next()? {
-            "seq" => Mode::OnCaller,
-            "par" => Mode::OnThreads,
+            "seq" => Mode::Dispatching(Place::OnCaller),
+            "par" => Mode::Dispatching(Place::OnThreads),
             "plan" => Mode::Planning,
             _ => return None,
         };

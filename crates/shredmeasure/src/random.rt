@@ -1,6 +1,7 @@
 //! Systems of random accesses, which are only planned.
 ghost use Rattle.std.specs.Prelude.{◌≡◌, IfOk};
 ghost use Rattle.shred.specs.declared.system.RunningTime.TheVariants.{Average};
+ghost use Rattle.shredmeasure.specs.Random.{ids_drawn, next_seed, reads_drawn, seed_left, writes_drawn};
 
 use crate::adder::count_id;
 use shred::{
@@ -49,32 +50,38 @@ pub(crate) struct Planned {
 }
 
 // The next of a row of numbers that look random.
-fn next(seed: u64) -> u64 {
+fn next(seed: u64) -> u64
+    ensures { result ≡ next_seed seed }
+{
     seed.wrapping_mul(6364136223846793005)
         .wrapping_add(1442695040888963407)
 }
 
 impl Planned {
     /// A system of one to six ids, of which it writes about every third.
-    pub(crate) fn random(alloc: Global, seed: &mut u64) -> Result<Planned, OutOfMemory> {
-        let mut lists = Lists {
-            reads: Vec::new(alloc),
-            writes: Vec::new(alloc),
-        };
+    pub(crate) fn random(alloc: Global, seed: &mut u64) -> Result<Planned, OutOfMemory>
+        ensures reads { IfOk result (λ system. system.lists.reads.items ≡ reads_drawn (ids_drawn (next_seed seed.old)) (next_seed seed.old)) }
+        ensures writes { IfOk result (λ system. system.lists.writes.items ≡ writes_drawn (ids_drawn (next_seed seed.old)) (next_seed seed.old)) }
+        ensures seed { IfOk result (λ system. seed.new ≡ seed_left (next_seed seed.old)) }
+    {
+        let mut reads = Vec::new(alloc);
+        let mut writes = Vec::new(alloc);
         *seed = next(*seed);
-        for _ in 0..=(*seed >> 33) % 6 {
+        for _ in 0..(*seed >> 33) % 6 + 1 {
             *seed = next(*seed);
             let id = count_id((*seed >> 33) % RESOURCES);
-            let list = if (*seed >> 50) % 3 == 0 {
-                &mut lists.writes
+            let pushed = if (*seed >> 50) % 3 == 0 {
+                writes.push(id).is_ok()
             } else {
-                &mut lists.reads
+                reads.push(id).is_ok()
             };
-            if list.push(id).is_err() {
+            if !pushed {
                 return Err(OutOfMemory);
             }
         }
-        Ok(Planned { lists })
+        Ok(Planned {
+            lists: Lists { reads, writes },
+        })
     }
 }
 

@@ -1,0 +1,120 @@
+-- A dispatch of systems that each add 1 to a count of their own.
+use Rattle.std.proofs.Common.{◌≡◌, ◌≢◌, ℕ, zero, suc, ◌+◌, ◌<◌, ◌≤◌, ◌&&◌, ◌==◌, Bool, false, cond, nat_lt, nat_le, ℤ, pos, List, [], ◌∷◌, ◌++◌, Some, Result, Ok, Err, inl, inr, refl, sym, ap, subst, ◌∙◌, arith}
+use Rattle.std.specs.Int.{w64, int_wrapping_add}
+use Rattle.std.specs.Prelude.{is_err, OnOk}
+use Rattle.std.specs.List.{AllZip, Contains}
+use Rattle.std.proofs.lemmas.Bool.Decides.{nat_tests}
+use Rattle.shred_model.specs.Access.{Declares}
+use Rattle.shred_model.specs.OneThread.{LeavesAsOneThread}
+use Rattle.shred_model.specs.Plan.{Entry, Plan}
+use Rattle.shred_model.specs.Record.{Agent}
+use Rattle.shred_model.specs.Replay.{Setting}
+use Rattle.shred_model.proofs.Membership.{is_contained, is_declared}
+use Rattle.shred_world.specs.declared.id.ResourceId.{ResourceId}
+use Rattle.shred_world.specs.declared.world.data.DataError.{DataError}
+use Rattle.shred_world.proofs.Ids.{tell_ids}
+use Rattle.shred.specs.Placement.{IsPlaced}
+use Rattle.shred.specs.Plans.{PlanRun}
+use Rattle.shred.specs.Steps.{Outcome, Written}
+use Rattle.shredexample.specs.declared.Value.{Value}
+use Rattle.shredexample.specs.declared.Value.TheVariants.{Count as counted}
+use Rattle.shredexample.specs.Entries.{plan_entries}
+use Rattle.shredexample.proofs.Done.{IsDoneStep, plan_done}
+use Rattle.shredmeasure.specs.declared.adder.AddOne.{AddOne}
+use Rattle.shredmeasure.specs.Adders.{HasOneForEach, occurrences}
+use Rattle.shredmeasure.specs.Adds.{adds_one, IsOneMore}
+use Rattle.shredmeasure.specs.Counts.{kind_of, count_id, count_of, number_of}
+use Rattle.shredmeasure.proofs.Counted.{counted as stepped, steps_on}
+use Rattle.shredmeasure.proofs.Inserted.{placed_one}
+use Rattle.shredmeasure.proofs.Wraps.{other_number}
+
+swap_sum : (a b c d : ℕ) → d ≡ b + c → a + d ≡ b + (a + c)
+swap_sum a b c d e = omega arith
+
+module _ {X : Type 0} (R : ℕ → X → Type 0) (m : ℕ) (x : X) (fits : R m x) where
+  zip_more : (ns : List ℕ) (before after : List X) → AllZip R ns (before ++ after) → (ms : List ℕ) × AllZip R ms (before ++ x ∷ after) × ((k : ℕ) → occurrences k ms ≡ cond (m == k) 1 0 + occurrences k ns)
+  zip_more ns [] after zip = (m ∷ ns, (fits, zip), λ k. refl)
+  zip_more [] (y ∷ before) after zip = absurd zip
+  zip_more (n ∷ ns) (y ∷ before) after zip = let more = zip_more ns before after zip.1 in
+      (n ∷ more.0, (zip.0, more.1), λ k. swap_sum (cond (n == k) 1 0) (cond (m == k) 1 0) (occurrences k ns) (occurrences k more.0) (more.2 k))
+
+next_once : (most k : ℕ) → cond (most + 1 == k) 1 0 + cond (nat_lt 0 k && nat_le k most) 1 0 ≡ cond (nat_lt 0 k && nat_le k (most + 1)) 1 0
+next_once most k = grind (arith, nat_tests)
+
+-- one more system was placed, with the next number
+pub one_for_next : (most : ℕ) (plan placed : Plan ResourceId) (barrier start : ℕ) (dependencies : List ℕ) (entry : Entry ResourceId) → HasOneForEach most plan → entry.access.writes ≡ count_id (most + 1) ∷ [] → IsPlaced plan barrier start dependencies entry placed → HasOneForEach (most + 1) placed
+one_for_next most plan placed barrier start dependencies entry have writes is_placed =
+    let Writes : ℕ → Entry ResourceId → Type 0 = λ number e. e.access.writes ≡ count_id number ∷ [] in
+    let one = placed_one plan placed barrier start dependencies entry is_placed in
+    let more = zip_more Writes (most + 1) entry writes have.numbers one.before one.after (subst (λ (es : List (Entry ResourceId)). AllZip Writes have.numbers es) one.old_is have.entries) in
+    record {
+      numbers = more.0;
+      entries = subst (λ (es : List (Entry ResourceId)). AllZip Writes more.0 es) (sym one.new_is) more.1;
+      once = λ k. more.2 k ∙ ap (λ n. cond (most + 1 == k) 1 0 + n) (have.once k) ∙ next_once most k;
+    }
+
+-- a Done step of a system that writes the count of this number alone
+record Made (number : ℕ) (r : Written Value AddOne DataError) : Type 0 where
+  pub entry : Entry ResourceId
+  pub writes : entry.access.writes ≡ count_id number ∷ []
+  pub step : IsDoneStep kind_of adds_one entry r
+
+all_made : (ns : List ℕ) (entries : List (Entry ResourceId)) (rs : List (Written Value AddOne DataError)) → AllZip (λ number entry. entry.access.writes ≡ count_id number ∷ []) ns entries → AllZip (IsDoneStep kind_of adds_one) entries rs → AllZip Made ns rs
+all_made [] [] [] writes made = tt
+all_made [] [] (r ∷ rs) writes made = absurd made
+all_made [] (e ∷ es) rs writes made = absurd writes
+all_made (n ∷ ns) [] rs writes made = absurd writes
+all_made (n ∷ ns) (e ∷ es) [] writes made = absurd made
+all_made (n ∷ ns) (e ∷ es) (r ∷ rs) writes made = (record { entry = e; writes = writes.0; step = made.0 }, all_made ns es rs writes.1 made.1)
+
+-- one more in the count
+abbrev more : Value → Value
+more (counted count) = count_of (int_wrapping_add w64 count.0 (pos 1))
+
+only : (id q : ResourceId) → Contains (id ∷ []) q → id ≡ q
+only id q (zero, below, is) = is
+only id q (suc k, below, is) = absurd (omega arith)
+
+-- a written id is that of the number
+written : (number : ℕ) (r : Written Value AddOne DataError) (id : ResourceId) → Made number r → Contains r.access.writes id → count_id number ≡ id
+written number r id made has = only (count_id number) id (subst (λ (ids : List ResourceId). Contains ids id) ((λ i. (made.step.is_step.declared i).writes) ∙ made.writes) has)
+
+-- where the step is Done, the system's own number is that of its count
+own_number : (number : ℕ) (r : Written Value AddOne DataError) (made : Made number r) → IsOneMore (r.seen (count_id r.before.number)) (r.left (count_id r.before.number)) → number ≡ r.before.number
+own_number number r made one = elim (is_contained tell_ids r.access.writes (count_id r.before.number)) [
+  | inl has ↦ ap (λ (id : ResourceId). id.dynamic_id) (written number r (count_id r.before.number) made has)
+  | inr out ↦ absurd (other_number one.0 (ap number_of (sym one.2 ∙ made.step.is_step.frame (count_id r.before.number) out ∙ one.1)))
+]
+
+one_of : (number : ℕ) (r : Written Value AddOne DataError) → Made number r → IsOneMore (r.seen (count_id r.before.number)) (r.left (count_id r.before.number))
+one_of number r made = (subst (λ (outcome : Outcome DataError). adds_one r.before r.seen outcome r.after r.left) made.step.done made.step.is_step.lies).1
+
+hit : (k : ℕ) (r : Written Value AddOne DataError) → Made k r → Declares r.access (count_id k) × ((v : Value) → r.seen (count_id k) ≡ Some v → r.left (count_id k) ≡ Some (more v))
+hit k r made =
+    let one = one_of k r made in
+    let own : k ≡ r.before.number = own_number k r made one in
+    let there : IsOneMore (r.seen (count_id k)) (r.left (count_id k)) = subst (λ (n : ℕ). IsOneMore (r.seen (count_id n)) (r.left (count_id n))) (sym own) one in (
+      inr (subst (λ (ids : List ResourceId). Contains ids (count_id k)) (sym ((λ i. (made.step.is_step.declared i).writes) ∙ made.writes)) (0, omega arith, refl)),
+      λ v seen. there.2 ∙ (let same : count_of there.0 ≡ v = (let before = there.1 in cc) in ap (λ w. Some (more w)) same),
+    )
+
+miss : (k n : ℕ) (r : Written Value AddOne DataError) → n ≢ k → Made n r → Declares r.access (count_id k) → r.left (count_id k) ≡ r.seen (count_id k)
+miss k n r other made declared = made.step.is_step.frame (count_id k) (λ has. other (ap (λ (id : ResourceId). id.dynamic_id) (written n r (count_id k) made has)))
+
+-- where a dispatch is Done, each count from 1 to the number of systems is one more
+pub dispatched_one_more : (most : ℕ) (plan : Plan ResourceId) (x y : Setting Agent ResourceId Value AddOne) (k : ℕ) (number : ℤ) → HasOneForEach most plan → 0 < k → k ≤ most
+    → LeavesAsOneThread (λ list. PlanRun kind_of adds_one plan list (Ok tt)) x y → x.values (count_id k) ≡ Some (count_of number) → y.values (count_id k) ≡ Some (count_of (int_wrapping_add w64 number (pos 1)))
+dispatched_one_more most plan x y k number have above below ran here =
+    stepped Made more (count_id k) k (hit k) (miss k) (λ r. is_declared tell_ids r.access (count_id k)) have.numbers ran.list x y (count_of number)
+    (all_made have.numbers (plan_entries plan) ran.list have.entries (plan_done kind_of adds_one plan ran.list ran.run)) ran.replays here
+    ∙ (let once : occurrences k have.numbers ≡ 1 = have.once k ∙ grind (arith, nat_tests) in ap (λ m. Some (steps_on more m (count_of number))) once)
+
+-- what is said of an answer that is no error
+pub on_ok : {T E P : Type 0} {failed : Bool} (result : Result T E) → failed ≡ is_err result → failed ≡ false → OnOk result P → P
+on_ok (Ok value) is none h = h
+on_ok (Err error) is none h = absurd (cc)
+
+-- what holds at an answer that is no error, holds at Ok
+pub at_ok : {E : Type 0} {failed : Bool} (P : Result (Unit {0}) E → Type 0) (result : Result (Unit {0}) E) → failed ≡ is_err result → failed ≡ false → P result → P (Ok tt)
+at_ok P (Ok value) is none h = h
+at_ok P (Err error) is none h = absurd (cc)

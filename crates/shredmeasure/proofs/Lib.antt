@@ -1,0 +1,6 @@
+pub mod Counted
+pub mod Inserted
+pub mod Wraps
+pub mod Dispatched
+pub mod Worlds
+pub mod Drawn

@@ -1,0 +1,12 @@
+use Rattle.std.proofs.Common.{rules, ◌+◌, arith}
+use Rattle.std.proofs.lemmas.Int.{ints}
+use Rattle.shred_world.specs.Worlds.{world_held}
+use Rattle.shredmeasure.specs.Counts.{kind_of}
+use Rattle.shredmeasure.proofs.Worlds.{sum-bits-next}
+use Rattle.shredmeasure.proofs.sum_of.Goals as goal
+
+pub loop-number-preserved : goal.loop-number-preserved
+loop-number-preserved c = record {
+  within = omega arith;
+  sum = sum-bits-next (world_held kind_of c.args.world.now) c.loop-number.number (c.loop-number.number + 1) c.loop-number.sum-bits c.count_at-sum.result (λ i. c.loop-number.number + 1) c.loop-number.invariant.sum c.count_at-sum.ensures (record { sfits = c.count_at-sum.type_inv }) (search (rules, ints));
+}

@@ -1,0 +1,11 @@
+-- What is measured, by what was asked.
+use Rattle.std.specs.Prelude.{◌≡◌, ℕ, ◌*◌, ◌-◌, ◌^◌, min, ℤ, pos}
+use Rattle.std.specs.Int.{w64, int_wrap}
+use Rattle.shredmeasure.specs.declared.order.Mode.{Mode}
+use Rattle.shredmeasure.specs.declared.order.Mode.TheVariants.{Dispatching, Planning}
+use Rattle.shredmeasure.specs.Random.{AreDrawnOften}
+
+-- Each of so many dispatches adds 1 to the count of each system; or else it is the number of stages of so many random plans, at most the greatest number of 64 bits with sign.
+abbrev pub IsMeasured : Mode → ℕ → ℕ → ℤ → Type 0
+IsMeasured (Dispatching place) systems times sum = sum ≡ int_wrap w64 (pos (systems * times))
+IsMeasured Planning systems times sum = (stages : ℕ) × (left : ℕ) × AreDrawnOften systems times systems stages left × (sum ≡ pos (min stages (2 ^ 63 - 1)))

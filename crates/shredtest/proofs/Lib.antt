@@ -3,3 +3,4 @@ pub mod PlainReads
 pub mod Worked
 pub mod KeptIds
 pub mod GivenBack
+pub mod Turned

@@ -3,3 +3,4 @@ pub mod Plain
 pub mod Slow
 pub mod Parted
 pub mod Chosen
+pub mod Adding

@@ -1,11 +1,12 @@
 //! Counts that are added to over the parts of a view.
-ghost use Rattle.std.specs.Prelude.{◌≡◌, ◌||◌, IsTrue, false, is_some};
+ghost use Rattle.std.specs.Prelude.{◌≡◌, ◌+◌, ◌||◌, IsTrue, false, is_some, length, OnOk, OnErr};
 ghost use Rattle.std.specs.List.{All};
 ghost use Rattle.shred_world.specs.Parts.{DoNotConflict, reads_of, writes_of};
 ghost use Rattle.shred_world.specs.Slots.{among};
 ghost use Rattle.shred_world.specs.declared.id.ResourceId.{ResourceId};
 ghost use Rattle.shred_world.specs.Id.{same_id};
 ghost use Rattle.shred_world.specs.Views.{view_held, may_read, may_write, is_out, IsSameView};
+ghost use Rattle.shredtest.specs.Adding.{HasTurned, HasTurnedOften};
 ghost use Rattle.shredtest.specs.Values.{kind_of};
 
 use crate::parted::{Each, Work, work_apart, work_once};
@@ -40,7 +41,8 @@ fn add(view: &mut View<Value>, id: ResourceId, amount: i64) -> bool
 impl Work<Value> for Adding {
     ghost use Rattle.shred_world.specs.Views.{view_held, IsSameView};
 
-    ghost works = { λ before seen after left. Unit {0} };
+    // The next part has the next count.
+    ghost works = { λ before seen after left. HasTurned before after };
 
     fn run(&mut self, view: &mut View<Value>) {
         let amount = match view.read::<Count>(self.read) {
@@ -68,6 +70,9 @@ pub fn work_twice(
     requires reads_within { All (λ p. (id : ResourceId) → IsTrue (among (reads_of p) id) → IsTrue (may_read view.old id)) pairs.now }
     requires writes_within { All (λ p. (id : ResourceId) → IsTrue (among (writes_of p) id) → IsTrue (may_write view.old id)) pairs.now }
     requires apart { DoNotConflict pairs.now }
+    ensures same { IsSameView view.old view.new }
+    ensures turned { OnOk result (HasTurnedOften (length pairs.now + length pairs.now) work.old.work work.new.work) }
+    ensures not_begun { OnErr result (work.new ≡ work.old) }
 {
     let mut hands = match view.make_hands(alloc, pairs) {
         Ok(hands) => hands,
@@ -93,6 +98,8 @@ fn work_narrowed(
     requires reads_within { All (λ p. (id : ResourceId) → IsTrue (among (reads_of p) id) → IsTrue (among reads.now id || among writes.now id)) pairs.now }
     requires writes_within { All (λ p. (id : ResourceId) → IsTrue (among (writes_of p) id) → IsTrue (among writes.now id)) pairs.now }
     requires apart { DoNotConflict pairs.now }
+    ensures turned { OnOk result (HasTurnedOften (length pairs.now + length pairs.now) work.old.work work.new.work) }
+    ensures not_begun { OnErr result (work.new ≡ work.old) }
 {
     let mut narrowed = view.narrow(reads, writes);
     work_twice(alloc, &mut narrowed, pairs, work)
@@ -113,6 +120,8 @@ fn work_lent(
     requires reads_within { All (λ p. (id : ResourceId) → IsTrue (among (reads_of p) id) → IsTrue (among reads.now id || among writes.now id)) pairs.now }
     requires writes_within { All (λ p. (id : ResourceId) → IsTrue (among (writes_of p) id) → IsTrue (among writes.now id)) pairs.now }
     requires apart { DoNotConflict pairs.now }
+    ensures turned { OnOk result (HasTurnedOften (length pairs.now + length pairs.now) work.old.work work.new.work) }
+    ensures not_begun { OnErr result (work.new ≡ work.old) }
 {
     let mut view = world.lend(&[], all);
     work_narrowed(alloc, &mut view, reads, writes, pairs, work)
@@ -131,6 +140,8 @@ pub fn work_over_three(
     requires first { same_id read first ≡ false }
     requires second { same_id read second ≡ false }
     requires apart { same_id first second ≡ false }
+    ensures turned { OnOk result (HasTurnedOften 6 work.old.work work.new.work) }
+    ensures not_begun { OnErr result (work.new ≡ work.old) }
 {
     let reads = [read];
     let one = [first];
@@ -151,7 +162,9 @@ pub fn work_over_none(
     alloc: Global,
     world: &mut World<Value>,
     work: &mut Each<Adding>,
-) -> Result<(), OutOfMemory> {
+) -> Result<(), OutOfMemory>
+    ensures { work.new ≡ work.old }
+{
     let mut view = world.lend(&[], &[]);
     work_once(alloc, &mut view, &[], work)
 }

@@ -1,6 +1,9 @@
 pub mod Changed
 pub mod Declares
 pub mod FirstHeld
+pub mod Lines
 pub mod Reported
+pub mod Runs
 pub mod Shown
 pub mod Trimmed
+pub mod Written

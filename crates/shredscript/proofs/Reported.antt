@@ -1,18 +1,10 @@
 -- Lines of a report, one after another.
-use Rattle.std.proofs.Common.{◌≡◌, ℕ, ◌+◌, List, ◌∷◌, ◌++◌, map, Option, Some, None, sym, ◌∙◌, ap, append_assoc}
-use Rattle.std.specs.Io.KnownBytes.{Appends}
+use Rattle.std.proofs.Common.{◌≡◌, ℕ, ◌+◌, List, ◌∷◌, ◌++◌, map, sym, ◌∙◌, ap, append_assoc}
 use denote.Ref.{Bor}
 use Rattle.shred.specs.Steps.{Held}
 use Rattle.shredscript.specs.declared.value.Value.{Value}
 use Rattle.shredscript.specs.Place.{number_at}
 use Rattle.shredscript.specs.Report.{value_line, value_lines}
-
--- a writer that is added to twice is added both texts
-pub Appends-twice : (first second third : Option (List ℕ)) (text more : List ℕ) → Appends first second text → Appends second third more → Appends first third (text ++ more)
-Appends-twice None second third text more a b = tt
-Appends-twice (Some x) None third text more a b = absurd a
-Appends-twice (Some x) (Some y) None text more a b = absurd b
-Appends-twice (Some x) (Some y) (Some z) text more a b = b ∙ ap (λ bytes. bytes ++ more) a ∙ append_assoc x text more
 
 -- with the line of the next name, the lines so far and those of the names left are still all lines
 pub value_lines-more : (text all : List ℕ) (left rest : List (Bor (List ℕ))) (name : Bor (List ℕ)) (count place next : ℕ) (held : Held Value) → left ≡ name ∷ rest → place ≡ count → next ≡ count + 1

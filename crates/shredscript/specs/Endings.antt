@@ -1,13 +1,16 @@
 -- How a script's run ends: with the outcome of its dispatch, or with an error.
 use Rattle.std.specs.Prelude.{ℕ, Result, Ok, Err}
+use Rattle.shred.specs.declared.dispatch.add_error.AddError.{AddError}
+use Rattle.shred.specs.declared.dispatch.add_error.AddError.TheVariants as builder
 use Rattle.shred.specs.declared.dispatch.dispatcher.DispatchError.{DispatchError}
 use Rattle.shred.specs.declared.dispatch.dispatcher.DispatchError.TheVariants.{System as at_system, ThreadLocal, StageMemory as at_stage}
 use Rattle.shred.specs.declared.system.Fault.{Fault}
 use Rattle.shred.specs.declared.system.Fault.TheVariants.{Refused as refuses, OutOfMemory as wants_memory}
+use Rattle.shredscript.specs.declared.error.AddRefusal.TheVariants.{NoSuchSystem, NameTaken, IdsExhausted}
 use Rattle.shredscript.specs.declared.error.LineError.{LineError}
 use Rattle.shredscript.specs.declared.error.LineError.TheVariants.{Fault as has_fault, Memory}
 use Rattle.shredscript.specs.declared.error.ScriptError.{ScriptError}
-use Rattle.shredscript.specs.declared.error.ScriptError.TheVariants.{TooLong, InputFailed, Line, OutOfMemory, OutputFailed}
+use Rattle.shredscript.specs.declared.error.ScriptError.TheVariants.{TooLong, InputFailed, Line, Refused as refused_line, Unnamed, OutOfMemory, OutputFailed}
 use Rattle.shredscript.specs.declared.outcome.Failure.{Failure}
 use Rattle.shredscript.specs.declared.outcome.Failure.TheVariants.{Refused, OutOfMemory as NoMemory}
 use Rattle.shredscript.specs.declared.outcome.Outcome.{Outcome}
@@ -31,6 +34,13 @@ abbrev pub error_at : ℕ → LineError → ScriptError
 error_at line (has_fault fault) = Line line fault
 error_at line (Memory refused) = OutOfMemory
 
+-- what is told where the builder does not take the system of a line
+abbrev pub add_error : ℕ → AddError → ScriptError
+add_error line (builder.NoSuchSystem place) = refused_line line (NoSuchSystem place)
+add_error line builder.NameTaken = refused_line line NameTaken
+add_error line builder.IdsExhausted = refused_line line IdsExhausted
+add_error line builder.OutOfMemory = OutOfMemory
+
 -- the status of an outcome: 0 where nothing was refused, else 2
 abbrev pub outcome_status : Outcome → ℕ
 outcome_status Done = 0
@@ -38,12 +48,14 @@ outcome_status (System id failure) = 2
 outcome_status (Local index failure) = 2
 outcome_status (StageMemory stage) = 2
 
--- the status of an error: 2 where memory is refused, else 1
+-- the status of an error: 2 where a system is refused, has no name to be printed, or memory is refused, else 1
 abbrev pub error_status : ScriptError → ℕ
 error_status OutOfMemory = 2
 error_status TooLong = 1
 error_status InputFailed = 1
 error_status (Line line fault) = 1
+error_status (refused_line line refusal) = 2
+error_status (Unnamed id) = 2
 error_status OutputFailed = 1
 
 -- the status of how a script's run ends

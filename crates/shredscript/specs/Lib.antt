@@ -10,3 +10,6 @@ pub mod Texts
 pub mod Endings
 pub mod Input
 pub mod Report
+pub mod Lines
+pub mod PlanTexts
+pub mod Runs

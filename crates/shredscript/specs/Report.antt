@@ -1,15 +1,11 @@
 -- What standard output tells of a run.
-use Rattle.std.specs.Prelude.{◌≡◌, ℕ, ℤ, ◌+◌, ◌==◌, cond, Option, Some, None, List, [], ◌∷◌, ◌++◌, slice_get, map, Result, Ok, Err, OnOk}
-use Rattle.std.specs.Io.KnownBytes.{Keeps, Appends}
+use Rattle.std.specs.Prelude.{ℕ, ℤ, ◌+◌, ◌==◌, cond, Option, Some, None, List, [], ◌∷◌, ◌++◌, slice_get, map}
 use Rattle.std.specs.Option.{option_map}
 use Rattle.indexmap.specs.IndexMap.{IndexMap, keys}
 use denote.Ref.{Bor}
 use Rattle.shred.specs.Steps.{Held}
-use Rattle.shredscript.specs.declared.error.ScriptError.{ScriptError}
-use Rattle.shredscript.specs.declared.error.ScriptError.TheVariants.{TooLong, InputFailed, Line, OutOfMemory, OutputFailed}
 use Rattle.shredscript.specs.declared.outcome.Outcome.{Outcome}
 use Rattle.shredscript.specs.declared.value.Value.{Value}
-use Rattle.shredscript.specs.Endings.{status_of}
 use Rattle.shredscript.specs.Place.{number_at}
 use Rattle.shredscript.specs.Texts.{line_of, outcome_text, value_text}
 
@@ -34,23 +30,3 @@ value_lines place (name ∷ names) held = value_line name (number_at held place)
 -- a line for each resource, and one for how the run ended
 abbrev pub report : List (List ℕ) → Held Value → Outcome → List ℕ
 report names held outcome = value_lines 0 names held ++ line_of (outcome_text outcome)
-
--- the text is a report of resources of these names, of some values that are held under them
-abbrev pub IsReport : List (List ℕ) → Outcome → List ℕ → Type 0
-IsReport names outcome text = (held : Held Value) × (text ≡ report names held outcome)
-
--- What a writer holds after a run that ended so: of an outcome a report was added. Of an error nothing was written, unless it is the output that failed, of which nothing is said.
-abbrev pub IsReported : Result Outcome ScriptError → Option (List ℕ) → Option (List ℕ) → Type 0
-IsReported (Ok outcome) old new = (names : List (List ℕ)) × (text : List ℕ) × IsReport names outcome text × Appends old new text
-IsReported (Err OutputFailed) old new = Unit {0}
-IsReported (Err OutOfMemory) old new = Keeps old new
-IsReported (Err TooLong) old new = Keeps old new
-IsReported (Err InputFailed) old new = Keeps old new
-IsReported (Err (Line line fault)) old new = Keeps old new
-
--- A script's run ended somehow: the status says how, standard output was told of it, and standard error was told nothing of an outcome.
-pub record HasEnded (status : ℕ) (out out_after err err_after : Option (List ℕ)) : Type 0 where
-  pub ending : Result Outcome ScriptError
-  pub status_is : status ≡ status_of ending
-  pub reported : IsReported ending out out_after
-  pub quiet : OnOk ending (Keeps err err_after)

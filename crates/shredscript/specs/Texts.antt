@@ -1,10 +1,12 @@
 -- What is told of a run, in bytes.
 use Rattle.std.specs.Prelude.{ℕ, ℤ, List, [], ◌∷◌, ◌++◌, codes}
 use Rattle.std.specs.Fmt.{decimal, signed_decimal}
+use Rattle.shredscript.specs.declared.error.AddRefusal.{AddRefusal}
+use Rattle.shredscript.specs.declared.error.AddRefusal.TheVariants.{NoSuchSystem, NameTaken, IdsExhausted}
 use Rattle.shredscript.specs.declared.error.LineFault.{LineFault}
 use Rattle.shredscript.specs.declared.error.LineFault.TheVariants.{UnknownLine, BadWord, NoSuchResource, ResourceTwice}
 use Rattle.shredscript.specs.declared.error.ScriptError.{ScriptError}
-use Rattle.shredscript.specs.declared.error.ScriptError.TheVariants.{TooLong, InputFailed, Line, OutOfMemory as NoMemory, OutputFailed}
+use Rattle.shredscript.specs.declared.error.ScriptError.TheVariants.{TooLong, InputFailed, Line, Refused as refused_line, Unnamed, OutOfMemory as NoMemory, OutputFailed}
 use Rattle.shredscript.specs.declared.outcome.Failure.{Failure}
 use Rattle.shredscript.specs.declared.outcome.Failure.TheVariants.{Refused, OutOfMemory}
 use Rattle.shredscript.specs.declared.outcome.Outcome.{Outcome}
@@ -38,6 +40,10 @@ outcome_text (StageMemory stage) = codes "stage " ++ decimal stage ++ codes " ou
 abbrev pub value_text : List ℕ → ℤ → List ℕ
 value_text name value = name ++ codes "=" ++ signed_decimal value
 
+-- the greatest number of groups in a stage
+abbrev pub threads_text : ℕ → List ℕ
+threads_text threads = codes "threads " ++ decimal threads
+
 -- what is wrong with a line
 abbrev pub fault_text : LineFault → List ℕ
 fault_text UnknownLine = codes "unknown line"
@@ -45,10 +51,18 @@ fault_text BadWord = codes "bad word"
 fault_text NoSuchResource = codes "no such resource"
 fault_text ResourceTwice = codes "resource twice"
 
+-- why the system of a line is not added to the plan
+abbrev pub refused_add_text : AddRefusal → List ℕ
+refused_add_text (NoSuchSystem place) = codes "no such system at " ++ decimal place
+refused_add_text NameTaken = codes "name taken"
+refused_add_text IdsExhausted = codes "ids exhausted"
+
 -- why a script is not run to its outcome
 abbrev pub error_text : ScriptError → List ℕ
 error_text TooLong = codes "script too long"
 error_text InputFailed = codes "input failed"
 error_text (Line line fault) = codes "line " ++ decimal line ++ codes ": " ++ fault_text fault
+error_text (refused_line line refusal) = codes "line " ++ decimal line ++ codes ": " ++ refused_add_text refusal
+error_text (Unnamed id) = codes "unnamed system " ++ decimal id
 error_text NoMemory = codes "out of memory"
 error_text OutputFailed = codes "output failed"

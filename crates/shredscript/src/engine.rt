@@ -1,12 +1,13 @@
 //! From a script's bytes to its outcome's.
 ghost use Rattle.std.specs.Prelude.{OnOk};
 ghost use Rattle.std.specs.Io.KnownBytes.{Appends};
-ghost use Rattle.shredscript.specs.Report.{HasEnded, IsReported};
+ghost use Rattle.shredscript.specs.Runs.{HasEnded, IsReadFor, IsReported};
 ghost use Rattle.shredscript.specs.Texts.{error_text, line_of};
 
 use crate::error::ScriptError;
 use crate::input::read_text;
 use crate::outcome::Outcome;
+use crate::output::print;
 use crate::run_plan::run_plan;
 use crate::script::Script;
 use std::alloc::Global;
@@ -15,7 +16,8 @@ use std::io::{Read, Write};
 use std::thread::Threads;
 
 /// Reads a script, runs it and prints what it left to `out`, or why it is not run to `err`. Gives the exit status:
-/// 0 where all is well, 1 for a fault of the script, a failed read or a failed write to `out`, 2 for a refusal.
+/// 0 where all is well, 1 for a fault of the script, a failed read or a failed write to `out`, 2 for a refusal, of a line
+/// or in the run, and for want of memory.
 pub fn run<T: Threads + Sync, R: Read, O: Write, E: Write>(
     rt: &T,
     alloc: Global,
@@ -23,7 +25,7 @@ pub fn run<T: Threads + Sync, R: Read, O: Write, E: Write>(
     out: &mut O,
     err: &mut E,
 ) -> u8
-    ensures { HasEnded result (O.contents out.old) (O.contents out.new) (E.contents err.old) (E.contents err.new) }
+    ensures { HasEnded result (R.remaining reader.old) (R.remaining reader.new) (O.contents out.old) (O.contents out.new) (E.contents err.old) (E.contents err.new) }
 {
     match run_script(rt, alloc, reader, out) {
         Ok(outcome) => outcome.status(),
@@ -40,22 +42,24 @@ fn run_script<T: Threads + Sync, R: Read, O: Write>(
     reader: &mut R,
     out: &mut O,
 ) -> Result<Outcome, ScriptError>
-    ensures { IsReported result (O.contents out.old) (O.contents out.new) }
+    ensures read { IsReadFor result (R.remaining reader.old) (R.remaining reader.new) }
+    ensures reported { IsReported result (O.contents out.old) (O.contents out.new) }
 {
-    let text = read_text(alloc, reader)?;
-    let script = Script::parse(alloc, text.as_slice())?;
-    let (outcome, report) = run_plan(rt, alloc, script)?;
-    match print(out, report.as_slice()) {
-        Ok(()) => Ok(outcome),
-        Err(_) => Err(ScriptError::OutputFailed),
+    let text = match read_text(alloc, reader) {
+        Ok(text) => text,
+        Err(error) => return Err(error),
+    };
+    let script = match Script::parse(alloc, text.as_slice()) {
+        Ok(script) => script,
+        Err(error) => return Err(error),
+    };
+    match run_plan(rt, alloc, script) {
+        Ok((outcome, report)) => match print(out, report.as_slice()) {
+            Ok(()) => Ok(outcome),
+            Err(_) => Err(ScriptError::OutputFailed),
+        },
+        Err(error) => Err(error),
     }
-}
-
-fn print<O: Write>(out: &mut O, report: &[u8]) -> io::Result<()>
-    ensures { OnOk result (Appends (O.contents out.old) (O.contents out.new) report.now) }
-{
-    out.write_all(report)?;
-    out.flush()
 }
 
 fn tell<E: Write>(err: &mut E, error: ScriptError) -> io::Result<()>

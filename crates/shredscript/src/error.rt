@@ -1,9 +1,9 @@
 //! Why a script is not run to its outcome.
 ghost use Rattle.std.specs.Prelude.{◌≡◌};
 ghost use Rattle.shredscript.specs.declared.error.ScriptError.TheVariants.{OutOfMemory as NoMemory};
-ghost use Rattle.shredscript.specs.Endings.{error_at, error_status};
+ghost use Rattle.shredscript.specs.Endings.{add_error, error_at, error_status};
 
-use shred::OutOfMemory;
+use shred::{AddError, OutOfMemory};
 use std::alloc::AllocError;
 use std::error::Error as StdError;
 use std::fmt;
@@ -52,12 +52,42 @@ pub(crate) enum LineError {
     Memory(#[from(alloc)] AllocError),
 }
 
+/// Why the system of a line is not added to the plan.
+#[derive(Clone, Copy, Debug, PartialEq, Eq)]
+pub(crate) enum AddRefusal {
+    /// The dependency at this place, counted from 0, is the first that is no earlier system's name.
+    NoSuchSystem { place: usize },
+
+    /// An earlier system has the name.
+    NameTaken,
+
+    /// No id is left.
+    IdsExhausted,
+}
+
+impl fmt::Display for AddRefusal {
+    ghost use Rattle.std.specs.Prelude.{Some};
+    ghost use Rattle.shredscript.specs.Texts.{refused_add_text};
+
+    ghost output = { λ refusal. Some (refused_add_text refusal) };
+
+    fn fmt<W: fmt::Write>(&self, f: &mut fmt::Formatter<W>) -> fmt::Result {
+        match self {
+            AddRefusal::NoSuchSystem { place } => write!(f, "no such system at {place}"),
+            AddRefusal::NameTaken => write!(f, "name taken"),
+            AddRefusal::IdsExhausted => write!(f, "ids exhausted"),
+        }
+    }
+}
+
 /// Why a script is not run to its outcome. Its text is what standard error tells.
 #[derive(Clone, Copy, Debug, PartialEq, Eq)]
 pub(crate) enum ScriptError {
     TooLong,
     InputFailed,
     Line { line: usize, fault: LineFault },
+    Refused { line: usize, refusal: AddRefusal },
+    Unnamed { id: usize },
     OutOfMemory,
     OutputFailed,
 }
@@ -73,6 +103,8 @@ impl fmt::Display for ScriptError {
             ScriptError::TooLong => write!(f, "script too long"),
             ScriptError::InputFailed => write!(f, "input failed"),
             ScriptError::Line { line, fault } => write!(f, "line {line}: {fault}"),
+            ScriptError::Refused { line, refusal } => write!(f, "line {line}: {refusal}"),
+            ScriptError::Unnamed { id } => write!(f, "unnamed system {id}"),
             ScriptError::OutOfMemory => write!(f, "out of memory"),
             ScriptError::OutputFailed => write!(f, "output failed"),
         }
@@ -106,12 +138,26 @@ impl ScriptError {
         }
     }
 
-    /// The exit status: 2 where memory is refused, else 1.
+    /// The error where the builder does not take the system of the line with this number.
+    pub(crate) fn of_add(line: usize, error: AddError) -> ScriptError
+        ensures { result ≡ add_error line error }
+    {
+        let refusal = match error {
+            AddError::NoSuchSystem { place } => AddRefusal::NoSuchSystem { place },
+            AddError::NameTaken => AddRefusal::NameTaken,
+            AddError::IdsExhausted => AddRefusal::IdsExhausted,
+            AddError::OutOfMemory => return ScriptError::OutOfMemory,
+        };
+        ScriptError::Refused { line, refusal }
+    }
+
+    /// The exit status: 2 where a system is refused, has no name to be printed, or memory is refused, else 1.
     pub(crate) fn status(self) -> u8
         ensures { result ≡ error_status self }
     {
         match self {
             ScriptError::OutOfMemory => 2,
+            ScriptError::Refused { .. } | ScriptError::Unnamed { .. } => 2,
             _ => 1,
         }
     }

@@ -1,8 +1,8 @@
 //! Reading a script, of bounded length.
-ghost use Rattle.std.specs.Prelude.{◌≡◌, ◌≤◌, ◌<◌, ◌+◌, ◌++◌, ◌↔◌, length, vec_len, Err, IfOk, OnOk};
+ghost use Rattle.std.specs.Prelude.{◌≡◌, ◌≤◌, ◌<◌, ◌+◌, ◌++◌, ◌↔◌, length, vec_len, Err, IfErr, IfOk, OnOk};
 ghost use Rattle.std.specs.Io.KnownBytes.{Consumes, IsAtEnd};
 ghost use Rattle.shredscript.specs.declared.error.ScriptError.TheVariants.{TooLong};
-ghost use Rattle.shredscript.specs.Input.{IsLongerThan};
+ghost use Rattle.shredscript.specs.Input.{IsLongerThan, IsReadError};
 
 use crate::error::ScriptError;
 use std::alloc::Global;
@@ -19,6 +19,7 @@ pub(crate) fn read_text<R: Read>(alloc: Global, reader: &mut R) -> Result<Vec<u8
     ensures end { OnOk result (IsAtEnd (R.remaining reader.new)) }
     ensures length { IfOk result (λ text. vec_len text ≤ MOST_BYTES) }
     ensures too_long { result ≡ Err TooLong → IsLongerThan MOST_BYTES (R.remaining reader.old) }
+    ensures err { IfErr result IsReadError }
 {
     let mut text = Vec::new(alloc);
     let mut chunk = [0; CHUNK_BYTES];
@@ -38,6 +39,7 @@ fn append(text: &mut Vec<u8>, bytes: &[u8]) -> Result<(), ScriptError>
     ensures text { OnOk result (text.new.items ≡ text.old.items ++ bytes.now) }
     ensures length { vec_len text.new ≤ MOST_BYTES }
     ensures too_long { (result ≡ Err TooLong) ↔ (MOST_BYTES < vec_len text.old + length bytes.now) }
+    ensures err { IfErr result IsReadError }
 {
     if bytes.len() > MOST_BYTES - text.len() {
         return Err(ScriptError::TooLong);

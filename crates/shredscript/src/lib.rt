@@ -1,11 +1,14 @@
 //! The script language: a script is read, looked through, run, and its outcome printed.
 #![tactic(auto)]
 
+mod build;
 mod declared;
 mod engine;
 mod error;
 mod input;
 mod outcome;
+mod output;
+mod plan_text;
 mod run_plan;
 mod script;
 mod step;

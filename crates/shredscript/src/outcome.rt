@@ -3,7 +3,7 @@ ghost use Rattle.std.specs.Prelude.{◌≡◌, OnOk};
 ghost use Rattle.std.specs.Io.KnownBytes.{Appends};
 ghost use Rattle.shredscript.specs.declared.outcome.Refusal.TheVariants.{Undeclared};
 ghost use Rattle.shredscript.specs.Endings.{failure_of, outcome_of, outcome_status};
-ghost use Rattle.shredscript.specs.Texts.{line_of, outcome_text, value_text};
+ghost use Rattle.shredscript.specs.Texts.{line_of, outcome_text, threads_text, value_text};
 
 use shred::{DataError, DispatchError, Fault};
 use std::io::Write;
@@ -129,6 +129,13 @@ impl fmt::Display for Outcome {
             Outcome::StageMemory { stage } => write!(f, "stage {stage} out of memory"),
         }
     }
+}
+
+/// Writes the line of the greatest number of groups in a stage.
+pub(crate) fn write_threads<W: Write>(out: &mut W, threads: usize) -> io::Result<()>
+    ensures { OnOk result (Appends (W.contents out.old) (W.contents out.new) (line_of (threads_text threads))) }
+{
+    writeln!(out, "threads {threads}")
 }
 
 /// Writes the line of a resource.

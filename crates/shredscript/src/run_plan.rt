@@ -4,22 +4,33 @@ ghost use Rattle.std.specs.Io.KnownBytes.{Appends};
 ghost use Rattle.indexmap.specs.IndexMap.{values};
 ghost use Rattle.shred_world.specs.declared.id.ResourceId.{ResourceId};
 ghost use Rattle.shred_world.specs.Worlds.{world_held};
+ghost use Rattle.shred_model.specs.Record.{Agent};
+ghost use Rattle.shred_model.specs.States.{setting_of};
+ghost use Rattle.shred.specs.Builders.{built, builder_pairs};
+ghost use Rattle.shred.specs.Dispatchers.{dispatcher_plan, dispatcher_states};
 ghost use Rattle.shredscript.specs.declared.error.ScriptError.TheVariants.{OutOfMemory};
-ghost use Rattle.shredscript.specs.Report.{first_held, names_of, report, value_line, IsReport};
+ghost use Rattle.shredscript.specs.Report.{first_held, names_of, report, value_line};
+ghost use Rattle.shredscript.specs.PlanTexts.{IsNotPlanned, IsPlanPart};
+ghost use Rattle.shredscript.specs.Runs.{IsDispatch, IsNotRun, IsRunOf};
 ghost use Rattle.shredscript.specs.Place.{number_at};
 ghost use Rattle.shredscript.specs.Value.{kind_of};
 
+use crate::build::{ScriptBuilder, builder_of};
 use crate::error::ScriptError;
-use crate::outcome::{Outcome, write_outcome, write_value};
-use crate::script::{Script, SystemLine};
+use crate::outcome::{Outcome, write_outcome, write_threads, write_value};
+use crate::plan_text::plan_text;
+use crate::script::Script;
 use crate::step::Resources;
 use crate::system::ScriptSystem;
 use crate::value::{Value, id_at};
-use shred::{Stage, StagesBuilder, SystemId, World, new_dispatcher};
+use shred::{Dispatcher, World};
 use std::alloc::Global;
 use std::io;
 use std::io::Write;
 use std::thread::Threads;
+
+/// A dispatcher of a script's systems.
+type ScriptDispatcher = Dispatcher<Value, ScriptSystem>;
 
 /// The most bytes of a line of a report behind the name: a sign, a number of 64 bits and a line feed.
 const MOST_VALUE_BYTES: usize = 22;
@@ -34,16 +45,57 @@ pub(crate) fn run_plan<T: Threads + Sync>(
     alloc: Global,
     script: Script<'_>,
 ) -> Result<(Outcome, Vec<u8>), ScriptError>
-    ensures report { IfOk result (λ ran. IsReport (names_of script.entry.resources) ran.0 ran.1.items) }
+    ensures run { IfOk result (λ ran. IsRunOf script.entry ran.0 ran.1.items) }
+    ensures not_run { IfErr result (IsNotRun script.entry) }
+{
+    let Script {
+        resources,
+        plan,
+        prints_plan,
+    } = script;
+    let world = world_of(alloc, &resources)?;
+    let builder = builder_of(alloc, plan)?;
+    let (dispatcher, text) = planned(alloc, builder, prints_plan)?;
+    dispatch(rt, dispatcher, world, &resources, text)
+}
+
+/// Runs the plan once over the world: how that ended, and the text with the report of what it left.
+fn dispatch<T: Threads + Sync>(
+    rt: &T,
+    mut dispatcher: ScriptDispatcher,
+    mut world: World<Value>,
+    resources: &Resources<'_>,
+    mut text: Vec<u8>,
+) -> Result<(Outcome, Vec<u8>), ScriptError>
+    ensures dispatch { IfOk result (λ ran. IsDispatch (dispatcher_plan dispatcher) (setting_of (dispatcher_states dispatcher) (world_held kind_of world)) (names_of resources.now) text.items ran.0 ran.1.items) }
     ensures err { IfErr result (λ error. error ≡ OutOfMemory) }
 {
-    let Script { resources, systems } = script;
-    let mut world = world_of(alloc, &resources)?;
-    let mut dispatcher = new_dispatcher(stages_of(alloc, systems)?);
-    let mut report = Vec::with_capacity(alloc, most_bytes(&resources))?;
+    text.reserve(most_bytes(resources))?;
     let outcome = Outcome::of(dispatcher.dispatch_par(rt, &mut world));
-    match write_report(&mut report, &resources, &world, outcome) {
-        Ok(()) => Ok((outcome, report)),
+    match write_report(&mut text, resources, &world, outcome) {
+        Ok(()) => Ok((outcome, text)),
+        Err(_) => Err(ScriptError::OutOfMemory),
+    }
+}
+
+/// The dispatcher of what is built, and what is printed of its plan, which is nothing where that is not asked for.
+fn planned(
+    alloc: Global,
+    builder: ScriptBuilder,
+    prints_plan: bool,
+) -> Result<(ScriptDispatcher, Vec<u8>), ScriptError>
+    ensures plan { IfOk result (λ made. dispatcher_plan made.0 ≡ (built builder).plan) }
+    ensures states { IfOk result (λ made. (path : Agent) → dispatcher_states made.0 path ≡ (built builder).states path) }
+    ensures text { IfOk result (λ made. IsPlanPart prints_plan (builder_pairs builder) (built builder).plan made.1.items) }
+    ensures not_planned { IfErr result (IsNotPlanned prints_plan (builder_pairs builder) (built builder).plan) }
+{
+    if !prints_plan {
+        return Ok((builder.build(), Vec::new(alloc)));
+    }
+    let mut text = plan_text(alloc, &builder)?;
+    let dispatcher = builder.build();
+    match write_threads(&mut text, dispatcher.max_threads()) {
+        Ok(()) => Ok((dispatcher, text)),
         Err(_) => Err(ScriptError::OutOfMemory),
     }
 }
@@ -71,21 +123,6 @@ fn world_of(alloc: Global, resources: &Resources<'_>) -> Result<World<Value>, Sc
         };
     }
     Ok(world)
-}
-
-/// The systems in their stages. A system's id is its place among the `sys` lines.
-fn stages_of(
-    alloc: Global,
-    lines: Vec<SystemLine<'_>>,
-) -> Result<Vec<Stage<Value, ScriptSystem>>, ScriptError>
-    ensures { IfErr result (λ error. error ≡ OutOfMemory) }
-{
-    let mut builder = StagesBuilder::new(alloc);
-    for (place, line) in lines.into_iter().enumerate() {
-        let system = ScriptSystem::new(alloc, line)?;
-        builder.insert(&[], SystemId(place), system)?;
-    }
-    Ok(builder.build())
 }
 
 /// Writes each resource's value, and how the run ended.

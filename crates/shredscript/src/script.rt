@@ -1,4 +1,7 @@
-//! A script, looked through: its resources and its systems.
+//! A script, looked through: its resources and its plan.
+ghost use Rattle.std.specs.Prelude.{IfErr};
+ghost use Rattle.shredscript.specs.Input.{IsLineError};
+
 use crate::error::{LineError, LineFault, ScriptError};
 use crate::step::{Resources, Step};
 use crate::words::{Words, integer, resource_name, running_time, system_name};
@@ -6,13 +9,21 @@ use indexmap::IndexMap;
 use shred::RunningTime;
 use std::alloc::Global;
 
-/// A line that adds a staged system.
+/// A line that adds a staged system, which runs after those that it depends on.
 #[derive(Debug, Drop)]
 pub(crate) struct SystemLine<'text> {
     pub(crate) line: usize,
     pub(crate) name: &'text str,
     pub(crate) time: RunningTime,
+    pub(crate) dependencies: Vec<&'text str>,
     pub(crate) steps: Vec<Step>,
+}
+
+/// A line that the plan is made by.
+#[derive(Debug, Drop)]
+pub(crate) enum PlanLine<'text> {
+    System(SystemLine<'text>),
+    Barrier,
 }
 
 /// What the lines of a script declare, in their order.
@@ -20,21 +31,26 @@ pub(crate) struct SystemLine<'text> {
 pub(crate) struct Script<'text> {
     /// Each resource's first value. Steps name a resource by its place here.
     pub(crate) resources: Resources<'text>,
-    pub(crate) systems: Vec<SystemLine<'text>>,
+    pub(crate) plan: Vec<PlanLine<'text>>,
+    /// Whether the plan is to be printed.
+    pub(crate) prints_plan: bool,
 }
 
 impl<'text> Script<'text> {
     /// Looks through the lines of `text` up to the first that has a fault.
-    pub(crate) fn parse(alloc: Global, text: &'text [u8]) -> Result<Script<'text>, ScriptError> {
+    pub(crate) fn parse(alloc: Global, text: &'text [u8]) -> Result<Script<'text>, ScriptError>
+        ensures { IfErr result IsLineError }
+    {
         let mut script = Script {
             resources: IndexMap::new(alloc),
-            systems: Vec::new(alloc),
+            plan: Vec::new(alloc),
+            prints_plan: false,
         };
         for (index, bytes) in text.split(|byte| *byte == b'\n').enumerate() {
             let line = index + 1;
-            script
-                .take_line(alloc, line, bytes)
-                .map_err(|error| ScriptError::at(line, error))?;
+            if let Err(error) = script.take_line(alloc, line, bytes) {
+                return Err(ScriptError::at(line, error));
+            }
         }
         Ok(script)
     }
@@ -50,6 +66,8 @@ impl<'text> Script<'text> {
             None => Ok(()),
             Some("res") => self.take_resource(words),
             Some("sys") => self.take_system(alloc, line, words),
+            Some("barrier") => self.take_barrier(words),
+            Some("plan") => self.take_plan(words),
             Some(word) if word.starts_with('#') => Ok(()),
             Some(_) => Err(LineFault::UnknownLine.into()),
         }
@@ -74,26 +92,42 @@ impl<'text> Script<'text> {
     ) -> Result<(), LineError> {
         let name = system_name(words.required()?)?;
         let time = running_time(words.required()?)?;
-        no_dependencies(words.required()?)?;
+        let dependencies = dependencies(alloc, words.required()?)?;
         let mut steps = Vec::new(alloc);
         for word in words {
             steps.push(Step::parse(word, &self.resources)?)?;
         }
-        self.systems.push(SystemLine {
+        self.plan.push(PlanLine::System(SystemLine {
             line,
             name,
             time,
+            dependencies,
             steps,
-        })?;
+        }))?;
+        Ok(())
+    }
+
+    fn take_barrier(&mut self, mut words: Words<'text>) -> Result<(), LineError> {
+        words.end()?;
+        self.plan.push(PlanLine::Barrier)?;
+        Ok(())
+    }
+
+    fn take_plan(&mut self, mut words: Words<'text>) -> Result<(), LineError> {
+        words.end()?;
+        self.prints_plan = true;
         Ok(())
     }
 }
 
-/// The word for no dependencies, the only one that is known.
-fn no_dependencies(word: &str) -> Result<(), LineFault> {
+/// The names that a system depends on: none for the word `-`, else those that commas part.
+fn dependencies<'text>(alloc: Global, word: &'text str) -> Result<Vec<&'text str>, LineError> {
+    let mut names = Vec::new(alloc);
     if word == "-" {
-        Ok(())
-    } else {
-        Err(LineFault::BadWord)
+        return Ok(names);
     }
+    for name in word.split(',') {
+        names.push(system_name(name)?)?;
+    }
+    Ok(names)
 }

@@ -15,7 +15,6 @@ ghost use Rattle.shredscript.specs.Steps.{change_outcome, change_left, step_outc
 
 use crate::declared::Declared;
 use crate::outcome::Refusal;
-use crate::script::SystemLine;
 use crate::step::{Operand, Operation, Step};
 use crate::value::{Value, id_at};
 use shred::{Fault, OutOfMemory, RunningTime, System, View, World};
@@ -32,12 +31,15 @@ pub(crate) struct ScriptSystem {
 }
 
 impl ScriptSystem {
-    /// The system that a line adds.
-    pub(crate) fn new(alloc: Global, line: SystemLine<'_>) -> Result<Self, AllocError>
-        ensures steps { IfOk result (λ system. system.steps.items ≡ line.entry.steps.items) }
-        ensures time { IfOk result (λ system. system.time ≡ line.entry.time) }
+    /// The system of this time and these steps.
+    pub(crate) fn new(
+        alloc: Global,
+        time: RunningTime,
+        steps: Vec<Step>,
+    ) -> Result<Self, AllocError>
+        ensures steps { IfOk result (λ system. system.steps.items ≡ steps.items) }
+        ensures time { IfOk result (λ system. system.time ≡ time) }
     {
-        let SystemLine { time, steps, .. } = line;
         let declared = Declared::of_steps(alloc, steps.as_slice())?;
         Ok(ScriptSystem {
             declared,

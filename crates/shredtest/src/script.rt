@@ -1,13 +1,15 @@
 //! Whole runs, from a script's bytes to what is printed.
 use fakes::{FailingReader, FailingWriter, InterruptedReader, RepeatingReader};
 use shredscript::run;
-use std::alloc::Global;
+use std::alloc::{AllocError, Global};
 use std::io::Read;
 use std::process::Abort;
+use std::test::Fail;
 use std::thread::Threads;
 
 mod cases;
 pub(crate) mod fakes;
+mod plan_cases;
 
 /// What a run wrote and answered.
 #[derive(Drop)]
@@ -77,6 +79,61 @@ fn tells_the_first_fault(rt: HostRuntime) {
     for (script, err) in cases::FAULTY {
         assert_prints(&rt, script, "", err, 1);
     }
+    for (script, err) in plan_cases::FAULTY {
+        assert_prints(&rt, script, "", err, 1);
+    }
+}
+
+/// The printed text of these stages, and the line of the number of threads.
+fn plan_text(
+    alloc: Global,
+    stages: plan_cases::Stages,
+    threads: usize,
+) -> Result<String, AllocError> {
+    let mut text = String::from_str(alloc, "seq![\n")?;
+    for stage in stages {
+        text.push_str("\tpar![\n")?;
+        for group in *stage {
+            text.push_str("\t\tseq![\n")?;
+            for name in *group {
+                write!(text, "\t\t\t{name},\n")?;
+            }
+            text.push_str("\t\t],\n")?;
+        }
+        text.push_str("\t],\n")?;
+    }
+    write!(text, "]\n\nthreads {threads}\n")?;
+    Ok(text)
+}
+
+#[test]
+fn prints_the_plan_before_the_values(rt: HostRuntime) -> Result<(), Fail> {
+    for (script, stages, threads, rest) in plan_cases::PRINTED {
+        let mut out = plan_text(rt.alloc(), stages, *threads)?;
+        out.push_str(rest)?;
+        let status = if rest.ends_with("ok\n") { 0 } else { 2 };
+        assert_prints(&rt, script, out.as_str(), "", status);
+    }
+    Ok(())
+}
+
+#[test]
+fn prints_a_plan_as_it_is_written_here(rt: HostRuntime) {
+    assert_prints(&rt, FIVE_PLANNED, FIVE_PRINTED, "", 0);
+}
+
+#[test]
+fn runs_by_dependencies_and_barriers(rt: HostRuntime) {
+    for (script, out, status) in plan_cases::RUN {
+        assert_prints(&rt, script, out, "", *status);
+    }
+}
+
+#[test]
+fn tells_the_line_that_is_refused(rt: HostRuntime) {
+    for (script, err) in plan_cases::REFUSED_LINES {
+        assert_prints(&rt, script, "", err, 2);
+    }
 }
 
 #[test]
@@ -90,6 +147,12 @@ fn tells_bytes_that_are_no_text(rt: HostRuntime) {
 const SCRIPT: &str = "res X 1\nres Y 20\nsys a average - X+=10 refuse:7\n";
 
 const PRINTED: &str = "X=11\nY=20\nsystem 0 refused 7\n";
+
+const FIVE_PLANNED: &str =
+    "plan\nres Res 0\nsys a average - ?Res\nsys b average a ?Res\nsys c average a ?Res\nsys d average - ?Res\nsys e average c,d ?Res\n";
+
+const FIVE_PRINTED: &str =
+    "seq![\n\tpar![\n\t\tseq![\n\t\t\ta,\n\t\t],\n\t\tseq![\n\t\t\td,\n\t\t],\n\t],\n\tpar![\n\t\tseq![\n\t\t\tb,\n\t\t],\n\t\tseq![\n\t\t\tc,\n\t\t],\n\t],\n\tpar![\n\t\tseq![\n\t\t\te,\n\t\t],\n\t],\n]\n\nthreads 2\nRes=0\nok\n";
 
 #[test]
 fn reads_in_pieces_of_any_length(rt: HostRuntime) {
@@ -128,24 +191,46 @@ fn tells_a_failed_read_before_a_fault(rt: HostRuntime) {
     assert_tells(&rt, &mut reader, "input failed\n");
 }
 
+/// Where the output fails after so many bytes, these are written, and the failure is told.
+fn assert_fails_after(
+    rt: &(impl Abort + AllocGlobal + Threads + Sync),
+    script: &str,
+    printed: &str,
+    after: usize,
+) {
+    let mut reader = script.as_bytes();
+    let mut out = FailingWriter::after(rt.alloc(), after);
+    let mut err = Vec::new(rt.alloc());
+    let status = run(rt, rt.alloc(), &mut reader, &mut out, &mut err);
+    let (beginning, _) = printed.as_bytes().split_at(after.min(printed.len()));
+    assert_eq!(rt; out.written(), beginning, "after {after}");
+    assert_eq!(rt;
+        err.as_slice(),
+        "output failed\n".as_bytes(),
+        "after {after}"
+    );
+    assert_eq!(rt; status, 1, "after {after}");
+}
+
 #[test]
 fn tells_a_failed_write_wherever_it_comes(rt: HostRuntime) {
     for after in 0..PRINTED.len() {
-        let mut reader = SCRIPT.as_bytes();
-        let mut out = FailingWriter::after(rt.alloc(), after);
-        let mut err = Vec::new(rt.alloc());
-        let status = run(&rt, rt.alloc(), &mut reader, &mut out, &mut err);
-        assert_eq!(rt;
-            out.written(),
-            &PRINTED.as_bytes()[..after],
-            "after {after}"
-        );
-        assert_eq!(rt;
-            err.as_slice(),
-            "output failed\n".as_bytes(),
-            "after {after}"
-        );
-        assert_eq!(rt; status, 1, "after {after}");
+        assert_fails_after(&rt, SCRIPT, PRINTED, after);
+    }
+    for after in 0..FIVE_PRINTED.len() {
+        assert_fails_after(&rt, FIVE_PLANNED, FIVE_PRINTED, after);
+    }
+}
+
+#[test]
+fn a_refused_line_writes_nothing_to_the_output(rt: HostRuntime) {
+    for (script, err) in plan_cases::REFUSED_LINES {
+        let mut reader = script.as_bytes();
+        let mut out = FailingWriter::after(rt.alloc(), 0);
+        let mut told = Vec::new(rt.alloc());
+        let status = run(&rt, rt.alloc(), &mut reader, &mut out, &mut told);
+        assert_eq!(rt; told.as_slice(), err.as_bytes(), "err of {script:?}");
+        assert_eq!(rt; status, 2, "status of {script:?}");
     }
 }
 
@@ -161,7 +246,13 @@ fn tells_a_failed_flush(rt: HostRuntime) {
 
 #[test]
 fn a_failed_write_of_a_fault_changes_no_status(rt: HostRuntime) {
-    for (script, status) in [("plan", 1), ("", 0), ("sys a short - refuse:1", 2)] {
+    for (script, status) in [
+        ("local", 1),
+        ("", 0),
+        ("sys a short - refuse:1", 2),
+        ("sys a short a", 2),
+        ("plan\nsys - short -", 2),
+    ] {
         let mut reader = script.as_bytes();
         let mut out = Vec::new(rt.alloc());
         let mut err = FailingWriter::after(rt.alloc(), 0);

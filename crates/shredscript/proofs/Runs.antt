@@ -1,0 +1,43 @@
+-- A script's run, put together from its parts.
+use Rattle.std.proofs.Common.{◌≡◌, ℕ, List, subst}
+use Rattle.std.proofs.Math.Path.{fun_ext}
+use Rattle.indexmap.specs.IndexMap.{values}
+use Rattle.shred_model.specs.Plan.{Plan}
+use Rattle.shred_model.specs.Record.{Agent}
+use Rattle.shred_model.specs.States.{setting_of}
+use Rattle.shred_world.specs.declared.id.ResourceId.{ResourceId}
+use Rattle.shred.specs.Built.{Built}
+use Rattle.shred.specs.Names.{Pair}
+use Rattle.shred.specs.Steps.{Held}
+use Rattle.std.specs.Prelude.{IfOk, Option, Result, Ok, Err}
+use Rattle.shredscript.specs.declared.outcome.Outcome.{Outcome}
+use Rattle.shredscript.specs.declared.script.Script.{Script}
+use Rattle.shredscript.specs.declared.system.ScriptSystem.{ScriptSystem}
+use Rattle.shredscript.specs.declared.value.Value.{Value}
+use Rattle.shredscript.specs.Lines.{IsBuiltBy}
+use Rattle.shredscript.specs.PlanTexts.{IsPlanPart}
+use Rattle.shredscript.specs.Report.{first_held, names_of}
+use Rattle.shredscript.specs.Runs.{IsDispatch, IsRunOf}
+
+-- the dispatcher has the plan and the systems that were built, and the world has the first values
+pub run-of : (script : Script) (built : Built ScriptSystem) (names : List Pair) (begins : List ℕ) (plan : Plan ResourceId) (states : Agent → Option ScriptSystem) (held : Held Value) → IsBuiltBy script.plan.items built
+    → IsPlanPart script.prints_plan names built.plan begins → plan ≡ built.plan → ((path : Agent) → states path ≡ built.states path) → ((id : ResourceId) → held id ≡ first_held (values script.resources) id)
+    → (outcome : Outcome) (text : List ℕ) → IsDispatch plan (setting_of states held) (names_of script.resources) begins outcome text → IsRunOf script outcome text
+run-of script built names begins plan states held made planned same_plan same_states same_held outcome text ran =
+    let s : states ≡ built.states = fun_ext same_states in
+    let h : held ≡ first_held (values script.resources) = fun_ext same_held in
+    record {
+      built = built;
+      made = made;
+      names = names;
+      begins = begins;
+      planned = planned;
+      dispatch = subst (λ p. IsDispatch p (setting_of built.states (first_held (values script.resources))) (names_of script.resources) begins outcome text) same_plan
+          (subst (λ v. IsDispatch plan (setting_of built.states v) (names_of script.resources) begins outcome text) h
+          (subst (λ v. IsDispatch plan (setting_of v held) (names_of script.resources) begins outcome text) s ran));
+    }
+
+-- what is said of an answer implies more of it
+pub ok-then : {X E : Type 0} (answer : Result X E) (P Q : X → Type 0) → ((x : X) → P x → Q x) → IfOk answer P → IfOk answer Q
+ok-then (Ok x) P Q more h = more x h
+ok-then (Err e) P Q more h = tt

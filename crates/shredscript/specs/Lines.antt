@@ -1,0 +1,71 @@
+-- What the lines of a script make of a builder.
+use Rattle.std.specs.Prelude.{◌≡◌, ℕ, List, [], ◌∷◌, ◌++◌}
+use Rattle.shred.specs.Built.{Built, IsAddition, IsBarrierSet, IsNewBuilt, IsRefusal}
+use Rattle.shred.specs.Known.{texts_of}
+use Rattle.shred.specs.declared.dispatch.add_error.AddError.{AddError}
+use Rattle.shred.specs.declared.dispatch.add_error.AddError.TheVariants as builder
+use Rattle.shredscript.specs.declared.error.AddRefusal.{AddRefusal}
+use Rattle.shredscript.specs.declared.error.AddRefusal.TheVariants.{NoSuchSystem, NameTaken, IdsExhausted}
+use Rattle.shredscript.specs.declared.error.ScriptError.{ScriptError}
+use Rattle.shredscript.specs.declared.error.ScriptError.TheVariants.{TooLong, InputFailed, Line, Refused, Unnamed, OutOfMemory, OutputFailed}
+use Rattle.shredscript.specs.declared.script.PlanLine.{PlanLine}
+use Rattle.shredscript.specs.declared.script.PlanLine.TheVariants.{System, Barrier}
+use Rattle.shredscript.specs.declared.script.SystemLine.{SystemLine}
+use Rattle.shredscript.specs.declared.system.ScriptSystem.{ScriptSystem}
+use Rattle.shredscript.specs.Declares.{read_ids, write_ids}
+
+-- the names that a line's system depends on
+abbrev pub needed : SystemLine → List (List ℕ)
+needed line = texts_of line.dependencies.items
+
+-- A system of the line's steps and time is added under the line's name, after those that it depends on.
+pub record IsAdded (line : SystemLine) (old new : Built ScriptSystem) : Type 0 where
+  pub system : ScriptSystem
+  pub steps : system.steps.items ≡ line.steps.items
+  pub time : system.time ≡ line.time
+  pub addition : IsAddition old new line.name.now (needed line) (read_ids line.steps.items) (write_ids line.steps.items) line.time system
+
+-- what a line makes of a builder: its system is added, or the barrier is set
+abbrev pub IsTaken : PlanLine → Built ScriptSystem → Built ScriptSystem → Type 0
+IsTaken (System line) old new = IsAdded line old new
+IsTaken Barrier old new = IsBarrierSet old new
+
+-- what lines make of a builder, one after another
+abbrev pub AreTaken : List PlanLine → Built ScriptSystem → Built ScriptSystem → Type 0
+AreTaken [] old new = new ≡ old
+AreTaken (line ∷ lines) old new = (next : Built ScriptSystem) × IsTaken line old next × AreTaken lines next new
+
+-- what lines make of an empty builder
+abbrev pub IsBuiltBy : List PlanLine → Built ScriptSystem → Type 0
+IsBuiltBy lines built = (empty : Built ScriptSystem) × IsNewBuilt empty × AreTaken lines empty built
+
+-- the builder's answer for each refusal that is told
+abbrev pub answer_of : AddRefusal → AddError
+answer_of (NoSuchSystem place) = builder.NoSuchSystem place
+answer_of NameTaken = builder.NameTaken
+answer_of IdsExhausted = builder.IdsExhausted
+
+-- why a line's system is not added: the builder refuses it, which is told with the line's number; or memory is refused
+abbrev pub IsNotAdded : SystemLine → Built ScriptSystem → ScriptError → Type 0
+IsNotAdded line built (Refused number refusal) = (number ≡ line.line) × IsRefusal built.known built.next line.name.now (needed line) (answer_of refusal)
+IsNotAdded line built OutOfMemory = Unit {0}
+IsNotAdded line built TooLong = ⊥
+IsNotAdded line built InputFailed = ⊥
+IsNotAdded line built (Line number fault) = ⊥
+IsNotAdded line built (Unnamed id) = ⊥
+IsNotAdded line built OutputFailed = ⊥
+
+-- why a line is not taken: its system is not added; a barrier always is
+abbrev pub IsNotTaken : PlanLine → Built ScriptSystem → ScriptError → Type 0
+IsNotTaken (System line) built error = IsNotAdded line built error
+IsNotTaken Barrier built error = ⊥
+
+-- One of the lines is not taken after those before it.
+pub record IsStopped (lines : List PlanLine) (error : ScriptError) : Type 0 where
+  pub before : List PlanLine
+  pub line : PlanLine
+  pub after : List PlanLine
+  pub at : lines ≡ before ++ line ∷ after
+  pub built : Built ScriptSystem
+  pub made : IsBuiltBy before built
+  pub stops : IsNotTaken line built error

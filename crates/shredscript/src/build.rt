@@ -1,0 +1,71 @@
+//! The plan that a script's lines make.
+ghost use Rattle.std.specs.Prelude.{OnOk, IfOk, IfErr};
+ghost use Rattle.shred.specs.Builders.{built};
+ghost use Rattle.shredscript.specs.Lines.{IsAdded, IsBuiltBy, IsNotAdded, IsNotTaken, IsStopped, IsTaken};
+
+use crate::error::ScriptError;
+use crate::script::{PlanLine, SystemLine};
+use crate::system::ScriptSystem;
+use crate::value::Value;
+use shred::DispatcherBuilder;
+use std::alloc::Global;
+
+/// A builder of plans of a script's systems.
+pub(crate) type ScriptBuilder = DispatcherBuilder<Value, ScriptSystem>;
+
+/// The builder that has taken all lines, in their order.
+pub(crate) fn builder_of(
+    alloc: Global,
+    lines: Vec<PlanLine<'_>>,
+) -> Result<ScriptBuilder, ScriptError>
+    ensures built { IfOk result (λ builder. IsBuiltBy lines.entry.items (built builder)) }
+    ensures stopped { IfErr result (IsStopped lines.entry.items) }
+{
+    let mut builder = ScriptBuilder::new(alloc);
+    for line in lines {
+        if let Err(error) = take_line(alloc, &mut builder, line) {
+            return Err(error);
+        }
+    }
+    Ok(builder)
+}
+
+fn take_line(
+    alloc: Global,
+    builder: &mut ScriptBuilder,
+    line: PlanLine<'_>,
+) -> Result<(), ScriptError>
+    ensures taken { OnOk result (IsTaken line.entry (built builder.old) (built builder.new)) }
+    ensures not_taken { IfErr result (IsNotTaken line.entry (built builder.old)) }
+{
+    match line {
+        PlanLine::System(line) => add_system(alloc, builder, line),
+        PlanLine::Barrier => {
+            builder.add_barrier();
+            Ok(())
+        }
+    }
+}
+
+/// Adds the system of a line.
+fn add_system(
+    alloc: Global,
+    builder: &mut ScriptBuilder,
+    line: SystemLine<'_>,
+) -> Result<(), ScriptError>
+    ensures added { OnOk result (IsAdded line.entry (built builder.old) (built builder.new)) }
+    ensures not_added { IfErr result (IsNotAdded line.entry (built builder.old)) }
+{
+    let SystemLine {
+        line,
+        name,
+        time,
+        dependencies,
+        steps,
+    } = line;
+    let system = ScriptSystem::new(alloc, time, steps)?;
+    match builder.add(system, name, dependencies.as_slice()) {
+        Ok(_) => Ok(()),
+        Err(error) => Err(ScriptError::of_add(line, error)),
+    }
+}

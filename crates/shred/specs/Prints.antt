@@ -5,9 +5,9 @@ use Rattle.shred.specs.declared.dispatch.printing.PrintError.{PrintError}
 use Rattle.shred.specs.declared.dispatch.printing.PrintError.TheVariants.{Unnamed, Write}
 use Rattle.shred.specs.Sinks.{AppendsBeginning, HasFailed}
 
--- the sink was given the text, or it failed and was given a beginning of the text
+-- the sink was given the text and did not fail, or it failed and was given a beginning of the text
 abbrev pub IsWritten : Option (List ℕ) → Option (List ℕ) → ℕ → ℕ → List ℕ → Result (Unit {0}) PrintError → Type 0
-IsWritten old new failures later text (Ok done) = Appends old new text
+IsWritten old new failures later text (Ok done) = Appends old new text × (later ≡ failures)
 IsWritten old new failures later text (Err Write) = AppendsBeginning old new text × HasFailed failures later
 IsWritten old new failures later text (Err (Unnamed id)) = ⊥
 

@@ -59,12 +59,6 @@ refusal asked id declared out there = cond (nat_eq asked.0 id.kind.0)
     (cond declared (cond out (Some (Taken id)) (cond there None (Some (Missing id)))) (Some (Undeclared id)))
     (Some (WrongKind asked id.kind))
 
--- the view of just these ids, with none of them out
-pub record IsLent {V : Type 0} (view : View V) (reads writes : List ResourceId) : Type 0 where
-  pub may_read : (id : ResourceId) → may_read view id ≡ (among reads id || among writes id)
-  pub may_write : (id : ResourceId) → may_write view id ≡ among writes id
-  pub nothing_out : (id : ResourceId) → is_out view id ≡ false
-
 -- what a view shows of the declared ids alone
 abbrev pub declared_held : {V : Type 0} → (V → Kind) → View V → ResourceId → Option V
 declared_held kind v id = cond (may_read v id) (view_held kind v id) None

@@ -1,6 +1,7 @@
 pub mod Changed
 pub mod Declares
 pub mod FirstHeld
+pub mod KnownNames
 pub mod Lines
 pub mod Reported
 pub mod Runs

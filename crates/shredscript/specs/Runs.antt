@@ -26,7 +26,7 @@ use Rattle.shredscript.specs.declared.value.Value.{Value}
 use Rattle.shredscript.specs.Endings.{outcome_of, status_of}
 use Rattle.shredscript.specs.Input.{IsLongerThan}
 use Rattle.shredscript.specs.Lines.{IsBuiltBy, IsStopped}
-use Rattle.shredscript.specs.PlanTexts.{IsPlanPart}
+use Rattle.shredscript.specs.PlanTexts.{AreNames, IsPlanPart}
 use Rattle.shredscript.specs.Report.{first_held, names_of, report}
 use Rattle.shredscript.specs.Steps.{steps_left, steps_outcome}
 use Rattle.shredscript.specs.Value.{kind_of}
@@ -49,6 +49,7 @@ pub record IsRunOf (script : Script) (outcome : Outcome) (text : List ℕ) : Typ
   pub built : Built ScriptSystem
   pub made : IsBuiltBy script.plan.items built
   pub names : List Pair
+  pub known : AreNames names built.known
   pub begins : List ℕ
   pub planned : IsPlanPart script.prints_plan names built.plan begins
   pub dispatch : IsDispatch built.plan (setting_of built.states (first_held (values script.resources))) (names_of script.resources) begins outcome text
@@ -59,6 +60,7 @@ pub record IsUnnamed (script : Script) (id : ℕ) : Type 0 where
   pub built : Built ScriptSystem
   pub made : IsBuiltBy script.plan.items built
   pub names : List Pair
+  pub known : AreNames names built.known
   pub first : Some id ≡ first_unnamed names (plan_ids built.plan)
 
 -- why a script that was read is not run: one of its lines is refused, a system has no name to be printed, or memory is refused

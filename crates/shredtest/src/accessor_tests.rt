@@ -26,7 +26,7 @@ fn world_of_five(alloc: Global) -> Result<World<Value>, Fail> {
 #[test]
 fn a_bundle_on_a_world_shows_what_is_held(rt: HostRuntime) -> Result<(), Fail> {
     let mut world = world_of_five(rt.alloc())?;
-    match world.system_data::<Read<Count>>() {
+    match world.system_data::<Write<Count>>() {
         Ok(lent) => {
             assert_eq!(rt; **lent, Count(5));
             lent.give_back();
@@ -86,15 +86,15 @@ fn a_world_is_set_up_by_an_accessor(rt: HostRuntime) -> Result<(), Fail> {
 #[test]
 fn an_accessor_of_the_callers_own_chooses(rt: HostRuntime) -> Result<(), Fail> {
     let mut world = world_of_five(rt.alloc())?;
-    let reads = [count_id()];
-    let mut view = world.lend(&reads, &[]);
-    for reads_count in [true, false] {
-        let choice = Choice { reads_count };
-        let listed = choice.reads(rt.alloc()).map_err(|_| "memory")?;
-        assert_eq!(rt; listed.len(), if reads_count { 1 } else { 0 });
+    let writes = [count_id()];
+    let mut view = world.lend(&[], &writes);
+    for writes_count in [true, false] {
+        let choice = Choice { writes_count };
+        let listed = choice.writes(rt.alloc()).map_err(|_| "memory")?;
+        assert_eq!(rt; listed.len(), if writes_count { 1 } else { 0 });
         match Chosen::fetch(&choice, &mut view) {
             Ok(chosen) => {
-                assert_eq!(rt; chosen.count.is_some(), reads_count);
+                assert_eq!(rt; chosen.count.is_some(), writes_count);
                 chosen.give_back(&mut view);
             }
             Err(_) => return Err("refused")?,

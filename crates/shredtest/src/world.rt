@@ -183,6 +183,7 @@ fn a_wrong_kind_is_refused_by_every_call_with_an_id(rt: HostRuntime) -> Result<(
             .map(|name| name.0),
         Err(refused)
     );
+    assert_eq!(rt; world.insert_by_id(number(0), Name(1)), Err(refused));
     assert_eq!(rt; world.remove_by_id::<Name>(number(0)), Err(refused));
     assert_eq!(rt; world.remove_by_id::<Name>(number(9)), Err(refused));
     assert_eq!(rt; count_in(&world), Some(5));
@@ -228,6 +229,8 @@ fn an_entry_keeps_what_is_held(rt: HostRuntime) -> Result<(), Fail> {
         Ok(4)
     );
     assert_eq!(rt; count_in(&world), Some(4));
+    assert!(rt; world.has_value::<Count>());
+    assert!(rt; !world.has_value::<Name>());
     assert_eq!(rt;
         world.entry().or_insert(Count(9)).map(|count| count.0),
         Ok(4)

@@ -1,0 +1,41 @@
+//! Resources that are put into a world.
+use crate::Ended;
+use shred::{World, WorldError};
+use shredtest::values::{Count, Name, Value};
+use std::alloc::Global;
+
+// The count that is held.
+fn count_in(world: &World<Value>) -> Option<i64> {
+    world.try_fetch::<Count>().map(|count| count.0)
+}
+
+/// Two resources, of which the second takes the place of the first. A refusal leaves what was held.
+pub fn insert(alloc: Global) -> Ended {
+    let mut world: World<Value> = World::empty(alloc);
+    match world.insert(Count(5)) {
+        Ok(()) => {}
+        Err(WorldError::OutOfMemory) => return Ended::refused_if(count_in(&world) == None),
+        Err(_) => return Ended::Wrong,
+    }
+    Ended::ample_if(world.insert(Count(6)) == Ok(()) && count_in(&world) == Some(6))
+}
+
+/// A place that is filled. A refusal calls no closure, and leaves the place empty.
+pub fn entry(alloc: Global) -> Ended {
+    let mut world: World<Value> = World::empty(alloc);
+    let mut called = false;
+    let answer = world
+        .entry()
+        .or_insert_with(|| {
+            called = true;
+            Count(5)
+        })
+        .map(|count| count.0);
+    match answer {
+        Ok(5) => Ended::ample_if(called && count_in(&world) == Some(5)),
+        Err(WorldError::OutOfMemory) => {
+            Ended::refused_if(!called && !world.has_value::<Count>() && !world.has_value::<Name>())
+        }
+        _ => Ended::Wrong,
+    }
+}

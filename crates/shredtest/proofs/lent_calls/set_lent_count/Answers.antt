@@ -6,7 +6,7 @@ use Rattle.shred_world.specs.Worlds.{world_held}
 use Rattle.shredtest.specs.Values.{kind_of, count_kind}
 use Rattle.shredtest.specs.declared.values.Value.{Value}
 use Rattle.shredtest.specs.declared.values.Value.TheVariants.{Count as counted}
-use Rattle.std.specs.Prelude.{Some}
+use Rattle.std.specs.Prelude.{true, false, Some}
 use Rattle.shredtest.proofs.GivenBack.{held-given}
 use Rattle.shredtest.proofs.lent_calls.set_lent_count.Goals as goal
 
@@ -16,4 +16,4 @@ returns-in-Ok-clause-ok c =
     ap (λ w. world_held kind_of w q) (c.world-1.given.1 (sym is.name))
     ∙ ap (λ held. held q) c.give_back.ensures
     ∙ ap (λ (h : Grant Value). with_at h.held (id_of count_kind 0) (Some (counted c.args.count)) q) is.left
-    ∙ held-given (world_held kind_of c.args.world.now) _ (counted c.args.count) q
+    ∙ held-given (world_held kind_of c.args.world.now) (record { kind = count_kind; id = id_of count_kind 0; is_written = true; may_be_absent = false }) (counted c.args.count) q

@@ -4,3 +4,4 @@ pub mod Worked
 pub mod KeptIds
 pub mod GivenBack
 pub mod Turned
+pub mod SameViews

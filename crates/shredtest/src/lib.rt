@@ -28,6 +28,8 @@ pub mod plain_plan;
 mod planner_tests;
 #[cfg(test)]
 mod script;
+#[cfg(test)]
+mod shared_reads;
 pub mod slow_placement;
 #[cfg(test)]
 mod tuples;

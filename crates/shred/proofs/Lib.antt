@@ -2,6 +2,7 @@ pub mod Alone
 pub mod Added
 pub mod Apart
 pub mod Appended
+pub mod Consistent
 pub mod EntriesAt
 pub mod Hands
 pub mod Ids
@@ -9,6 +10,7 @@ pub mod Names
 pub mod OwnSlots
 pub mod KeptLists
 pub mod Known
+pub mod KnownNames
 pub mod Earlier
 pub mod Left
 pub mod Membership

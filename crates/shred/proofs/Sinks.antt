@@ -1,12 +1,11 @@
 -- Texts that are put into a sink one after the other.
-use Rattle.std.proofs.Common.{◌≡◌, ℕ, ◌+◌, List, [], ◌∷◌, ◌++◌, map, take, drop, take-add, Option, Some, None, Result, Ok, Err, refl, sym, ◌∙◌, ap, subst, ◌-◌, ◌^◌, inl, inr, ⊎_elim, arith}
-use Rattle.std.proofs.lemmas.Bool.{cases_lt}
+use Rattle.std.proofs.Common.{◌≡◌, ℕ, ◌+◌, List, [], ◌∷◌, ◌++◌, map, take, drop, take-add, Option, Some, None, Result, Ok, Err, refl, sym, ◌∙◌, ap, subst}
 use Rattle.std.specs.List.{flat_map, slice_get}
 use Rattle.std.proofs.lemmas.Grind.{flat_map-append}
 use Rattle.std.proofs.lemmas.List.{append-nil, append_assoc, take_more, take-append-drop}
 use Rattle.std.proofs.lemmas.Option.{slice_get_within, get_or_from_slice_get}
 use Rattle.std.specs.Io.KnownBytes.{Appends, Keeps}
-use Rattle.shred.specs.Sinks.{IsCounted, HasFailed, IsPut}
+use Rattle.shred.specs.Sinks.{IsCounted, IsPut}
 
 pub Appends-nothing : (old : Option (List ℕ)) → Appends old old []
 Appends-nothing None = tt
@@ -23,14 +22,11 @@ Appends-then (Some xs) None new t u p q = absurd p
 Appends-then (Some xs) (Some ys) None t u p q = absurd q
 Appends-then (Some xs) (Some ys) (Some zs) t u p q = q ∙ ap (λ l. l ++ u) p ∙ append_assoc xs t u
 
-pub failed-counted : (old new : ℕ) → IsCounted old new → HasFailed old new
-failed-counted old new h = ⊎_elim (λ lt. inl (omega (arith, h, lt))) (λ le. inr (omega (arith, h, le))) (cases_lt old (2 ^ 64 - 1))
-
 -- a text was put, and what is put after it follows it
 pub put-then : {E : Type 0} (old mid new : Option (List ℕ)) (m n k : ℕ) (t u : List ℕ) (r : Result (Unit {0}) E) → Appends old mid t → n ≡ m → IsPut mid new n k u r → IsPut old new m k (t ++ u) r
 put-then old mid new m n k t u (Ok done) p e q = (Appends-then old mid new t u p q.0, q.1 ∙ e)
 put-then old mid new m n k t u (Err f) p e ((begun, rest, is, q), failed) =
-    ((t ++ begun, rest, ap (λ l. t ++ l) is ∙ sym (append_assoc t begun rest), Appends-then old mid new t begun p q), subst (λ a. HasFailed a k) e failed)
+    ((t ++ begun, rest, ap (λ l. t ++ l) is ∙ sym (append_assoc t begun rest), Appends-then old mid new t begun p q), subst (λ a. IsCounted a k) e failed)
 
 -- the sink failed, and nothing is put after it
 pub put-stops : {E F : Type 0} (old new : Option (List ℕ)) (m n : ℕ) (t u : List ℕ) (e : E) (f : F) → IsPut old new m n t (Err e) → IsPut old new m n (t ++ u) (Err f)
@@ -53,7 +49,7 @@ put-more old mid new text piece done n p is q = rw (take-add done n text) (Appen
 -- the sink failed within the text
 pub put-failed : {E : Type 0} (old mid new : Option (List ℕ)) (m n k : ℕ) (text : List ℕ) (done : ℕ) (e : E) → Appends old mid (take done text) → n ≡ m → Keeps mid new → IsCounted n k → IsPut old new m k text (Err e)
 put-failed old mid new m n k text done e p same kept counted =
-    ((take done text, drop done text, sym (take-append-drop done text), Appends-keeping old mid new (take done text) p kept), subst (λ a. HasFailed a k) same (failed-counted n k counted))
+    ((take done text, drop done text, sym (take-append-drop done text), Appends-keeping old mid new (take done text) p kept), subst (λ a. IsCounted a k) same counted)
 
 -- the texts of a list's items, one after the other
 module _ {Y : Type 0} (f : Y → List ℕ) (ys : List Y) (i : ℕ) (y : Y) where

@@ -16,7 +16,7 @@ use Rattle.shred.specs.Known.{Known, KnowsAll, ids_of, with_name}
 use Rattle.shred.proofs.Earlier.{entry-of_id}
 use Rattle.shred.proofs.Membership.{Contains-flat_map, Some_of, list_any_decides}
 
-contains-at : {X : Type 0} (xs : List X) (k : ℕ) (x : X) → slice_get xs k ≡ Some x → Contains xs x
+pub contains-at : {X : Type 0} (xs : List X) (k : ℕ) (x : X) → slice_get xs k ≡ Some x → Contains xs x
 contains-at xs k x at = (k, slice_get_within xs k x at, get_or_from_slice_get xs k x x at)
 
 -- what stands at a place of a list stands at the rest of the path in one of its items

@@ -1,10 +1,10 @@
 -- What a builder has come to, and the steps of its calls.
-use Rattle.std.specs.Prelude.{◌≡◌, ℕ, ◌<◌, ◌+◌, ◌-◌, ◌^◌, List, [], length, Option, None, IsSome}
+use Rattle.std.specs.Prelude.{◌≡◌, ℕ, ◌<◌, ◌+◌, ◌-◌, ◌^◌, List, [], length, Option, None, Some, IsSome}
 use Rattle.shred_world.specs.declared.id.ResourceId.{ResourceId}
 use Rattle.shred_model.specs.Plan.{Entry, Plan}
 use Rattle.shred_model.specs.Record.{Agent}
 use Rattle.shred.specs.Added.{AreSame, IsAdded}
-use Rattle.shred.specs.Earlier.{IsFromBarrier, StandsAfter, AllBeforeBarrier}
+use Rattle.shred.specs.Earlier.{HasIdAt, IsFromBarrier, StandsAfter, AllBeforeBarrier}
 use Rattle.shred.specs.Kept.{IsKept}
 use Rattle.shred.specs.Known.{Known, KnowsAll, IsFirstUnknown, ids_of, with_name}
 use Rattle.shred.specs.Placement.{IsPlaced}
@@ -20,7 +20,7 @@ pub record Built (S : Type 0) : Type 0 where
   pub barrier : ℕ
   pub next : ℕ
 
--- Nothing is planned, and no name is known.
+-- Nothing is planned, no name is known, the barrier is 0, and so is the next id.
 pub record IsNewBuilt {S : Type 0} (new : Built S) : Type 0 where
   pub plan : new.plan ≡ []
   pub states : (path : Agent) → new.states path ≡ None
@@ -45,7 +45,7 @@ pub record IsBarrierSet {S : Type 0} (old new : Built S) : Type 0 where
   pub all_before : AllBeforeBarrier new.plan new.barrier
   pub next : new.next ≡ old.next
 
--- The system is placed with the next id, after the dependencies that were known, and its name is entered; the barrier stays.
+-- The system is placed with the next id, after its dependencies, and its name is entered unless it is empty; the barrier stays, and the next id is one more.
 pub record IsAddition {S : Type 0} (old new : Built S) (name : List ℕ) (dependencies : List (List ℕ)) (reads writes : List ResourceId) (time : RunningTime) (system : S) : Type 0 where
   pub entry : Entry ResourceId
   pub kept : IsKept old.next reads writes time entry
@@ -69,3 +69,11 @@ IsRefusal known next name dependencies (NoSuchSystem place) = IsFirstUnknown kno
 IsRefusal known next name dependencies NameTaken = KnowsAll known dependencies × IsSome (known name)
 IsRefusal known next name dependencies IdsExhausted = KnowsAll known dependencies × (known name ≡ None) × (next ≡ 2 ^ 64 - 1)
 IsRefusal known next name dependencies OutOfMemory = MayAdd known next name dependencies
+
+-- The plan's ids are below the next one and each stands at one place; a known name stands for an id below it, no two names for the same id, and the empty name for none.
+pub record IsConsistent {S : Type 0} (built : Built S) : Type 0 where
+  pub below : (place : Agent) (id : ℕ) → HasIdAt built.plan place id → id < built.next
+  pub one_place : (place other : Agent) (id : ℕ) → HasIdAt built.plan place id → HasIdAt built.plan other id → place ≡ other
+  pub names_below : (name : List ℕ) (id : ℕ) → built.known name ≡ Some id → id < built.next
+  pub one_name : (name other : List ℕ) (id : ℕ) → built.known name ≡ Some id → built.known other ≡ Some id → name ≡ other
+  pub empty_unknown : built.known [] ≡ None

@@ -16,7 +16,7 @@ abbrev pub with_name : Known → List ℕ → ℕ → Known
 with_name known [] id q = known q
 with_name known (b ∷ bs) id q = cond (bytes_eq (b ∷ bs) q) (Some id) (known q)
 
--- the ids that known names stand for, in their order
+-- the ids that names stand for, in their order, with 0 for a name that is not known
 abbrev pub ids_of : Known → List (List ℕ) → List ℕ
 ids_of known names = map (λ name. unwrap_or (known name) 0) names
 

@@ -1,12 +1,12 @@
 -- Which names stand for an id.
-use Rattle.std.specs.Prelude.{◌≡◌, ◌≢◌, ℕ, ◌==◌, cond, List, [], ◌∷◌, map, Option, Some, None, is_some}
+use Rattle.std.specs.Prelude.{◌≡◌, ◌↔◌, Contains, ℕ, ◌==◌, cond, List, [], ◌∷◌, map, Option, Some, None, is_some}
 use Rattle.std.specs.Cmp.Lexicographic.{slice_cmp}
 use Rattle.std.specs.HashMap.{HashMap, get_by_text}
 use Rattle.std.specs.Option.{option_map}
 use Rattle.std.specs.Ordering.{is_lt, nat_cmp}
 use Rattle.std.specs.String.{string_bytes}
 use Rattle.std.specs.declared.string.String.{String}
-use Rattle.std.specs.declared.cmp.Ordering.TheVariants.{Greater}
+use Rattle.shred.specs.Known.{Known}
 use Rattle.shred.specs.declared.dispatch.entry.SystemId.{SystemId}
 
 -- a name, by its bytes, and the number of the id that it stands for
@@ -16,6 +16,10 @@ Pair = List ℕ × ℕ
 -- the names of a map, with what they stand for
 abbrev pub pairs_of : {Z T : Type 0} → HashMap (String Z) SystemId T → List Pair
 pairs_of names = map (λ e. (string_bytes e.0, e.1.0)) names.entries
+
+-- the pairs are the known names, each with what it stands for
+abbrev pub AreNames : List Pair → Known → Type 0
+AreNames pairs known = (name : List ℕ) (id : ℕ) → Contains pairs (name, id) ↔ (known name ≡ Some id)
 
 -- what a name stands for, if it does
 abbrev pub names_of : {Z T : Type 0} → HashMap (String Z) SystemId T → List ℕ → Option ℕ
@@ -34,11 +38,6 @@ least_of (pair ∷ pairs) id best = least_of pairs id (cond (pair.1 == id) (Some
 -- the least name, by its bytes, that stands for the id, if one does
 abbrev pub least_name : List Pair → ℕ → Option (List ℕ)
 least_name pairs id = least_of pairs id None
-
--- The name stands for the id, and no name that does is less by its bytes.
-pub record IsLeastName (names : List ℕ → Option ℕ) (id : ℕ) (name : List ℕ) : Type 0 where
-  pub stands : names name ≡ Some id
-  pub least : (other : List ℕ) → names other ≡ Some id → slice_cmp nat_cmp name other ≢ Greater
 
 -- the first id of the list that no name stands for, if there is one
 abbrev pub first_unnamed : List Pair → List ℕ → Option ℕ

@@ -3,12 +3,12 @@ use Rattle.std.specs.Prelude.{◌≡◌, ℕ, List, Option, Some, None, Result, 
 use Rattle.std.specs.Io.KnownBytes.{Appends}
 use Rattle.shred.specs.declared.dispatch.printing.PrintError.{PrintError}
 use Rattle.shred.specs.declared.dispatch.printing.PrintError.TheVariants.{Unnamed, Write}
-use Rattle.shred.specs.Sinks.{AppendsBeginning, HasFailed}
+use Rattle.shred.specs.Sinks.{AppendsBeginning, IsCounted}
 
--- the sink was given the text and did not fail, or it failed and was given a beginning of the text
+-- the sink was given the text and did not fail, or it failed once and was given a beginning of the text
 abbrev pub IsWritten : Option (List ℕ) → Option (List ℕ) → ℕ → ℕ → List ℕ → Result (Unit {0}) PrintError → Type 0
 IsWritten old new failures later text (Ok done) = Appends old new text × (later ≡ failures)
-IsWritten old new failures later text (Err Write) = AppendsBeginning old new text × HasFailed failures later
+IsWritten old new failures later text (Err Write) = AppendsBeginning old new text × IsCounted failures later
 IsWritten old new failures later text (Err (Unnamed id)) = ⊥
 
 -- where an id has no name, the first such is answered and the sink stays; where all have names, the text is written

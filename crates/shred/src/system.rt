@@ -6,6 +6,8 @@ ghost use Rattle.shred_world.specs.declared.id.ResourceId.{ResourceId};
 
 use shred_world::{Accessor, DataError, OutOfMemory, ResourceValue, View, World};
 use std::alloc::Global;
+use std::fmt::Display;
+use thiserror::Error;
 
 /// How long a system is thought to take.
 #[derive(Clone, Copy, Debug, PartialEq, Eq)]
@@ -33,9 +35,12 @@ impl RunningTime {
 }
 
 /// Why a system ended without being done.
-#[derive(Debug, Drop)]
+#[derive(Debug, Drop, Error)]
+#[error_bound(E: Display)]
 pub enum Fault<E> {
+    #[error("refused: {0}")]
     Refused(E),
+    #[error("out of memory")]
     OutOfMemory,
 }
 

@@ -89,7 +89,7 @@ AreAllOut out ids = AreOut out ids × ((id : ResourceId) → out id ≡ among id
 abbrev pub Setup : Type 0 → Type 1
 Setup V = (ResourceId → Option V) → Result (Unit {0}) WorldError → (ResourceId → Option V) → Type 0
 
--- nothing is done
+-- nothing is done, and nothing is refused
 abbrev pub NoSetup : {V : Type 0} → Setup V
 NoSetup before answer after = (answer ≡ Ok tt) × ((q : ResourceId) → after q ≡ before q)
 

@@ -28,7 +28,7 @@ map_grant m = record { reads = λ q. true; writes = λ q. true; own = λ q. true
 abbrev pub is_out_in : {V : Type 0} → Table V → ResourceId → Bool
 is_out_in t id = noted_in t id && is_vacant (slot_at t id)
 
--- all of a table: each id may be read and written, and nothing is shared
+-- all of a table, with what is out of it: each id may be read and written, and nothing is shared
 abbrev pub table_grant : {V : Type 0} → (V → Kind) → Table V → Grant V
 table_grant kind t = record { reads = λ q. true; writes = λ q. true; own = λ q. true; out = is_out_in t; held = held kind t }
 

@@ -29,13 +29,13 @@ LendsValue V s r = LendsIf (slot_row V) V s r (with_value s.now) s.now
 abbrev pub LendsResource : (V R : RattleType) → (R.Denot → V.Denot) → MutBor (Slot V.Denot) → Option (MutBor R.Denot) → Fml
 LendsResource V R wrapped s r = LendsIf (slot_row V) R s r (λ w. with_value s.now (wrapped w)) s.now
 
--- the table ends with the slot last written at the id, and all else as it was
+-- the table ends with the slot last written at the id, or as it was where there is none, and all else as it was
 abbrev pub LendsSlot : (V : RattleType) → MutBor (Table V.Denot) → ResourceId → Option (MutBor (Slot V.Denot)) → Fml
 LendsSlot V s id r = LendsSo (table_row V) (slot_row V) s r
     (λ n w. OnSome r ((q : ResourceId) → slot_at n q ≡ with_at (slot_at s.now) id (Some w) q) × ((q : ResourceId) → noted_in n q ≡ noted_in s.now q))
     (λ n. ((q : ResourceId) → slot_at n q ≡ slot_at s.now q) × ((q : ResourceId) → noted_in n q ≡ noted_in s.now q))
 
--- the table ends with the resource last written under the id, and all else as it was
+-- the table ends with the resource last written under the id, or as it was where none was lent, and all else as it was
 abbrev pub LendsHeld : (V R : RattleType) → (R.Denot → V.Denot) → MutBor (Table V.Denot) → ResourceId → Option (MutBor R.Denot) → Fml
 LendsHeld V R wrapped s id r = LendsSo (table_row V) R s r
     (λ n w. OnSome r ((q : ResourceId) → slot_at n q ≡ with_at (slot_at s.now) id (Some (record { value = Some (wrapped w) })) q) × ((q : ResourceId) → noted_in n q ≡ noted_in s.now q))
@@ -45,7 +45,7 @@ LendsHeld V R wrapped s id r = LendsSo (table_row V) R s r
 abbrev pub view_at : ℕ → ℕ → RattleType → RattleType
 view_at s a V = view_row (record { mir = named s; lft = [] }) (record { mir = named a; lft = [] }) V
 
--- the view ends with the resource last written under the id, and all else as it was
+-- the view ends with the resource last written under the id, or as it was where it was refused, and all else as it was
 abbrev pub LendsWritten : (V R : RattleType) → (V.Denot → Kind) → (R.Denot → V.Denot) → MutBor (View V.Denot) → ResourceId → {E : Type 0} → Result (MutBor R.Denot) E → Fml
 LendsWritten V R kind wrapped s id r = LendsSoOk (view_at 1 2 V) R s r
     (λ n w. IsSameView s.now n × ((q : ResourceId) → view_held kind n q ≡ with_at (view_held kind s.now) id (Some (wrapped w)) q))
@@ -71,13 +71,13 @@ EndsWith kind s id v n = (q : ResourceId) → world_held kind n q ≡ with_at (w
 abbrev pub EndsSame : {V : Type 0} → (V → Kind) → World V → World V → Type 0
 EndsSame kind s n = (q : ResourceId) → world_held kind n q ≡ world_held kind s q
 
--- the world ends with the resource last written under the id, and all else as it was
+-- the world ends with the resource last written under the id, or as it was where there is none, and all else as it was
 abbrev pub LendsGot : (V R : RattleType) → (V.Denot → Kind) → (R.Denot → V.Denot) → MutBor (World V.Denot) → ResourceId → Option (MutBor R.Denot) → Fml
 LendsGot V R kind wrapped s id r = LendsSo (world_row V) R s r
     (λ n w. OnSome r (EndsWith kind s.now id (wrapped w) n))
     (EndsSame kind s.now)
 
--- the world ends with the resource last written under the id, and all else as it was
+-- the same, or as it was where the call was refused
 abbrev pub LendsGotOk : (V R : RattleType) → (V.Denot → Kind) → (R.Denot → V.Denot) → MutBor (World V.Denot) → ResourceId → {E : Type 0} → Result (MutBor R.Denot) E → Fml
 LendsGotOk V R kind wrapped s id r = LendsSoOk (world_row V) R s r
     (λ n w. EndsWith kind s.now id (wrapped w) n)

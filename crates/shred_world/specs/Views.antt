@@ -32,7 +32,7 @@ view_held kind v id = slot_held kind id (view_slot v id)
 abbrev pub is_whole : {V : Type 0} → View V → Bool
 is_whole v = v.whole && (length v.shelf.now == 0)
 
--- whether the id is declared to be written
+-- whether the id is declared to be written and its value is the view's own, or the view is of all that a table holds
 abbrev pub may_write : {V : Type 0} → View V → ResourceId → Bool
 may_write v id = is_whole v || (among v.writes.now id && among v.owned.now id)
 

@@ -6,9 +6,11 @@ ghost use Rattle.shred_world.specs.declared.id.ResourceId.{ResourceId};
 use crate::id::ResourceId;
 use std::alloc::Global;
 use std::marker::PhantomData;
+use thiserror::Error;
 
 /// Memory was refused.
-#[derive(Clone, Copy, Debug, PartialEq, Eq)]
+#[derive(Clone, Copy, Debug, PartialEq, Eq, Error)]
+#[error("out of memory")]
 pub struct OutOfMemory;
 
 /// The ids that a system reads, and those that it writes.

@@ -1,7 +1,6 @@
 pub mod Changed
 pub mod Declares
 pub mod FirstHeld
-pub mod KnownNames
 pub mod Lines
 pub mod Reported
 pub mod Runs

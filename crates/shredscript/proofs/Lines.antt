@@ -1,7 +1,7 @@
 -- Lines that are taken one after another.
 use Rattle.std.proofs.Common.{◌≡◌, ℕ, List, [], ◌∷◌, ◌++◌, refl, sym, ◌∙◌, ap, subst, append_assoc}
 use Rattle.shred_world.specs.declared.id.ResourceId.{ResourceId}
-use Rattle.shred.specs.Built.{Built, IsAddition, IsNewBuilt}
+use Rattle.shred.specs.Built.{Built, IsAddition, IsNewBuilt, MayAdd}
 use Rattle.shredscript.specs.declared.script.PlanLine.{PlanLine}
 use Rattle.shredscript.specs.declared.script.SystemLine.{SystemLine}
 use Rattle.shredscript.specs.declared.system.ScriptSystem.{ScriptSystem}
@@ -11,11 +11,12 @@ use Rattle.shredscript.specs.Lines.{AreTaken, IsAdded, IsBuiltBy, IsTaken, neede
 -- a system with a line's steps and time was added by what it declares itself
 pub added-by : (line : SystemLine) (old new : Built ScriptSystem) (system : ScriptSystem) (needs : List (List ℕ)) (reads writes : List ResourceId) → needs ≡ needed line
     → system.steps.items ≡ line.steps.items → system.time ≡ line.time → reads ≡ read_ids system.steps.items → writes ≡ write_ids system.steps.items
-    → IsAddition old new line.name.now needs reads writes system.time system → IsAdded line old new
-added-by line old new system needs reads writes n s t r w h = record {
+    → MayAdd old.known old.next line.name.now needs → IsAddition old new line.name.now needs reads writes system.time system → IsAdded line old new
+added-by line old new system needs reads writes n s t r w allowed h = record {
   system = system;
   steps = s;
   time = t;
+  allowed = subst (MayAdd old.known old.next line.name.now) n allowed;
   addition = subst (λ x. IsAddition old new line.name.now (needed line) (read_ids line.steps.items) (write_ids line.steps.items) x system) t
       (subst (λ x. IsAddition old new line.name.now (needed line) (read_ids line.steps.items) x system.time system) (w ∙ ap write_ids s)
       (subst (λ x. IsAddition old new line.name.now (needed line) x writes system.time system) (r ∙ ap read_ids s)

@@ -7,7 +7,7 @@ use Rattle.shred_model.specs.Record.{Agent}
 use Rattle.shred_model.specs.States.{setting_of}
 use Rattle.shred_world.specs.declared.id.ResourceId.{ResourceId}
 use Rattle.shred.specs.Built.{Built}
-use Rattle.shred.specs.Names.{Pair}
+use Rattle.shred.specs.Names.{AreNames, Pair}
 use Rattle.shred.specs.Steps.{Held}
 use Rattle.std.specs.Prelude.{IfOk, Option, Result, Ok, Err}
 use Rattle.shredscript.specs.declared.error.ScriptError.{ScriptError}
@@ -17,7 +17,7 @@ use Rattle.shredscript.specs.declared.script.Script.{Script}
 use Rattle.shredscript.specs.declared.system.ScriptSystem.{ScriptSystem}
 use Rattle.shredscript.specs.declared.value.Value.{Value}
 use Rattle.shredscript.specs.Lines.{IsBuiltBy}
-use Rattle.shredscript.specs.PlanTexts.{AreNames, IsNotPlanned, IsPlanPart}
+use Rattle.shredscript.specs.PlanTexts.{IsNotPlanned, IsPlanPart}
 use Rattle.shredscript.specs.Report.{first_held, names_of}
 use Rattle.shredscript.specs.Runs.{IsDispatch, IsNotRun, IsRunOf}
 

@@ -1,5 +1,5 @@
 -- How far a text is written.
-use Rattle.std.proofs.Common.{◌≡◌, ℕ, ◌+◌, ◌≤◌, List, [], ◌++◌, length, take, drop, take-add, take_all, Option, Result, Ok, sym, ◌∙◌, ap, subst}
+use Rattle.std.proofs.Common.{◌≡◌, ℕ, ◌+◌, ◌≤◌, List, [], ◌++◌, length, take, drop, take-add, take_all, Option, Result, Ok, Err, OnOk, OnErr, sym, ◌∙◌, ap, subst}
 use Rattle.std.proofs.KnownBytes.{Appends-kept, Appends-trans}
 use Rattle.std.proofs.lemmas.List.{append-nil, take-append-drop}
 use Rattle.std.specs.Io.KnownBytes.{Appends, Keeps, WriteAppends}
@@ -24,6 +24,11 @@ pub written-none : {E : Type 0} (old mid new : Option (List ℕ)) (text piece : 
 written-none old mid new text piece done count answer so_far is none wrote =
     let taken : Appends mid new [] = subst (λ n. Appends mid new (take n piece)) none (subst (λ a. WriteAppends mid new a piece) is wrote) in
     (take done text, drop done text, sym (take-append-drop done text), subst (λ t. Appends old new t) (append-nil (take done text)) (Appends-trans old mid new (take done text) [] so_far taken))
+
+-- what was written of a text is a beginning of it, all of it among them
+pub written-some : {E : Type 0} (old new : Option (List ℕ)) (text : List ℕ) (answer : Result (Unit {0}) E) → OnOk answer (Appends old new text) → OnErr answer (AppendsBeginning old new text) → AppendsBeginning old new text
+written-some old new text (Ok done) whole begun = (text, [], sym (append-nil text), whole)
+written-some old new text (Err e) whole begun = begun
 
 -- all of the text is written
 pub written-all : (old new : Option (List ℕ)) (text : List ℕ) (done : ℕ) → length text ≤ done → Appends old new (take done text) → Appends old new text

@@ -26,7 +26,7 @@ abbrev pub operand_number : Held Value → Operand → Option ℤ
 operand_number seen (Number number) = Some number
 operand_number seen (Resource source) = number_at seen source
 
--- what an operation makes of two numbers; a number that is missing is refused as the view refuses it
+-- what an operation makes of two numbers; where a number is missing it is refused as `undeclared`
 abbrev pub combined : Operation → Option ℤ → Option ℤ → Result ℤ (Fault Refusal)
 combined operation (Some value) (Some operand) = fitted (value_of operation value operand)
 combined operation (Some value) None = Err (Refused Undeclared)

@@ -1,6 +1,6 @@
 -- What the lines of a script make of a builder.
 use Rattle.std.specs.Prelude.{◌≡◌, ℕ, List, [], ◌∷◌, ◌++◌}
-use Rattle.shred.specs.Built.{Built, IsAddition, IsBarrierSet, IsNewBuilt, IsRefusal}
+use Rattle.shred.specs.Built.{Built, IsAddition, IsBarrierSet, IsNewBuilt, IsRefusal, MayAdd}
 use Rattle.shred.specs.Known.{texts_of}
 use Rattle.shred.specs.declared.dispatch.add_error.AddError.{AddError}
 use Rattle.shred.specs.declared.dispatch.add_error.AddError.TheVariants as builder
@@ -18,11 +18,12 @@ use Rattle.shredscript.specs.Declares.{read_ids, write_ids}
 abbrev pub needed : SystemLine → List (List ℕ)
 needed line = texts_of line.dependencies.items
 
--- A system of the line's steps and time is added under the line's name, after those that it depends on.
+-- The line's name is new and those that it depends on are known, and a system of its steps and time is added under that name, after them.
 pub record IsAdded (line : SystemLine) (old new : Built ScriptSystem) : Type 0 where
   pub system : ScriptSystem
   pub steps : system.steps.items ≡ line.steps.items
   pub time : system.time ≡ line.time
+  pub allowed : MayAdd old.known old.next line.name.now (needed line)
   pub addition : IsAddition old new line.name.now (needed line) (read_ids line.steps.items) (write_ids line.steps.items) line.time system
 
 -- what a line makes of a builder: its system is added, or the barrier is set

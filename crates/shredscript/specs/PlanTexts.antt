@@ -2,19 +2,12 @@
 use Rattle.std.specs.Prelude.{◌≡◌, ℕ, Bool, true, false, None, Some, List, [], ◌++◌}
 use Rattle.shred_model.specs.Plan.{Plan, plan_ids}
 use Rattle.shred_world.specs.declared.id.ResourceId.{ResourceId}
-use Rattle.std.specs.Map.{lookup}
-use Rattle.std.specs.Str.{bytes_eq}
-use Rattle.shred.specs.Known.{Known}
 use Rattle.shred.specs.Names.{Pair, first_unnamed}
 use Rattle.shred.specs.Printed.{line_feed, plan_text}
 use Rattle.shred.specs.StagePlan.{widest}
 use Rattle.shredscript.specs.declared.error.ScriptError.{ScriptError}
 use Rattle.shredscript.specs.declared.error.ScriptError.TheVariants.{TooLong, InputFailed, Line, Refused, Unnamed, OutOfMemory, OutputFailed}
 use Rattle.shredscript.specs.Texts.{line_of, threads_text}
-
--- these are the names that are known, each with what it stands for
-abbrev pub AreNames : List Pair → Known → Type 0
-AreNames names known = (name : List ℕ) → known name ≡ lookup (bytes_eq name) names
 
 -- each system of the plan has a name, and the text is the printed plan and a line feed
 abbrev pub IsPrint : List Pair → Plan ResourceId → List ℕ → Type 0
@@ -35,7 +28,7 @@ abbrev pub IsPlanPart : Bool → List Pair → Plan ResourceId → List ℕ → 
 IsPlanPart true names plan text = (print : List ℕ) × IsPrint names plan print × (text ≡ print ++ line_of (threads_text (widest plan)))
 IsPlanPart false names plan text = text ≡ []
 
--- why it is not made: the plan is asked for and is not printed, or memory is refused
+-- why it is not made: the plan is asked for, and is not printed or memory is refused
 abbrev pub IsNotPlanned : Bool → List Pair → Plan ResourceId → ScriptError → Type 0
 IsNotPlanned true names plan error = IsNotPrinted names plan error
 IsNotPlanned false names plan error = ⊥

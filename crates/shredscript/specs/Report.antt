@@ -27,6 +27,6 @@ abbrev pub value_lines : ℕ → List (List ℕ) → Held Value → List ℕ
 value_lines place [] held = []
 value_lines place (name ∷ names) held = value_line name (number_at held place) ++ value_lines (place + 1) names held
 
--- a line for each resource, and one for how the run ended
+-- a line for each resource that is held, and one for how the run ended
 abbrev pub report : List (List ℕ) → Held Value → Outcome → List ℕ
 report names held outcome = value_lines 0 names held ++ line_of (outcome_text outcome)

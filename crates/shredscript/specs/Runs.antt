@@ -1,5 +1,5 @@
 -- Runs of scripts.
-use Rattle.std.specs.Prelude.{◌≡◌, ℕ, ◌≤◌, true, List, ◌++◌, length, Option, Some, Result, Ok, Err, OnOk}
+use Rattle.std.specs.Prelude.{◌≡◌, ℕ, ◌≤◌, true, List, ◌++◌, length, Option, Some, Result, Ok, Err, OnOk, IfErr}
 use Rattle.std.specs.Io.KnownBytes.{Appends, Consumes, IsAtEnd, Keeps}
 use Rattle.indexmap.specs.IndexMap.{values}
 use Rattle.shred_model.specs.OneThread.{LeavesAsOneThread}
@@ -10,7 +10,7 @@ use Rattle.shred_model.specs.Runs.{Answer}
 use Rattle.shred_model.specs.States.{setting_of}
 use Rattle.shred_world.specs.declared.id.ResourceId.{ResourceId}
 use Rattle.shred.specs.Built.{Built}
-use Rattle.shred.specs.Names.{Pair, first_unnamed}
+use Rattle.shred.specs.Names.{AreNames, Pair, first_unnamed}
 use Rattle.shred.specs.Plans.{PlanRun}
 use Rattle.shred.specs.Sinks.{AppendsBeginning}
 use Rattle.shred.specs.Steps.{Held, Outcome as Ends}
@@ -26,9 +26,10 @@ use Rattle.shredscript.specs.declared.value.Value.{Value}
 use Rattle.shredscript.specs.Endings.{outcome_of, status_of}
 use Rattle.shredscript.specs.Input.{IsLongerThan}
 use Rattle.shredscript.specs.Lines.{IsBuiltBy, IsStopped}
-use Rattle.shredscript.specs.PlanTexts.{AreNames, IsPlanPart}
+use Rattle.shredscript.specs.PlanTexts.{IsPlanPart}
 use Rattle.shredscript.specs.Report.{first_held, names_of, report}
 use Rattle.shredscript.specs.Steps.{steps_left, steps_outcome}
+use Rattle.shredscript.specs.Texts.{error_text, line_of}
 use Rattle.shredscript.specs.Value.{kind_of}
 
 -- what a run of a script's system does: its steps, in order; the system stays as it was
@@ -92,7 +93,7 @@ IsReported (Err (Line number fault)) old new = Keeps old new
 IsReported (Err (Refused number refusal)) old new = Keeps old new
 IsReported (Err (Unnamed id)) old new = Keeps old new
 
--- all that was left was read, and it is not too long
+-- all that was left, where that is known, was read, and it is not too long
 abbrev pub IsRead : Option (List ℕ) → Option (List ℕ) → Type 0
 IsRead old new = (text : List ℕ) × (length text ≤ MOST_BYTES) × Consumes old new text × IsAtEnd new
 
@@ -107,10 +108,11 @@ IsReadFor (Err TooLong) old new = IsLongerThan MOST_BYTES old
 IsReadFor (Err InputFailed) old new = Unit {0}
 IsReadFor (Err OutOfMemory) old new = Unit {0}
 
--- A script's run ended somehow: the status says how, what it needs was read, standard output was told of it, and standard error was told nothing of an outcome.
+-- A script's run ended somehow: the status says how, what it needs was read, standard output was told of it, and standard error nothing of an outcome and of an error its line, or a beginning of it.
 pub record HasEnded (status : ℕ) (script script_left out out_after err err_after : Option (List ℕ)) : Type 0 where
   pub ending : Result Outcome ScriptError
   pub status_is : status ≡ status_of ending
   pub read : IsReadFor ending script script_left
   pub reported : IsReported ending out out_after
   pub quiet : OnOk ending (Keeps err err_after)
+  pub told : IfErr ending (λ error. AppendsBeginning err err_after (line_of (error_text error)))

@@ -40,7 +40,7 @@ outcome_text (StageMemory stage) = codes "stage " ++ decimal stage ++ codes " ou
 abbrev pub value_text : List ℕ → ℤ → List ℕ
 value_text name value = name ++ codes "=" ++ signed_decimal value
 
--- the greatest number of groups in a stage
+-- a number of threads
 abbrev pub threads_text : ℕ → List ℕ
 threads_text threads = codes "threads " ++ decimal threads
 

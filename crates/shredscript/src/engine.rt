@@ -1,6 +1,5 @@
 //! From a script's bytes to its outcome's.
-ghost use Rattle.std.specs.Prelude.{OnOk};
-ghost use Rattle.std.specs.Io.KnownBytes.{Appends};
+ghost use Rattle.shred.specs.Sinks.{AppendsBeginning};
 ghost use Rattle.shredscript.specs.Runs.{HasEnded, IsReadFor, IsReported};
 ghost use Rattle.shredscript.specs.Texts.{error_text, line_of};
 
@@ -10,10 +9,13 @@ use crate::outcome::Outcome;
 use crate::output::print;
 use crate::run_plan::run_plan;
 use crate::script::Script;
+use arrayvec::ArrayVec;
 use std::alloc::Global;
-use std::io;
 use std::io::{Read, Write};
 use std::thread::Threads;
+
+/// The most bytes of an error's line.
+const MOST_LINE_BYTES: usize = 96;
 
 /// Reads a script, runs it and prints what it left to `out`, or why it is not run to `err`. Gives the exit status:
 /// 0 where all is well, 1 for a fault of the script, a failed read or a failed write to `out`, 2 for a refusal, of a line
@@ -30,7 +32,7 @@ pub fn run<T: Threads + Sync, R: Read, O: Write, E: Write>(
     match run_script(rt, alloc, reader, out) {
         Ok(outcome) => outcome.status(),
         Err(error) => {
-            let _ = tell(err, error);
+            tell(err, error);
             error.status()
         }
     }
@@ -62,9 +64,12 @@ fn run_script<T: Threads + Sync, R: Read, O: Write>(
     }
 }
 
-fn tell<E: Write>(err: &mut E, error: ScriptError) -> io::Result<()>
-    ensures { OnOk result (Appends (E.contents err.old) (E.contents err.new) (line_of (error_text error))) }
+// Writes the error's line, or a beginning of it where that fails.
+fn tell<E: Write>(err: &mut E, error: ScriptError)
+    ensures { AppendsBeginning (E.contents err.old) (E.contents err.new) (line_of (error_text error)) }
 {
-    writeln!(err, "{error}")?;
-    err.flush()
+    let mut line: ArrayVec<u8, MOST_LINE_BYTES> = ArrayVec::new();
+    if let Ok(()) = writeln!(line, "{error}") {
+        let _ = print(err, line.as_slice());
+    }
 }

@@ -26,7 +26,9 @@ impl PlanSink for PlanText {
         match self.bytes.extend_from_slice(piece) {
             Ok(()) => Ok(piece.len()),
             Err(_) => {
-                self.failures = self.failures.saturating_add(1);
+                if self.failures < usize::MAX {
+                    self.failures += 1;
+                }
                 Err(SinkFailed)
             }
         }

@@ -32,7 +32,7 @@ use std::thread::Threads;
 /// A dispatcher of a script's systems.
 type ScriptDispatcher = Dispatcher<Value, ScriptSystem>;
 
-/// The most bytes of a line of a report behind the name: a sign, a number of 64 bits and a line feed.
+/// The most bytes of a line of a report behind the name: `=`, a number of 64 bits with sign and a line feed.
 const MOST_VALUE_BYTES: usize = 22;
 
 /// The most bytes of the line that says how a run ended.

@@ -3,10 +3,12 @@ use crate::chosen::{Choice, Chosen};
 use crate::lent_calls::{set_lent_count, take_and_give_back};
 use crate::values::{Count, Flag, Value};
 use shred::{
-    Accessor, BatchAccessor, DataError, DynamicSystemData, Read, ResourceId, World, Write,
+    Accessor, BatchAccessor, DataError, DynamicSystemData, Read, ReadExpect, ResourceId,
+    SystemData, World, Write,
 };
 use std::alloc::Global;
 use std::marker::PhantomData;
+use std::ops::Deref;
 use std::test::Fail;
 
 fn count_id() -> ResourceId {
@@ -34,6 +36,28 @@ fn a_bundle_on_a_world_shows_what_is_held(rt: HostRuntime) -> Result<(), Fail> {
         Err(_) => return Err("refused")?,
     }
     assert!(rt; world.has_value::<Count>());
+    Ok(())
+}
+
+// The count that a bundle on the world shows.
+fn count_shown<'s, D: SystemData<'s, Value> + Deref<Target = Count>>(
+    world: &mut World<Value>,
+) -> Result<i64, DataError> {
+    match world.system_data::<D>() {
+        Ok(lent) => {
+            let count = lent.deref().deref().0;
+            lent.give_back();
+            Ok(count)
+        }
+        Err(error) => Err(error),
+    }
+}
+
+#[test]
+fn a_bundle_on_a_world_reads_what_is_held(rt: HostRuntime) -> Result<(), Fail> {
+    let mut world = world_of_five(rt.alloc())?;
+    assert_eq!(rt; count_shown::<ReadExpect<Count>>(&mut world), Ok(5));
+    assert_eq!(rt; count_shown::<Write<Count>>(&mut world), Ok(5));
     Ok(())
 }
 

@@ -5,8 +5,8 @@ ghost use Rattle.shredtest.specs.Values.{count_kind};
 
 use crate::values::{Count, Value};
 use shred::{
-    Accessor, DispatchError, Dispatcher, Fault, Kind, OutOfMemory, ResourceId, RunningTime,
-    StagesBuilder, System, SystemId, View, World, new_dispatcher,
+    Accessor, DispatchError, Dispatcher, Fault, Kind, OutOfMemory, ResourceId, RunningTime, Stage,
+    StageFault, StagesBuilder, System, SystemId, View, World, new_dispatcher,
 };
 use std::alloc::Global;
 use std::test::Fail;
@@ -100,7 +100,7 @@ impl System<Value> for Adds {
 /// A count's number, what is added, the code and the time.
 type Row = (u64, i64, u8, RunningTime);
 
-fn dispatcher_of(alloc: Global, rows: &[Row]) -> Result<Dispatcher<Value, Adds>, OutOfMemory> {
+fn stages_of(alloc: Global, rows: &[Row]) -> Result<Vec<Stage<Value, Adds>>, OutOfMemory> {
     let mut builder = StagesBuilder::new(alloc);
     for (id, row) in rows.iter().enumerate() {
         let (number, amount, code, time) = *row;
@@ -112,7 +112,14 @@ fn dispatcher_of(alloc: Global, rows: &[Row]) -> Result<Dispatcher<Value, Adds>,
         };
         builder.insert(&[], SystemId(id), system)?;
     }
-    Ok(new_dispatcher(builder.build()))
+    Ok(builder.build())
+}
+
+fn dispatcher_of(alloc: Global, rows: &[Row]) -> Result<Dispatcher<Value, Adds>, OutOfMemory> {
+    match stages_of(alloc, rows) {
+        Ok(stages) => Ok(new_dispatcher(stages)),
+        Err(e) => Err(e),
+    }
 }
 
 fn world_of(alloc: Global, counts: u64) -> Result<World<Value>, Fail> {
@@ -193,6 +200,35 @@ fn a_refusal_ends_its_group_and_the_dispatch(rt: HostRuntime) -> Result<(), Fail
     for world in [&in_order, &beside] {
         assert_eq!(rt; count_at(world, 0), Some(1));
         assert_eq!(rt; count_at(world, 1), Some(5));
+    }
+    Ok(())
+}
+
+fn code_of(answer: Result<(), StageFault<u8>>) -> Option<(usize, u8)> {
+    match answer {
+        Err(
+            StageFault::System {
+                id: SystemId(id),
+                fault: Fault::Refused(code),
+            },
+        ) => Some((id, code)),
+        _ => None,
+    }
+}
+
+#[test]
+fn a_stage_is_run_alone(rt: HostRuntime) -> Result<(), Fail> {
+    let mut in_order = world_of(rt.alloc(), 2)?;
+    let mut beside = world_of(rt.alloc(), 2)?;
+    let mut stages = stages_of(rt.alloc(), &REFUSED)?;
+    assert_eq!(rt; stages.len(), 2);
+    assert_eq!(rt; code_of(stages[0].execute_seq(&mut in_order)), Some((1, 7)));
+    assert!(rt; stages[1].execute_seq(&mut in_order).is_ok());
+    assert_eq!(rt; code_of(stages[0].execute(&rt, &mut beside)), Some((1, 7)));
+    assert!(rt; stages[1].execute(&rt, &mut beside).is_ok());
+    for world in [&in_order, &beside] {
+        assert_eq!(rt; count_at(world, 0), Some(1));
+        assert_eq!(rt; count_at(world, 1), Some(105));
     }
     Ok(())
 }

@@ -2,7 +2,7 @@
 
 use crate::plain_plan::PlainPlan;
 use crate::planner_tests::{Case, OnlyPlanned, described, next, numbered, plain_entry, system_of};
-use crate::script::fakes::FailingWriter;
+use crate::script::fakes::{FailingWriter, SlowWriter, Stop};
 use crate::slow_placement::slow_placement;
 use crate::values::Value;
 use shred::{
@@ -185,6 +185,39 @@ fn a_failed_write_leaves_a_beginning(rt: HostRuntime) -> Result<(), Fail> {
         let (beginning, _) = FIVE.as_bytes().split_at(taken);
         assert_eq!(rt; writer.written(), beginning);
     }
+    Ok(())
+}
+
+fn printed_slowly(builder: &Builder, writer: &mut SlowWriter) -> Result<(), PrintError> {
+    let mut sink = ToWriter::new(writer);
+    builder.print_par_seq(&mut sink)
+}
+
+#[test]
+fn nothing_is_put_after_a_failure(rt: HostRuntime) -> Result<(), Fail> {
+    let alloc = rt.alloc();
+    let builder = five(&rt, alloc)?;
+    for place in 0..FIVE.len() {
+        let (beginning, _) = FIVE.as_bytes().split_at(place);
+        for stop in [Stop::TakesNothing, Stop::Fails, Stop::IsInterrupted] {
+            let mut writer = SlowWriter::stopping_at(alloc, place, stop);
+            assert_eq!(rt;
+                printed_slowly(&builder, &mut writer),
+                Err(PrintError::Write)
+            );
+            assert_eq!(rt; writer.written(), beginning);
+        }
+    }
+    Ok(())
+}
+
+#[test]
+fn a_plan_is_put_byte_by_byte(rt: HostRuntime) -> Result<(), Fail> {
+    let alloc = rt.alloc();
+    let builder = five(&rt, alloc)?;
+    let mut writer = SlowWriter::without_stop(alloc);
+    assert_eq!(rt; printed_slowly(&builder, &mut writer), Ok(()));
+    assert_eq!(rt; writer.written(), FIVE.as_bytes());
     Ok(())
 }
 

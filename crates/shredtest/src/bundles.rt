@@ -56,6 +56,35 @@ fn parts_are_tested_in_their_order(rt: HostRuntime) -> Result<(), Fail> {
 }
 
 #[test]
+fn single_calls_are_tested_in_the_same_order(rt: HostRuntime) -> Result<(), Fail> {
+    let mut world: World<Value> = World::empty(rt.alloc());
+    world.insert(Count(1)).map_err(|_| "memory")?;
+    let reads = [id(X), id(Z)];
+    let writes = [id(X), id(Y)];
+    let mut view = world.lend(&reads, &writes);
+    let wrong = DataError::WrongKind { asked: Y, found: X };
+    assert_eq!(rt; view.read::<Name>(id(X)).err(), Some(wrong));
+    assert_eq!(rt; view.write::<Name>(id(X)).err(), Some(wrong));
+    assert_eq!(rt;
+        view.write::<Flag>(id(Z)).err(),
+        Some(DataError::Undeclared(id(Z)))
+    );
+    assert_eq!(rt;
+        view.read::<Flag>(id(Z)).err(),
+        Some(DataError::Missing(id(Z)))
+    );
+    assert_eq!(rt;
+        view.write::<Name>(id(Y)).err(),
+        Some(DataError::Missing(id(Y)))
+    );
+    if let Ok(count) = view.write::<Count>(id(X)) {
+        *count = Count(4);
+    }
+    assert_eq!(rt; view.read::<Count>(id(X)).copied(), Ok(Count(4)));
+    Ok(())
+}
+
+#[test]
 fn a_written_id_goes_out_once(rt: HostRuntime) -> Result<(), Fail> {
     let mut world: World<Value> = World::empty(rt.alloc());
     world.insert(Name(2)).map_err(|_| "memory")?;

@@ -4,6 +4,8 @@
 #[cfg(test)]
 mod accessor_tests;
 #[cfg(test)]
+mod asked_once;
+#[cfg(test)]
 mod both_ways;
 #[cfg(test)]
 mod builder_tests;
@@ -12,6 +14,8 @@ mod bundles;
 pub mod chosen;
 #[cfg(test)]
 mod dependency_tests;
+#[cfg(test)]
+mod error_tests;
 #[cfg(test)]
 mod exec_tests;
 #[cfg(test)]

@@ -1,5 +1,5 @@
 //! Whole runs, from a script's bytes to what is printed.
-use fakes::{FailingReader, FailingWriter, InterruptedReader, RepeatingReader};
+use fakes::{FailingReader, FailingWriter, InterruptedReader, RepeatingReader, SlowWriter, Stop};
 use shredscript::run;
 use std::alloc::{AllocError, Global};
 use std::io::Read;
@@ -260,6 +260,44 @@ fn a_failed_write_of_a_fault_changes_no_status(rt: HostRuntime) {
             run(&rt, rt.alloc(), &mut reader, &mut out, &mut err),
             status
         );
+    }
+}
+
+#[test]
+fn a_failed_write_of_a_fault_leaves_a_beginning(rt: HostRuntime) {
+    for (script, told) in [
+        ("res X", "line 1: bad word\n"),
+        ("sys a short a", "line 1: no such system at 0\n"),
+        ("plan\nsys - short -", "unnamed system 0\n"),
+    ] {
+        for after in 0..told.len() {
+            let mut reader = script.as_bytes();
+            let mut out = Vec::new(rt.alloc());
+            let mut err = FailingWriter::after(rt.alloc(), after);
+            let _ = run(&rt, rt.alloc(), &mut reader, &mut out, &mut err);
+            let (beginning, _) = told.as_bytes().split_at(after);
+            assert_eq!(rt; err.written(), beginning, "{script:?} after {after}");
+        }
+    }
+}
+
+/// How a run ends whose output stops so at this call.
+fn status_at(rt: &(impl AllocGlobal + Threads + Sync), out: &mut SlowWriter) -> u8 {
+    let mut reader = SCRIPT.as_bytes();
+    let mut err = Vec::new(rt.alloc());
+    run(rt, rt.alloc(), &mut reader, out, &mut err)
+}
+
+#[test]
+fn writes_on_after_an_interruption_alone(rt: HostRuntime) {
+    for call in 0..PRINTED.len() {
+        let mut out = SlowWriter::stopping_at(rt.alloc(), call, Stop::IsInterrupted);
+        assert_eq!(rt; status_at(&rt, &mut out), 2);
+        assert_eq!(rt; out.written(), PRINTED.as_bytes());
+        let mut full = SlowWriter::stopping_at(rt.alloc(), call, Stop::TakesNothing);
+        assert_eq!(rt; status_at(&rt, &mut full), 1);
+        let (beginning, _) = PRINTED.as_bytes().split_at(call);
+        assert_eq!(rt; full.written(), beginning);
     }
 }
 

@@ -201,3 +201,16 @@ fn every_part_shows_what_is_held(rt: HostRuntime) -> Result<(), Fail> {
     assert_eq!(rt; view.read::<Name>(id(1)).copied(), Ok(Name(2)));
     Ok(())
 }
+
+#[test]
+fn the_first_part_and_the_last_are_set_up(rt: HostRuntime) -> Result<(), Fail> {
+    type One<'s> = (Read<'s, Count>,);
+    type Eight<'s> = (Write<Flag>, (), (), (), (), (), (), Read<'s, Count>);
+    let mut world: World<Value> = World::empty(rt.alloc());
+    assert_eq!(rt; world.setup::<One>(), Ok(()));
+    assert_eq!(rt; world.remove::<Count>(), Some(Count(0)));
+    assert_eq!(rt; world.setup::<Eight>(), Ok(()));
+    assert_eq!(rt; world.remove::<Count>(), Some(Count(0)));
+    assert_eq!(rt; world.remove::<Flag>(), Some(Flag(false)));
+    Ok(())
+}

@@ -1,5 +1,8 @@
 //! The builder of dispatchers.
+ghost use Rattle.std.specs.HashMap.{IsUnique};
 ghost use Rattle.std.specs.Prelude.{◌≡◌, ◌++◌, ℕ, List, Some, true, IfOk, OnOk, OnErr, IfErr};
+ghost use Rattle.std.specs.String.{string_eq};
+ghost use Rattle.std.proofs.Props.{props};
 ghost use Rattle.shred_model.specs.Plan.{plan_ids};
 ghost use Rattle.shred_model.specs.Record.{Agent};
 ghost use Rattle.shred.specs.BuilderPlan.{planned};
@@ -7,7 +10,7 @@ ghost use Rattle.shred.specs.Built.{IsAddition, IsBarrierSet, IsNewBuilt, IsRefu
 ghost use Rattle.shred.specs.Dispatchers.{dispatcher_plan, dispatcher_states};
 ghost use Rattle.shred.specs.Earlier.{plan_has};
 ghost use Rattle.shred.specs.Known.{texts_of};
-ghost use Rattle.shred.specs.Names.{first_unnamed, names_of};
+ghost use Rattle.shred.specs.Names.{AreNames, first_unnamed, names_of};
 ghost use Rattle.shred.specs.Printed.{line_feed, plan_text};
 ghost use Rattle.shred.specs.Prints.{IsPrinted};
 
@@ -33,6 +36,7 @@ pub struct DispatcherBuilder<V: ResourceValue, S: System<V>> {
     stages: StagesBuilder<V, S>,
     names: HashMap<String, SystemId>,
     next: usize,
+    ghost distinct_names: { IsUnique string_eq names } by { Prim.hlevel props },
     ghost known_planned: { (name : List ℕ) (id : ℕ) → names_of names name ≡ Some id → plan_has (planned stages) id ≡ true },
 }
 
@@ -79,10 +83,11 @@ impl<V: ResourceValue, S: System<V>> DispatcherBuilder<V, S> {
     }
 
     /// Puts the plan's text and a line feed into the sink. Where a system has no name, nothing is put, and the answer names
-    /// the first such id in the plan's order. It takes no memory.
+    /// the first such id in the plan's order. The printed names are the known ones. It takes no memory.
     pub fn print_par_seq<W: PlanSink>(&self, sink: &mut W) -> Result<(), PrintError>
-        ensures { let plan = (built self.now).plan in let pairs = builder_pairs self.now in
+        ensures printed { let plan = (built self.now).plan in let pairs = builder_pairs self.now in
             IsPrinted W.told W.failures sink.old sink.new (first_unnamed pairs (plan_ids plan)) (plan_text pairs plan ++ line_feed) result }
+        ensures names { AreNames (builder_pairs self.now) (built self.now).known }
     {
         self.stages.print(sink, &self.names, b"\n")
     }

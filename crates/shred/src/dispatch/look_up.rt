@@ -1,7 +1,9 @@
 //! The names of a builder's systems.
 ghost use Rattle.std.specs.Prelude.{◌≡◌, List, ℕ, Option, None, Some, cond, is_some, MatchOption, IfOk, OnOk, OnErr};
 ghost use Rattle.std.specs.Option.{option_map};
+ghost use Rattle.std.specs.HashMap.{IsUnique};
 ghost use Rattle.std.specs.Str.{bytes_eq};
+ghost use Rattle.std.specs.String.{string_eq};
 ghost use Rattle.shred.specs.Known.{ids_of, texts_of, with_name, IsFirstUnknown, KnowsAll};
 ghost use Rattle.shred.specs.Names.{names_of};
 ghost use Rattle.shred.specs.PlanOf.{numbers_of};
@@ -57,6 +59,7 @@ pub(crate) fn enter(
 ) -> Result<(), OutOfMemory>
     ensures ok { OnOk result ((q : List ℕ) → names_of names.new q ≡ with_name (names_of names.old) name.now id.0 q) }
     ensures err { OnErr result ((q : List ℕ) → names_of names.new q ≡ names_of names.old q) }
+    ensures distinct { IsUnique string_eq names.old → IsUnique string_eq names.new }
 {
     if name.is_empty() {
         return Ok(());
@@ -72,7 +75,8 @@ pub(crate) fn enter(
 
 /// Takes the name away.
 pub(crate) fn forget(names: &mut HashMap<String, SystemId>, name: &str)
-    ensures { (q : List ℕ) → names_of names.new q ≡ cond (bytes_eq name.now q) None (names_of names.old q) }
+    ensures forgotten { (q : List ℕ) → names_of names.new q ≡ cond (bytes_eq name.now q) None (names_of names.old q) }
+    ensures distinct { IsUnique string_eq names.new }
 {
     let _ = names.remove(name);
 }

@@ -16,13 +16,16 @@ use crate::dispatch::stage::Stage;
 use crate::system::System;
 use shred_world::ResourceValue;
 use std::collections::HashMap;
+use thiserror::Error;
 
 /// Why a plan was not printed.
-#[derive(Clone, Copy, Debug, PartialEq, Eq)]
+#[derive(Clone, Copy, Debug, PartialEq, Eq, Error)]
 pub enum PrintError {
     /// No name stands for this id, the first such in the plan's order. Nothing was written.
+    #[error("unnamed system {}", .0.0)]
     Unnamed(SystemId),
     /// The sink failed. What was written is a beginning of the text.
+    #[error("the write failed")]
     Write,
 }
 

@@ -20,13 +20,18 @@ use crate::dispatch::entry::{Entry, Group, SystemId};
 use crate::dispatch::hands::make_entry_rooms;
 use crate::system::{Fault, System};
 use shred_world::{OutOfMemory, ResourceId, ResourceValue, Shelf, Table, View};
+use std::fmt::Display;
+use thiserror::Error;
 
 /// Why a stage did not end as Done.
-#[derive(Debug, Drop)]
+#[derive(Debug, Drop, Error)]
+#[error_bound(E: Display)]
 pub enum StageFault<E> {
     /// The entry of this id ended with a fault, the first in plan order.
+    #[error("system {}: {fault}", .id.0)]
     System { id: SystemId, fault: Fault<E> },
     /// The stage was refused for memory before it began.
+    #[error("out of memory")]
     Memory,
 }
 

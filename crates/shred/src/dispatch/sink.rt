@@ -4,9 +4,11 @@ ghost use Rattle.std.specs.Io.KnownBytes.{Appends, Keeps};
 ghost use Rattle.shred.specs.Sinks.{IsCounted, IsPut};
 
 use std::io::Write;
+use thiserror::Error;
 
 /// A sink took nothing, and counted a failure.
-#[derive(Clone, Copy, Debug, PartialEq, Eq)]
+#[derive(Clone, Copy, Debug, PartialEq, Eq, Error)]
+#[error("the sink failed")]
 pub struct SinkFailed;
 
 /// Takes the bytes of a text, piece by piece, and counts its failures.
@@ -60,7 +62,9 @@ impl<W: Write> PlanSink for ToWriter<W> {
     fn put(&mut self, piece: &[u8]) -> Result<usize, SinkFailed> {
         match self.writer.write(piece) {
             Ok(0) | Err(_) => {
-                self.failures = self.failures.saturating_add(1);
+                if self.failures < usize::MAX {
+                    self.failures += 1;
+                }
                 Err(SinkFailed)
             }
             Ok(count) => Ok(count),

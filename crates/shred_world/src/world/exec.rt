@@ -24,8 +24,8 @@ impl<V: ResourceValue> World<V> {
     }
 
     /// Sets the world up for the bundle, takes it, calls the closure once with it, and gives it back. What the setup did
-    /// before a refusal stays. The closure leaves in the bundle what the bundle was taken with; it is called only where
-    /// nothing was refused.
+    /// before a refusal stays. The closure leaves in the bundle the ids that the bundle was taken with, whatever the
+    /// values; it is called only where nothing was refused.
     pub fn exec<'s, D: SystemData<'s, V>, A, F: FnOnce(&mut D) -> A>(
         &mut self,
         run: F,

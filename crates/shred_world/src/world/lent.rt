@@ -50,8 +50,8 @@ impl<V, D> DerefMut for Lent<'_, V, D> {
 impl<V: ResourceValue, D> Lent<'_, V, D> {
     ghost use Rattle.shred_world.specs.LentBundles.{lent_bundle, lent_grant};
 
-    /// Gives the bundle back to the world, with its values as they are now. The bundle still has all that it was lent
-    /// with. It takes no memory, and cannot fail.
+    /// Gives the bundle back to the world, with its values as they are now. The bundle still has the ids that it was
+    /// lent with, whatever the values. It takes no memory, and cannot fail.
     pub fn give_back<'s>(self)
     where
         D: SystemData<'s, V>,

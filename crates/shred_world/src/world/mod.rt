@@ -13,6 +13,7 @@ use crate::world::data::View;
 use crate::world::entry::Entry;
 use crate::world::fetch::{Fetch, FetchMut};
 use std::alloc::Global;
+use thiserror::Error;
 
 pub mod absent;
 pub mod bundle;
@@ -30,21 +31,26 @@ pub mod tuples;
 pub mod write;
 
 /// Why a call of a world was refused.
-#[derive(Clone, Copy, Debug, PartialEq, Eq)]
+#[derive(Clone, Copy, Debug, PartialEq, Eq, Error)]
 pub enum WorldError {
+    #[error("out of memory")]
     OutOfMemory,
     /// The caller's type or value has the kind `asked`, and the id the kind `found`.
+    #[error("{asked:?} was asked for, and the id is of {found:?}")]
     WrongKind { asked: Kind, found: Kind },
     /// No value is held under the id.
+    #[error("nothing is held under {0:?}")]
     Missing(ResourceId),
 }
 
 /// Why `replace_raw` was refused; it hands the value back.
-#[derive(Debug, Drop, PartialEq)]
+#[derive(Debug, Drop, PartialEq, Error)]
 pub enum ReplaceError<V> {
     /// The value has the kind `asked`, and the id the kind `found`.
+    #[error("the value is of {asked:?}, and the id of {found:?}")]
     WrongKind { asked: Kind, found: Kind, value: V },
     /// No value is held under the id.
+    #[error("nothing is held under {id:?}")]
     Missing { id: ResourceId, value: V },
 }
 

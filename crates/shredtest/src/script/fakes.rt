@@ -161,3 +161,70 @@ impl Write for FailingWriter {
         }
     }
 }
+
+/// What a writer does at one call in place of taking a byte.
+#[derive(Clone, Copy, Debug)]
+pub enum Stop {
+    TakesNothing,
+    Fails,
+    IsInterrupted,
+}
+
+/// Takes a byte a call, and may stop at one call.
+#[derive(Drop)]
+pub struct SlowWriter {
+    taken: Vec<u8>,
+    calls: usize,
+    stop: Option<(usize, Stop)>,
+}
+
+impl SlowWriter {
+    pub fn without_stop(alloc: Global) -> SlowWriter {
+        SlowWriter {
+            taken: Vec::new(alloc),
+            calls: 0,
+            stop: None,
+        }
+    }
+
+    pub fn stopping_at(alloc: Global, call: usize, stop: Stop) -> SlowWriter {
+        SlowWriter {
+            taken: Vec::new(alloc),
+            calls: 0,
+            stop: Some((call, stop)),
+        }
+    }
+
+    pub fn written(&self) -> &[u8] {
+        self.taken.as_slice()
+    }
+
+    // What is done at the next call in place of taking a byte.
+    fn next_stop(&mut self) -> Option<Stop> {
+        let call = self.calls;
+        self.calls = call.wrapping_add(1);
+        match self.stop {
+            Some((at, stop)) if at == call => Some(stop),
+            _ => None,
+        }
+    }
+}
+
+impl Write for SlowWriter {
+    fn write(&mut self, buf: &[u8]) -> io::Result<usize> {
+        match self.next_stop() {
+            None => {
+                let count = buf.len().min(1);
+                self.taken.extend_from_slice(&buf[..count])?;
+                Ok(count)
+            }
+            Some(Stop::TakesNothing) => Ok(0),
+            Some(Stop::Fails) => Err(Error::other("the writer fails")),
+            Some(Stop::IsInterrupted) => Err(Error::from(ErrorKind::Interrupted)),
+        }
+    }
+
+    fn flush(&mut self) -> io::Result<()> {
+        Ok(())
+    }
+}

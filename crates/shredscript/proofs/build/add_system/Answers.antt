@@ -7,4 +7,4 @@ use Rattle.shredscript.proofs.build.add_system.Goals as goal
 pub returns-in-Ok-clause-added : goal.returns-in-Ok-clause-added
 returns-in-Ok-clause-added c =
     let system = c.in_ok-system.system in
-    added-by c.args.line (built c.args.builder.now) (built c.add.new.self) system _ _ _ (ap texts_of c.as_slice.ensures.value) c.in_ok-system.ensures.steps c.in_ok-system.ensures.time system.reads_of_steps system.writes_of_steps c.in-Ok.ensures.added
+    added-by c.args.line (built c.args.builder.now) (built c.add.new.self) system _ _ _ (ap texts_of c.as_slice.ensures.value) c.in_ok-system.ensures.steps c.in_ok-system.ensures.time system.reads_of_steps system.writes_of_steps c.in-Ok.ensures.allowed c.in-Ok.ensures.added

@@ -1,5 +1,5 @@
 use Rattle.shred.proofs.Known.{name-forgotten}
 use Rattle.shred.proofs.dispatch.look_up.forget.Goals as goal
 
-pub returns : goal.returns
-returns c = name-forgotten c.args.names.now c.remove.new.self c.args.name.now c.remove.ensures.updates
+pub returns-clause-forgotten : goal.returns-clause-forgotten
+returns-clause-forgotten c = name-forgotten c.args.names.now c.remove.new.self c.args.name.now c.remove.ensures.updates

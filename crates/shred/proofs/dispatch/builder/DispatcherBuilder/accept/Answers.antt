@@ -28,4 +28,4 @@ returns-clause-added g c =
 pub invariant_of-self-2 : goal.invariant_of-self-2
 invariant_of-self-2 g c =
     let (entry, kept, placed, added, from_barrier, after) = c.in_default-insert.ensures.placed in
-    record { known_planned = known-still (planned c.args.self.now.stages) (planned c.insert.new.self) added.place entry (names_of c.args.self.now.names) (names_of c.enter.new.names) c.args.name.now c.args.self.now.next kept.same_id added.entry_is_new c.in_default.ensures.ok c.args.self.now.known_planned }
+    record { distinct_names = c.enter.ensures.distinct c.args.self.now.distinct_names; known_planned = known-still (planned c.args.self.now.stages) (planned c.insert.new.self) added.place entry (names_of c.args.self.now.names) (names_of c.enter.new.names) c.args.name.now c.args.self.now.next kept.same_id added.entry_is_new c.in_default.ensures.ok c.args.self.now.known_planned }

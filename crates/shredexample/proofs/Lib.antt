@@ -1,2 +1,3 @@
 pub mod Done
 pub mod Single
+pub mod Counted

@@ -1,5 +1,5 @@
 -- Counts and limits, and the bundle of both.
-use Rattle.std.specs.Prelude.{◌≡◌, Option, Some, Result, Ok, Err, cond, pos, ◌+ℤ◌}
+use Rattle.std.specs.Prelude.{◌≡◌, ℤ, Option, Some, Result, Ok, Err, cond, pos, ◌+ℤ◌}
 use Rattle.std.specs.Int.Signed.{lt_z}
 use Rattle.shred_world.specs.declared.id.Kind.{Kind}
 use Rattle.shred_world.specs.declared.id.ResourceId.{ResourceId}
@@ -36,3 +36,12 @@ StartsAtZero before (Err error) after = (error ≡ WorldError.OutOfMemory) × ((
 -- one more than the count, unless it has reached the limit
 abbrev pub counted_up : Count → Limit → Count
 counted_up count limit = cond (lt_z count.0 limit.0) (record { 0 = count.0 +ℤ pos 1 }) count
+
+-- A limit is held. Before, a count may be held, and else it is 0. After, it is counted up and all else is as before; this is the count that is given.
+pub record IsCountedIn (before after : ResourceId → Option Value) (given : ℤ) : Type 0 where
+  pub count : Count
+  pub was : IsKeptOrMade Counted (before (id_of count_kind 0)) (λ made. made ≡ record { 0 = pos 0 }) count
+  pub limit : Limit
+  pub limit_is : before (id_of limit_kind 0) ≡ Some (Limited limit)
+  pub left : (q : ResourceId) → after q ≡ with_at before (id_of count_kind 0) (Some (Counted (counted_up count limit))) q
+  pub gives : given ≡ (counted_up count limit).0

@@ -1,10 +1,9 @@
-//! A bundle of a caller's own: a count, how far it may go, and what it was when it was taken.
-ghost use Rattle.std.specs.Prelude.{◌≡◌, [], ◌∷◌, Some, IfOk, true, false, not};
-ghost use Rattle.std.specs.Ordering.{int_eq};
+//! A bundle of a caller's own: a count, and how far it may go.
+ghost use Rattle.std.specs.Prelude.{◌≡◌, [], ◌∷◌, Some, IfOk, true, false};
 ghost use Rattle.shred_world.specs.BundleParts.{written_value, read_value, moved_to_read};
 ghost use Rattle.shred_world.specs.Id.{id_of};
 ghost use Rattle.shred_world.specs.Worlds.{world_held};
-ghost use Rattle.shredexample.specs.Limits.{StartsAtZero, counted_up, kind_of, count_kind, limit_kind};
+ghost use Rattle.shredexample.specs.Limits.{IsCountedIn, StartsAtZero, counted_up, kind_of, count_kind, limit_kind};
 ghost use Rattle.shredexample.specs.declared.limits.Value.TheVariants.{Counted, Limited};
 
 use crate::limits::{Count, Limit, Value};
@@ -14,11 +13,10 @@ use shred::{
 };
 use std::alloc::Global;
 
-/// A count, how far it may go, and what it was when it was taken.
+/// A count, and how far it may go.
 pub struct Counting<'s> {
     count: WriteExpect<Count>,
     limit: ReadExpect<'s, Limit>,
-    taken: Count,
 }
 
 impl<'s> Counting<'s> {
@@ -26,18 +24,17 @@ impl<'s> Counting<'s> {
     pub fn count_one(&mut self)
         ensures counted { written_value self.new.count ≡ counted_up (written_value self.old.count) (read_value self.old.limit) }
         ensures limit { self.new.limit ≡ self.old.limit }
-        ensures taken { self.new.taken ≡ self.old.taken }
     {
         if self.count.0 < self.limit.0 {
             self.count.0 += 1;
         }
     }
 
-    /// Whether the count is another than when it was taken.
-    pub fn has_counted(&self) -> bool
-        ensures { result ≡ not (int_eq (written_value self.now.count).0 self.now.taken.0) }
+    /// The count.
+    pub fn count(&self) -> i64
+        ensures { result ≡ (written_value self.now.count).0 }
     {
-        self.count.0 != self.taken.0
+        self.count.0
     }
 }
 
@@ -65,24 +62,13 @@ impl<'s> SystemData<'s, Value> for Counting<'s> {
 
     fn fetch(view: &mut View<'s, '_, Value>) -> Result<Self, DataError> {
         match view.system_data::<(WriteExpect<Count>, ReadExpect<'s, Limit>)>() {
-            Ok((count, limit)) => {
-                let taken = *count;
-                Ok(Counting {
-                    count,
-                    limit,
-                    taken,
-                })
-            }
+            Ok((count, limit)) => Ok(Counting { count, limit }),
             Err(error) => Err(error),
         }
     }
 
     fn give_back(self, view: &mut View<'s, '_, Value>) {
-        let Counting {
-            count,
-            limit,
-            taken: _,
-        } = self;
+        let Counting { count, limit } = self;
         view.give_back((count, limit));
     }
 
@@ -99,10 +85,12 @@ impl<'s> SystemData<'s, Value> for Counting<'s> {
     }
 }
 
-/// Counts one more in a world that holds a limit, and says whether the count has changed.
-pub fn count_one_in(world: &mut World<Value>) -> Result<bool, DataError> {
+/// Counts one more in a world that holds a limit, and gives the count then.
+pub fn count_one_in(world: &mut World<Value>) -> Result<i64, DataError>
+    ensures counted { IfOk result (IsCountedIn (world_held kind_of world.old) (world_held kind_of world.new)) }
+{
     world.exec::<Counting, _, _>(|counting| {
         counting.count_one();
-        counting.has_counted()
+        counting.count()
     })
 }

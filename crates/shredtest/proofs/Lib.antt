@@ -1,5 +1,3 @@
-pub mod Fits
-pub mod PlainReads
 pub mod Worked
 pub mod KeptIds
 pub mod GivenBack

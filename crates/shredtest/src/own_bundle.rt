@@ -19,11 +19,11 @@ fn a_count_goes_up_to_its_limit(rt: HostRuntime) -> Result<(), Fail> {
     assert_eq!(rt; count_one_in(&mut world), Err(DataError::Missing(id(1))));
     assert_eq!(rt; count_in(&world), Some(0));
     assert_eq!(rt; world.insert(Limit(2)), Ok(()));
-    assert_eq!(rt; count_one_in(&mut world), Ok(true));
+    assert_eq!(rt; count_one_in(&mut world), Ok(1));
     assert_eq!(rt; count_in(&world), Some(1));
-    assert_eq!(rt; count_one_in(&mut world), Ok(true));
+    assert_eq!(rt; count_one_in(&mut world), Ok(2));
     assert_eq!(rt; count_in(&world), Some(2));
-    assert_eq!(rt; count_one_in(&mut world), Ok(false));
+    assert_eq!(rt; count_one_in(&mut world), Ok(2));
     assert_eq!(rt; count_in(&world), Some(2));
     assert_eq!(rt; world.fetch::<Limit>().map(|limit| limit.0), Ok(2));
     Ok(())
@@ -42,9 +42,9 @@ fn a_view_lends_it_and_takes_it_back(rt: HostRuntime) -> Result<(), Fail> {
     let mut view = world.lend(reads.as_slice(), writes.as_slice());
     match view.system_data::<Counting>() {
         Ok(mut counting) => {
-            assert!(rt; !counting.has_counted());
+            assert_eq!(rt; counting.count(), 0);
             counting.count_one();
-            assert!(rt; counting.has_counted());
+            assert_eq!(rt; counting.count(), 1);
             view.give_back(counting);
         }
         Err(_) => return Err("refused")?,

@@ -1,0 +1,113 @@
+//! Two systems of one stage, each of which waits for the other.
+ghost use Rattle.std.specs.Prelude.{[]};
+ghost use Rattle.shred.specs.declared.system.RunningTime.TheVariants.{Average};
+
+use shred::{
+    DispatchError, Dispatcher, Fault, OutOfMemory, RunningTime, StagesBuilder, System, SystemId,
+    View, World, new_dispatcher,
+};
+use shredtest::values::Value;
+use std::alloc::Global;
+use std::sync::atomic::{AtomicBool, Ordering};
+use std::test::Fail;
+
+/// How often a system looks for the other's flag.
+const TURNS: u32 = 10_000_000;
+
+/// Raises its flag, and refuses if it never sees the other's.
+#[derive(Drop)]
+struct Meets<'f> {
+    own: &'f AtomicBool,
+    other: &'f AtomicBool,
+}
+
+impl<'f> System<Value> for Meets<'f> {
+    type Error = u8;
+
+    type Accessor = ();
+
+    ghost reads = { λ system. [] };
+
+    ghost writes = { λ system. [] };
+
+    ghost time = { λ system. Average };
+
+    ghost step = { λ _ _ _ _ _. Unit {0} };
+
+    ghost sets_up = { λ _ _ _ _ _. Unit {0} };
+
+    ghost disposes = { λ _ _ _ _. Unit {0} };
+
+    fn run(&mut self, _view: &mut View<Value>) -> Result<(), Fault<u8>> {
+        self.own.store(true, Ordering::SeqCst);
+        for _ in 0..TURNS {
+            if self.other.load(Ordering::SeqCst) {
+                return Ok(());
+            }
+        }
+        Err(Fault::Refused(1))
+    }
+
+    fn running_time(&self) -> RunningTime {
+        RunningTime::Average
+    }
+
+    fn accessor(&self, _alloc: Global) -> Result<(), OutOfMemory> {
+        Ok(())
+    }
+
+    fn setup(&mut self, _world: &mut World<Value>) -> Result<(), Fault<u8>> {
+        Ok(())
+    }
+
+    fn dispose(self, _world: &mut World<Value>) -> Result<(), Fault<u8>> {
+        Ok(())
+    }
+}
+
+fn two_that_meet<'f>(
+    alloc: Global,
+    first: &'f AtomicBool,
+    second: &'f AtomicBool,
+) -> Result<Dispatcher<Value, Meets<'f>>, OutOfMemory> {
+    let mut builder = StagesBuilder::new(alloc);
+    let one = Meets {
+        own: first,
+        other: second,
+    };
+    builder.insert(&[], SystemId(0), one)?;
+    let two = Meets {
+        own: second,
+        other: first,
+    };
+    builder.insert(&[], SystemId(1), two)?;
+    Ok(new_dispatcher(builder.build()))
+}
+
+#[test]
+fn two_halves_run_at_once(rt: HostRuntime) -> Result<(), Fail> {
+    let first = AtomicBool::new(false);
+    let second = AtomicBool::new(false);
+    let mut dispatcher = two_that_meet(rt.alloc(), &first, &second)?;
+    let mut world: World<Value> = World::empty(rt.alloc());
+    assert_eq!(rt; dispatcher.max_threads(), 2);
+    assert!(rt; dispatcher.dispatch_par(&rt, &mut world).is_ok());
+    Ok(())
+}
+
+#[test]
+fn one_after_the_other_they_do_not_meet(rt: HostRuntime) -> Result<(), Fail> {
+    let first = AtomicBool::new(false);
+    let second = AtomicBool::new(false);
+    let mut dispatcher = two_that_meet(rt.alloc(), &first, &second)?;
+    let mut world: World<Value> = World::empty(rt.alloc());
+    match dispatcher.dispatch_seq(&mut world) {
+        Err(
+            DispatchError::System {
+                id: SystemId(0),
+                fault: Fault::Refused(1),
+            },
+        ) => Ok(()),
+        _ => Err(Fail::from("the first of the two was to refuse")),
+    }
+}

@@ -4,3 +4,4 @@ pub mod Wraps
 pub mod Dispatched
 pub mod Worlds
 pub mod Drawn
+pub mod Asked

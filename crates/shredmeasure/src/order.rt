@@ -1,5 +1,6 @@
 //! What is asked of the program.
-ghost use Rattle.std.specs.Prelude.{◌≤◌, IfSome};
+ghost use Rattle.std.specs.Prelude.{◌≡◌, ◌≢◌, ℕ, MatchOption};
+ghost use Rattle.shredmeasure.specs.Orders.{AreWords, Asks, Writes, first_line, mode_word};
 
 /// Where the groups of a stage run.
 #[derive(Clone, Copy)]
@@ -26,27 +27,60 @@ pub(crate) struct Order {
 /// The most systems that are made.
 const MOST_SYSTEMS: u64 = 10_000;
 
-impl Order {
-    /// The order that a line gives, if it is one.
-    pub(crate) fn of_line(line: &[u8]) -> Option<Order>
-        ensures { IfSome result (λ order. order.systems ≤ MOST_SYSTEMS) }
+impl Mode {
+    /// The mode that a word stands for, if it stands for one.
+    fn of_word(word: &str) -> Option<Mode>
+        ensures { MatchOption result ((mode : Mode) → word.now ≢ mode_word mode) (λ mode. word.now ≡ mode_word mode) }
     {
-        let mut words = str::from_utf8(line).ok()?.split_ascii_whitespace();
-        let mode = match words.next()? {
-            "seq" => Mode::Dispatching(Place::OnCaller),
-            "par" => Mode::Dispatching(Place::OnThreads),
-            "plan" => Mode::Planning,
-            _ => return None,
+        match word {
+            "seq" => Some(Mode::Dispatching(Place::OnCaller)),
+            "par" => Some(Mode::Dispatching(Place::OnThreads)),
+            "plan" => Some(Mode::Planning),
+            _ => None,
+        }
+    }
+}
+
+// What stands before the first line feed.
+fn first_line_of(text: &str) -> &str
+    ensures { result.now ≡ first_line text.now }
+{
+    match text.split_once('\n') {
+        Some((line, _)) => line,
+        None => text,
+    }
+}
+
+// The number that a word writes, if it writes one of 64 bits.
+fn number_of(word: &str) -> Option<u64>
+    ensures { MatchOption result ((number : ℕ) → Writes word.now number → ⊥) (λ number. Writes word.now number) }
+{
+    word.parse::<u64>().ok()
+}
+
+impl Order {
+    /// The order of these words, if they are one's.
+    fn of_words(mode: &str, systems: &str, times: &str) -> Option<Order>
+        ensures { MatchOption result ((order : Order) → AreWords mode.now systems.now times.now order → ⊥) (λ order. AreWords mode.now systems.now times.now order) }
+    {
+        let order = Order {
+            mode: Mode::of_word(mode)?,
+            systems: number_of(systems)?,
+            times: number_of(times)?,
         };
-        let systems = words.next()?.parse::<u64>().ok()?;
-        let times = words.next()?.parse::<u64>().ok()?;
-        if systems > MOST_SYSTEMS {
+        if order.systems > MOST_SYSTEMS {
             return None;
         }
-        Some(Order {
-            mode,
-            systems,
-            times,
-        })
+        Some(order)
+    }
+
+    /// The order that a line gives, if it gives one.
+    pub(crate) fn of_line(line: &[u8]) -> Option<Order>
+        ensures { MatchOption result ((order : Order) → Asks line.now order → ⊥) (λ order. Asks line.now order) }
+    {
+        let text = first_line_of(str::from_utf8(line).ok()?);
+        let (mode, numbers) = text.split_once(' ')?;
+        let (systems, times) = numbers.split_once(' ')?;
+        Order::of_words(mode, systems, times)
     }
 }

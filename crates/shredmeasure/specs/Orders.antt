@@ -1,0 +1,45 @@
+-- What a line asks for.
+use Rattle.std.specs.Prelude.{◌≡◌, ℕ, ◌<◌, ◌≤◌, ◌^◌, ◌==◌, Bool, List, length, codes, IsUtf8}
+use Rattle.std.specs.List.{position_or_len, before_first, after_first}
+use Rattle.std.specs.Str.Parse.{IsNumeral, digits_value, without_leading_plus}
+use Rattle.shredmeasure.specs.declared.order.Mode.{Mode}
+use Rattle.shredmeasure.specs.declared.order.Mode.TheVariants.{Dispatching, Planning}
+use Rattle.shredmeasure.specs.declared.order.Order.{Order}
+use Rattle.shredmeasure.specs.declared.order.Place.TheVariants.{OnCaller, OnThreads}
+
+-- the word that stands for a mode
+abbrev pub mode_word : Mode → List ℕ
+mode_word (Dispatching OnCaller) = codes "seq"
+mode_word (Dispatching OnThreads) = codes "par"
+mode_word Planning = codes "plan"
+
+-- The word writes this number of 64 bits, in digits after a plus or none.
+abbrev pub Writes : List ℕ → ℕ → Type 0
+Writes word number = IsNumeral 10 (without_leading_plus word) × (digits_value 10 (without_leading_plus word) < 2 ^ 64) × (number ≡ digits_value 10 (without_leading_plus word))
+
+abbrev pub is_space : ℕ → Bool
+is_space byte = byte == 32
+
+-- what stands before the first line feed, or all where there is none
+abbrev pub first_line : List ℕ → List ℕ
+first_line text = before_first (λ byte. byte == 10) text
+
+-- The text has a space.
+abbrev pub HasSpace : List ℕ → Type 0
+HasSpace text = position_or_len is_space text < length text
+
+-- These words are the mode's, the number of systems, of which there are at most ten thousand, and the number of times.
+pub record AreWords (mode systems times : List ℕ) (order : Order) : Type 0 where
+  pub mode_is : mode ≡ mode_word order.mode
+  pub systems_are : Writes systems order.systems
+  pub few : order.systems ≤ 10000
+  pub times_are : Writes times order.times
+
+-- The text is this order: three words, with a space between them.
+abbrev pub IsOrder : List ℕ → Order → Type 0
+IsOrder text order = let numbers = after_first is_space text in
+    HasSpace text × HasSpace numbers × AreWords (before_first is_space text) (before_first is_space numbers) (after_first is_space numbers) order
+
+-- The line is text, and up to its first line feed it is this order.
+abbrev pub Asks : List ℕ → Order → Type 0
+Asks line order = IsUtf8 line × IsOrder (first_line line) order

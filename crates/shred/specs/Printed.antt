@@ -5,10 +5,11 @@ use Rattle.std.specs.Str.{byte}
 use Rattle.shred_model.specs.Plan.{Group, Stage, Plan, group_ids}
 use Rattle.shred.specs.Names.{Pair, least_name}
 
--- a tab, and a line feed
+-- a tab
 abbrev pub tab : List ℕ
 tab = 9 ∷ []
 
+-- a line feed
 abbrev pub line_feed : List ℕ
 line_feed = 10 ∷ []
 
@@ -28,6 +29,7 @@ system_line names id = tab ++ tab ++ tab ++ (printed_name names id ++ (codes ","
 abbrev pub ids_text : List Pair → List ℕ → List ℕ
 ids_text names ids = tab ++ tab ++ codes "seq![" ++ line_feed ++ (flat_map (system_line names) ids ++ (tab ++ tab ++ codes "]," ++ line_feed))
 
+-- the lines of a group
 abbrev pub group_text : {I : Type 0} → List Pair → Group I → List ℕ
 group_text names group = ids_text names (group_ids group)
 

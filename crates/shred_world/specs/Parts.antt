@@ -8,13 +8,15 @@ use Rattle.shred_world.specs.declared.table.Table.{Table}
 use Rattle.shred_world.specs.Parting.{IsRoom, emptied}
 use Rattle.shred_world.specs.Slots.{slot_at, among, held}
 
--- the ids that are read, and those that are written
+-- a list of ids that are read, and one of ids that are written
 abbrev pub Pair : Type 0
 Pair = Bor (List ResourceId) × Bor (List ResourceId)
 
+-- the ids that a pair reads
 abbrev pub reads_of : Pair → List ResourceId
 reads_of p = p.0.now
 
+-- the ids that a pair writes
 abbrev pub writes_of : Pair → List ResourceId
 writes_of p = p.1.now
 

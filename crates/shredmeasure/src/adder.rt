@@ -17,7 +17,7 @@ pub(crate) fn count_id(number: u64) -> ResourceId
     ResourceId::from_type_id_and_dynamic_id(Kind(0), number)
 }
 
-/// Adds 1 to the count of its number, and reads the count of number 0.
+/// Adds 1 to the count of its number. It declares to read the count of number 0, and does not look at it.
 #[derive(Drop)]
 pub(crate) struct AddOne {
     pub(crate) number: u64,

@@ -1,8 +1,9 @@
 //! Dispatches the same plan many times, or builds plans, to be timed from outside.
 //!
-//! Standard input is one line, `MODE SYSTEMS TIMES`, with one space between the words. Where MODE is `seq` or `par`, each system adds 1 to a count of its
-//! own and reads one that all share, and the sum of the counts is printed. Where it is `plan`, the systems have random
-//! accesses of one to six ids over 300 resources, and the number of stages of all plans is printed.
+//! Standard input is one line, `MODE SYSTEMS TIMES`, with one space between the words. Where MODE is `seq` or `par`,
+//! each system adds 1 to a count of its own and declares to read one that all share, and the sum of the counts is
+//! printed. Where it is `plan`, the systems have random accesses of one to six ids over 300 resources, and the number of
+//! stages of all plans is printed.
 #![tactic(auto)]
 
 ghost use Rattle.std.specs.Prelude.{◌≡◌, ℕ, ◌*◌, length, IfOk, pos};

@@ -150,6 +150,13 @@ type F<'s> = Read<'s, Flag>;
 /// A count, a name and a flag.
 type Found = Option<(i64, u8, bool)>;
 
+fn found_in_three<'s>(view: &mut View<'s, '_, Value>) -> Found {
+    let bundle = view.system_data::<(C, F<'s>, N)>().ok()?;
+    let found = (bundle.0.0, bundle.2.0, bundle.1.0);
+    view.give_back(bundle);
+    Some(found)
+}
+
 fn found_in_four<'s>(view: &mut View<'s, '_, Value>) -> Found {
     let bundle = view.system_data::<(C, (), F<'s>, N)>().ok()?;
     let found = (bundle.0.0, bundle.3.0, bundle.2.0);
@@ -193,6 +200,7 @@ fn every_part_shows_what_is_held(rt: HostRuntime) -> Result<(), Fail> {
     let reads = [id(2)];
     let writes = [id(0), id(1)];
     let mut view = world.lend(&reads, &writes);
+    assert_eq!(rt; found_in_three(&mut view), Some((1, 2, true)));
     assert_eq!(rt; found_in_four(&mut view), Some((1, 2, true)));
     assert_eq!(rt; found_in_five(&mut view), Some((1, 2, true)));
     assert_eq!(rt; found_in_six(&mut view), Some((1, 2, true)));

@@ -19,6 +19,7 @@ fn ids_are_ordered_by_kind_and_then_by_number(rt: HostRuntime) -> Result<(), Fai
     assert_eq!(rt; low.kind(), Kind(0));
     assert_eq!(rt; low.dynamic_id(), 5);
     assert_eq!(rt; ResourceId::from_type_id(Kind(1)), high);
+    assert_eq!(rt; ResourceId::new_with_dynamic_id::<Value, Count>(5), low);
     Ok(())
 }
 
@@ -60,7 +61,10 @@ fn the_kind_is_tested_first(rt: HostRuntime) -> Result<(), Fail> {
     assert!(rt;
         matches!(
             world.try_fetch_by_id::<Name>(number(0)),
-            Err(WorldError::WrongKind { .. })
+            Err(WorldError::WrongKind {
+                asked: Kind(1),
+                found: Kind(0)
+            })
         )
     );
     Ok(())

@@ -27,7 +27,7 @@ fn system_ids(alloc: Global, numbers: &[usize]) -> Result<Vec<SystemId>, Fail> {
 }
 
 fn quickly(alloc: Global, calls: &[Call]) -> Result<StagesBuilder<Value, OnlyPlanned>, Fail> {
-    let mut builder = StagesBuilder::new(alloc);
+    let mut builder = StagesBuilder::default(alloc);
     let mut next = 0;
     for call in calls {
         match *call {

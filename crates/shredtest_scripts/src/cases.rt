@@ -259,6 +259,10 @@ pub const FAULTY: &[(&str, &str)] = &[
     ("sys a", "line 1: bad word\n"),
     ("sys a average", "line 1: bad word\n"),
     ("sys a.b average -", "line 1: bad word\n"),
+    (
+        "sys a average - abcdefghijklmnopqrstuvwxyz0123456+=1",
+        "line 1: bad word\n",
+    ),
     ("sys a,b average -", "line 1: bad word\n"),
     (
         "sys abcdefghijklmnopqrstuvwxyz0123456 average -",

@@ -73,23 +73,30 @@ impl Read for InterruptedReader<'_> {
     }
 }
 
-/// Gives a count of spaces, and then ends or fails.
+/// Gives one byte so many times, and then ends or fails.
 #[derive(Drop)]
 pub struct RepeatingReader {
+    byte: u8,
     left: usize,
     fails: bool,
 }
 
 impl RepeatingReader {
-    pub fn of_spaces(count: usize) -> RepeatingReader {
+    pub fn of_bytes(byte: u8, count: usize) -> RepeatingReader {
         RepeatingReader {
+            byte,
             left: count,
             fails: false,
         }
     }
 
+    pub fn of_spaces(count: usize) -> RepeatingReader {
+        RepeatingReader::of_bytes(b' ', count)
+    }
+
     pub fn failing_after(count: usize) -> RepeatingReader {
         RepeatingReader {
+            byte: b' ',
             left: count,
             fails: true,
         }
@@ -103,7 +110,7 @@ impl Read for RepeatingReader {
         }
         let count = self.left.min(buf.len());
         for byte in &mut buf[..count] {
-            *byte = b' ';
+            *byte = self.byte;
         }
         self.left -= count;
         Ok(count)

@@ -310,6 +310,14 @@ fn bounds_the_length_of_a_script(rt: HostRuntime) {
 }
 
 #[test]
+fn tells_too_long_before_a_fault(rt: HostRuntime) {
+    let mut longest = RepeatingReader::of_bytes(b'x', 1_048_576);
+    assert_tells(&rt, &mut longest, "line 1: unknown line\n");
+    let mut too_long = RepeatingReader::of_bytes(b'x', 1_048_577);
+    assert_tells(&rt, &mut too_long, "script too long\n");
+}
+
+#[test]
 fn of_too_long_and_a_failed_read_tells_the_first(rt: HostRuntime) {
     let mut fails_at_the_limit = RepeatingReader::failing_after(1_048_576);
     assert_tells(&rt, &mut fails_at_the_limit, "input failed\n");

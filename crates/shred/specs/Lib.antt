@@ -12,7 +12,6 @@ pub mod OwnLists
 pub mod OwnSlots
 pub mod Known
 pub mod Lanes
-pub mod Lent
 pub mod BuilderPlan
 pub mod Builders
 pub mod Built

@@ -9,6 +9,7 @@ pub mod Moves
 pub mod Shown
 pub mod Pairs
 pub mod Beside
+pub mod Worked
 pub mod Grants
 pub mod Bundles
 pub mod Whole

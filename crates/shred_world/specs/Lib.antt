@@ -8,6 +8,8 @@ pub mod Shown
 pub mod Parting
 pub mod Parts
 pub mod Beside
+pub mod OwnViews
+pub mod Worked
 pub mod Entries
 pub mod Grants
 pub mod Bundles

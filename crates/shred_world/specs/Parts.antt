@@ -36,6 +36,10 @@ DoNotConflict pairs = AllPairs AreBeside pairs
 abbrev pub written_by : List Pair → ResourceId → Bool
 written_by pairs q = list_any (λ p. among (writes_of p) q) pairs
 
+-- the hand has no slot but of the ids that the pair writes
+abbrev pub HasNoOtherSlots : {V : Type 0} → Pair → Table V → Type 0
+HasNoOtherSlots p hand = (q : ResourceId) → among (writes_of p) q ≡ false → slot_at hand q ≡ None
+
 -- the hand has room for what the pair writes
 abbrev pub HasRoom : {V : Type 0} → Table V → Pair → Table V → Type 0
 HasRoom table p hand = IsRoom table (writes_of p) hand

@@ -1,4 +1,3 @@
-pub mod Worked
 pub mod KeptIds
 pub mod GivenBack
 pub mod Turned

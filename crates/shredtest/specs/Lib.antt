@@ -1,4 +1,3 @@
 pub mod Values
-pub mod Parted
 pub mod Chosen
 pub mod Adding

@@ -9,9 +9,9 @@ ghost use Rattle.shred_world.specs.Views.{view_held, may_read, may_write, is_out
 ghost use Rattle.shredtest.specs.Adding.{HasTurned, HasTurnedOften};
 ghost use Rattle.shredtest.specs.Values.{kind_of};
 
-use crate::parted::{Each, Work, work_apart, work_once};
+use crate::parted::work_once;
 use crate::values::{Count, Value};
-use shred::{OutOfMemory, ResourceId, View, World};
+use shred::{Each, OutOfMemory, PartWork, ResourceId, View, World};
 use std::alloc::Global;
 
 /// Adds what is read under one id to a count of each part: of the first part under one id, of the next under another,
@@ -29,6 +29,7 @@ pub struct Adding {
 // Adds to the count under the id, where the view lets it be written.
 fn add(view: &mut View<Value>, id: ResourceId, amount: i64) -> bool
     ensures view { IsSameView view.old view.new }
+    ensures frame { (q : ResourceId) → may_write view.old q ≡ false → view_held kind_of view.new q ≡ view_held kind_of view.old q }
     ensures ids { (q : ResourceId) → is_some (view_held kind_of view.new q) ≡ is_some (view_held kind_of view.old q) }
 {
     let Ok(count) = view.write::<Count>(id) else {
@@ -38,11 +39,11 @@ fn add(view: &mut View<Value>, id: ResourceId, amount: i64) -> bool
     true
 }
 
-impl Work<Value> for Adding {
+impl PartWork<Value> for Adding {
     ghost use Rattle.shred_world.specs.Views.{view_held, IsSameView};
 
     // The next part has the next count.
-    ghost works = { λ before seen after left. HasTurned before after };
+    ghost works = { λ before reads writes seen after left. HasTurned before after };
 
     fn run(&mut self, view: &mut View<Value>) {
         let amount = match view.read::<Count>(self.read) {
@@ -78,8 +79,8 @@ pub fn work_twice(
         Ok(hands) => hands,
         Err(error) => return Err(error),
     };
-    work_apart(view, pairs, hands.as_mut_slice(), work);
-    work_apart(view, pairs, hands.as_mut_slice(), work);
+    view.part_each(pairs, hands.as_mut_slice(), work);
+    view.part_each(pairs, hands.as_mut_slice(), work);
     Ok(())
 }
 

@@ -3,10 +3,9 @@ ghost use Rattle.std.specs.Prelude.{◌≡◌};
 ghost use Rattle.shred_world.specs.Id.{id_of};
 ghost use Rattle.shredtest.specs.Values.{count_kind};
 
-use crate::parted::Each;
 use crate::parted_counts::{Adding, work_over_none, work_over_three};
 use crate::values::{Count, Value};
-use shred::{Kind, ResourceId, World};
+use shred::{Each, Kind, ResourceId, World};
 use std::test::Fail;
 
 fn number(dynamic_id: u64) -> ResourceId

@@ -19,6 +19,7 @@ pub mod absent;
 pub mod bundle;
 pub mod data;
 pub mod dynamic;
+pub mod each;
 pub mod entry;
 mod exec;
 pub mod fetch;

@@ -1,9 +1,9 @@
 //! Parting a view into views that may be used beside each other.
-ghost use Rattle.std.specs.Prelude.{◌≡◌, IsTrue, false, cond, is_some, IfOk, None, List, length};
+ghost use Rattle.std.specs.Prelude.{◌≡◌, IsTrue, false, cond, is_some, IfOk, None, List};
 ghost use Rattle.std.specs.List.{All, AllZip};
 ghost use Rattle.shred_world.specs.declared.id.ResourceId.{ResourceId};
 ghost use Rattle.shred_world.specs.Parting.{emptied};
-ghost use Rattle.shred_world.specs.Parts.{DoNotConflict, reads_of, writes_of, written_by, HasRoom, HoldsWritten, Fits, IsJoined, IsEmptied, HoldsSameIds};
+ghost use Rattle.shred_world.specs.Parts.{DoNotConflict, reads_of, writes_of, written_by, HasNoOtherSlots, HasRoom, HoldsWritten, Fits, IsJoined, IsEmptied, HoldsSameIds};
 ghost use Rattle.shred_world.specs.Shown.{IsSameSlots};
 ghost use Rattle.shred_world.specs.Slots.{slot_at, noted_in, among, or_slot};
 ghost use Rattle.shred_world.specs.Views.{may_read, may_write, is_out, shelf_slot, lent_slot, view_slot, view_held, table_in, IsSameView};
@@ -74,17 +74,18 @@ impl<V: Drop> Table<V> {
 /// them. `View::over` makes a view of each.
 pub trait PartsWork<V: ResourceValue> {
     ghost use Rattle.shred_world.specs.Beside.{PartsRelation};
+    ghost use Rattle.shred_world.specs.Parts.{HasNoOtherSlots};
 
     ghost works: { PartsRelation V Self };
 
-    /// Works over the hands. In each it leaves a value under the ids under which there was one.
+    /// Works over the hands, of which each has slots of its pair's written ids alone. In each it leaves a value under the ids under which there was one.
     fn run(
         &mut self,
         pairs: &[(&[ResourceId], &[ResourceId])],
         shelf: &[Shelf<V>],
         hands: &mut [Table<V>],
     )
-        requires { length pairs.now ≡ length hands.old }
+        requires { AllZip HasNoOtherSlots pairs.now hands.old }
         ensures works { works self.old pairs.now (λ q. lent_slot shelf.now q) hands.old self.new hands.new }
         ensures slots { AllZip IsSameSlots hands.old hands.new }
         ensures ids { AllZip (HoldsSameIds V.kind_of) hands.old hands.new };
@@ -124,7 +125,7 @@ fn work_over<V: ResourceValue, W: PartsWork<V>>(
     hands: &mut [Table<V>],
     work: &mut W,
 )
-    requires { length pairs.now ≡ length hands.old }
+    requires { AllZip HasNoOtherSlots pairs.now hands.old }
     ensures works { W.works work.old pairs.now (λ q. shelf_slot behind.entry q) hands.old work.new hands.new }
     ensures slots { AllZip IsSameSlots hands.old hands.new }
     ensures ids { AllZip (HoldsSameIds V.kind_of) hands.old hands.new }
@@ -167,7 +168,7 @@ impl<'s, 'a, V: ResourceValue + Drop> View<'s, 'a, V> {
         hands: &mut [Table<V>],
         work: &mut W,
     )
-        requires { length pairs.now ≡ length hands.old }
+        requires { AllZip HasNoOtherSlots pairs.now hands.old }
         ensures works { W.works work.old pairs.now (view_slot self.now) hands.old work.new hands.new }
         ensures slots { AllZip IsSameSlots hands.old hands.new }
         ensures ids { AllZip (HoldsSameIds V.kind_of) hands.old hands.new }

@@ -1,17 +1,19 @@
-use Rattle.std.proofs.Common.{◌≡◌, Bool, true, false, refl, ◌∙◌, ap, get_or}
+use Rattle.std.proofs.Common.{◌≡◌, Bool, true, false, None, cond, refl, ◌∙◌, ap, get_or}
 use Rattle.std.specs.Prelude.{is_some}
 use Rattle.std.specs.List.{AllZip}
-use Rattle.shred_world.specs.Parts.{writes_of, written_by, HasRoom, HoldsWritten, Fits, IsJoined, IsEmptied}
+use Rattle.shred_world.specs.Parts.{writes_of, written_by, HasNoOtherSlots, HasRoom, HoldsWritten, Fits, IsJoined, IsEmptied}
 use Rattle.shred_world.specs.Shown.{IsSameSlots}
 use Rattle.shred_world.specs.Slots.{slot_at, slot_held, among}
 use Rattle.shred_world.specs.Views.{lent_slot}
-use Rattle.shred_world.proofs.Pairs.{zip-length}
 use Rattle.shred_world.proofs.Beside.{zip-map, zip-through, written-none, shown-over, left-slots, fit-over, room-again, held-over, held-joined}
 use Rattle.shred_world.proofs.Refusals.{hidden}
 use Rattle.shred_world.proofs.world.data.View.part.Goals as goal
 
 pub work_parted-requires : goal.work_parted-requires
-work_parted-requires g c = zip-length (HoldsWritten c.args.self.now.own.now) c.args.pairs.now c.move_all_out.new.hands c.move_all_out.ensures.hands
+work_parted-requires g c =
+    let was = c.args.self.now.own.now in
+    let pairs = c.args.pairs.now in
+    zip-map (HoldsWritten was) HasNoOtherSlots pairs c.move_all_out.new.hands (λ i d h below holds q other. holds q ∙ ap (λ (b : Bool). cond b (slot_at was q) None) other) c.move_all_out.ensures.hands
 
 pub move_all_back-requires-clause-fit : goal.move_all_back-requires-clause-fit
 move_all_back-requires-clause-fit g c =

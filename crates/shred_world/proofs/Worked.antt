@@ -11,7 +11,7 @@ use Rattle.shred_world.specs.Parts.{Pair, reads_of, writes_of, declares, IsJoine
 use Rattle.shred_world.specs.Shown.{Lent, IsSameSlots}
 use Rattle.shred_world.specs.Slots.{slot_at, slot_held, among, or_slot}
 use Rattle.shred_world.specs.Views.{view_slot, view_held, table_in}
-use Rattle.shredtest.specs.Parted.{Works, IsWorkedOver, IsWorkedEach, IsWorked, part_held, declared_by}
+use Rattle.shred_world.specs.Worked.{Works, IsWorkedOver, IsWorkedEach, IsWorked, part_held}
 
 module _ {V W : Type 0} (kind : V → Kind) (works : Works V W) (behind : Lent V) where
   -- the hands below a place were worked over, and the others are as they were
@@ -101,9 +101,10 @@ module _ {V W : Type 0} (kind : V → Kind) (works : Works V W) (behind : Lent V
   worked-apart old new (p ∷ ps) (h ∷ hs) b (n ∷ ns) a shown joined alone each = (
     each.0,
     part_held kind behind p n,
-    subst (λ (m : ResourceId → Option V). works b m each.0 (part_held kind behind p n))
+    subst (λ (m : ResourceId → Option V). works b (reads_of p) (writes_of p) m each.0 (part_held kind behind p n))
         (λ i q. same-declared (declares p q) (slot_held kind q (part_slot behind p h q)) (view_held kind old q) (λ d. ap (slot_held kind q) ((shown.0) q d)) i)
         each.1.lies,
+    λ q other. each.1.frame q other ∙ same-declared (declares p q) (slot_held kind q (part_slot behind p h q)) (view_held kind old q) (λ d. ap (slot_held kind q) ((shown.0) q d)),
     λ q w. ap (slot_held kind q) (alone 0 p (omega arith) q w ∙ ap (λ (s : Option (Slot V)). or_slot s None) ((joined.0) q w)) ∙ sym (left-written p n q w),
     worked-apart old new ps hs each.0 ns a shown.1 joined.1 (λ i d below q w. alone (suc i) d (omega arith) q w) each.2,
   )

@@ -1,4 +1,4 @@
--- What a system is lent.
+-- Views of just some ids.
 use Rattle.std.specs.Prelude.{◌≡◌, false, ◌||◌, List}
 use Rattle.shred_world.specs.declared.id.ResourceId.{ResourceId}
 use Rattle.shred_world.specs.declared.world.data.View.{View}

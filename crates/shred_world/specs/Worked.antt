@@ -1,10 +1,10 @@
--- Work over the parts of a view.
+-- Work over the view of each part of a view that was parted.
 use Rattle.std.specs.Prelude.{◌≡◌, false, IsTrue, Option, None, cond, List, [], ◌∷◌, is_some}
 use Rattle.shred_world.specs.declared.id.Kind.{Kind}
 use Rattle.shred_world.specs.declared.id.ResourceId.{ResourceId}
 use Rattle.shred_world.specs.declared.table.Table.{Table}
 use Rattle.shred_world.specs.Beside.{part_slot}
-use Rattle.shred_world.specs.Parts.{Pair, writes_of, declares, written_by, HoldsSameIds}
+use Rattle.shred_world.specs.Parts.{Pair, reads_of, writes_of, declares, written_by, HoldsSameIds}
 use Rattle.shred_world.specs.Shown.{Lent, IsSameSlots}
 use Rattle.shred_world.specs.Slots.{among, slot_held}
 
@@ -12,9 +12,9 @@ use Rattle.shred_world.specs.Slots.{among, slot_held}
 abbrev pub Held : Type 0 → Type 0
 Held V = ResourceId → Option V
 
--- a work's own relation, from its state and the values that it sees to its state and the values that it leaves
+-- a work's own relation: from its state, the view's list of ids that are read and that of ids that are written, and the declared values that it sees, to its state and the declared values that it leaves
 abbrev pub Works : Type 0 → Type 0 → Type 1
-Works V W = W → Held V → W → Held V → Type 0
+Works V W = W → (reads writes : List ResourceId) → Held V → W → Held V → Type 0
 
 -- the values under the ids that the pair declares
 abbrev pub declared_by : {V : Type 0} → Pair → Held V → Held V
@@ -24,13 +24,18 @@ declared_by p held q = cond (declares p q) (held q) None
 abbrev pub part_held : {V : Type 0} → (V → Kind) → Lent V → Pair → Table V → Held V
 part_held kind behind p hand = declared_by p (λ q. slot_held kind q (part_slot behind p hand q))
 
--- The work was done over one hand, in its own relation, and left a value where there was one.
+-- under the ids that the pair does not write the values are as they were
+abbrev pub KeepsUnwritten : {V : Type 0} → Pair → Held V → Held V → Type 0
+KeepsUnwritten p before after = (q : ResourceId) → among (writes_of p) q ≡ false → after q ≡ before q
+
+-- The work was done over the view of one pair, in its own relation; it wrote what the pair writes alone, no slot came or went, and values are held under the same ids.
 pub record IsWorkedOver {V W : Type 0} (kind : V → Kind) (works : Works V W) (behind : Lent V) (p : Pair) (hand : Table V) (before : W) (left : Table V) (after : W) : Type 0 where
-  pub lies : works before (part_held kind behind p hand) after (part_held kind behind p left)
+  pub lies : works before (reads_of p) (writes_of p) (part_held kind behind p hand) after (part_held kind behind p left)
+  pub frame : KeepsUnwritten p (part_held kind behind p hand) (part_held kind behind p left)
   pub slots : IsSameSlots hand left
   pub ids : HoldsSameIds kind hand left
 
--- the work was done over each hand, one after the other
+-- the work was done over each pair and its hand, one after the other
 abbrev pub IsWorkedEach : {V W : Type 0} → (V → Kind) → Works V W → Lent V → List Pair → List (Table V) → W → List (Table V) → W → Type 0
 IsWorkedEach kind works behind [] [] before [] after = after ≡ before
 IsWorkedEach kind works behind [] [] before (n ∷ left) after = ⊥
@@ -40,11 +45,11 @@ IsWorkedEach kind works behind (p ∷ pairs) (h ∷ hands) before [] after = ⊥
 IsWorkedEach {V} {W} kind works behind (p ∷ pairs) (h ∷ hands) before (n ∷ left) after =
     (w : W) × IsWorkedOver kind works behind p h before n w × IsWorkedEach kind works behind pairs hands w left after
 
--- Of each pair in order the work saw the declared values as they were before, and the values that it left are there after, under the ids that the pair writes.
+-- For each pair in order, from the state that the pair before it left, the work's relation holds of the pair's lists, of the values under their ids as they were before, and of values that differ from these under written ids alone; those are there after, under the ids that the pair writes.
 abbrev pub IsWorked : {V W : Type 0} → Works V W → List Pair → Held V → W → Held V → W → Type 0
 IsWorked works [] seen before after new = new ≡ before
 IsWorked {V} {W} works (p ∷ pairs) seen before after new =
-    (w : W) × (left : Held V) × works before (declared_by p seen) w left × ((q : ResourceId) → IsTrue (among (writes_of p) q) → after q ≡ left q) × IsWorked works pairs seen w after new
+    (w : W) × (left : Held V) × works before (reads_of p) (writes_of p) (declared_by p seen) w left × KeepsUnwritten p (declared_by p seen) left × ((q : ResourceId) → IsTrue (among (writes_of p) q) → after q ≡ left q) × IsWorked works pairs seen w after new
 
 -- what no pair writes is as it was
 abbrev pub KeepsRest : {V : Type 0} → List Pair → Held V → Held V → Type 0

@@ -1,14 +1,15 @@
 -- Worlds of counts, filled and summed.
-use Rattle.std.proofs.Common.{◌≡◌, ℕ, zero, suc, ◌+◌, ◌*◌, ◌%◌, ◌^◌, ◌<◌, ◌≤◌, ◌&&◌, ◌==◌, Bool, true, false, cond, nat_le, ℤ, pos, ◌+ℤ◌, Some, None, of_z, to_z, refl, sym, ap, ◌∙◌, arith}
+use Rattle.std.proofs.Common.{◌≡◌, ℕ, zero, suc, ◌+◌, ◌*◌, ◌%◌, ◌^◌, ◌<◌, ◌≤◌, ◌&&◌, ◌==◌, Bool, true, false, cond, nat_le, ℤ, pos, ◌+ℤ◌, Some, None, of_z, to_z, refl, sym, ap, subst, ◌∙◌, arith}
 use Rattle.std.specs.Prelude.{FitsSigned}
 use Rattle.std.specs.Int.{w64, int_wrap, int_wrapping_add}
 use Rattle.std.proofs.lemmas.Bool.Decides.{nat_tests}
-use Rattle.std.proofs.lemmas.Int.{SFits-int_wrap, int_wrap-add_left, int_wrap-add_right, int_wrap-add_same, of_z-to_z, wrapping_add_is}
+use Rattle.std.proofs.lemmas.Int.{SFits-int_wrap, int_wrap-add_left, int_wrap-add_right, int_wrap-add_same, of_z-to_z, to_z-of_z, wrapping_add_is}
 use Rattle.shred_world.specs.declared.id.ResourceId.{ResourceId}
 use Rattle.shred_world.specs.Slots.{with_at}
 use Rattle.shred.specs.Steps.{Held}
 use Rattle.shredexample.specs.declared.Value.{Value}
 use Rattle.shredmeasure.specs.Counts.{count_id, count_of, number_of, sum_to, zeros_to}
+use Rattle.shredmeasure.specs.Measured.{HasCountEach}
 
 same_test : {X : Type 0} (s t : Bool) (x : X) → s ≡ t → cond s (Some x) None ≡ cond t (Some x) None
 same_test s t x e = ap (λ b. cond b (Some x) None) e
@@ -37,6 +38,12 @@ same_counts held (suc most) times is =
     ∙ int_wrap-add_right w64 (sum_to held most) (pos times)
     ∙ int_wrap-add_same w64 (sum_to held most) (pos (most * times)) (pos times) (same_counts held most times (λ k above below. is k above (omega arith)))
     ∙ (let more : most * times + times ≡ suc most * times = omega arith in ap (λ n. int_wrap w64 (pos n)) more)
+
+-- the same, of a sum of 64 bits
+pub summed : (held : Held Value) (systems times : ℕ) (sum : ℤ) → HasCountEach systems times held → sum ≡ int_wrap w64 (sum_to held systems) → to_z w64 (of_z w64 sum) ≡ int_wrap w64 (pos (systems * times))
+summed held systems times sum each is =
+    let all = is ∙ same_counts held systems times each in
+    to_z-of_z w64 sum (subst (λ z. FitsSigned w64 z) (sym all) (SFits-int_wrap w64 (pos (systems * times)))) ∙ all
 
 -- one more count in the sum
 pub sum-next : (held : Held Value) (most next : ℕ) (sum count : ℤ) → next ≡ most + 1 → sum ≡ int_wrap w64 (sum_to held most) → count ≡ number_of (held (count_id next)) → FitsSigned w64 count → int_wrapping_add w64 sum count ≡ int_wrap w64 (sum_to held next)

@@ -1,9 +1,16 @@
 -- What is measured, by what was asked.
-use Rattle.std.specs.Prelude.{◌≡◌, ℕ, ◌*◌, ◌-◌, ◌^◌, min, ℤ, pos}
+use Rattle.std.specs.Prelude.{◌≡◌, ℕ, ◌*◌, ◌-◌, ◌^◌, ◌<◌, ◌≤◌, min, ℤ, pos, Some}
 use Rattle.std.specs.Int.{w64, int_wrap}
+use Rattle.shred.specs.Steps.{Held}
+use Rattle.shredexample.specs.declared.Value.{Value}
 use Rattle.shredmeasure.specs.declared.order.Mode.{Mode}
 use Rattle.shredmeasure.specs.declared.order.Mode.TheVariants.{Dispatching, Planning}
+use Rattle.shredmeasure.specs.Counts.{count_id, count_of}
 use Rattle.shredmeasure.specs.Random.{AreDrawnOften}
+
+-- under each number from 1 to that of the systems a count is held, which is the number of times, wrapped to 64 bits with sign
+abbrev pub HasCountEach : ℕ → ℕ → Held Value → Type 0
+HasCountEach systems times held = (number : ℕ) → 0 < number → number ≤ systems → held (count_id number) ≡ Some (count_of (int_wrap w64 (pos times)))
 
 -- Each of so many dispatches adds 1 to the count of each system; or else it is the number of stages of so many random plans, at most the greatest number of 64 bits with sign.
 abbrev pub IsMeasured : Mode → ℕ → ℕ → ℤ → Type 0

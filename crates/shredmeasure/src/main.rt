@@ -8,32 +8,30 @@
 
 ghost use Rattle.std.specs.Prelude.{◌≡◌, ℕ, ◌*◌, length, IfOk, pos};
 ghost use Rattle.std.specs.Int.{w64, int_wrap};
-ghost use Rattle.shred_model.specs.OneThread.{LeavesAsOneThread};
 ghost use Rattle.shred_model.specs.Plan.{Plan};
-ghost use Rattle.shred_model.specs.States.{setting_of};
 ghost use Rattle.shred_world.specs.declared.id.ResourceId.{ResourceId};
 ghost use Rattle.shred_world.specs.Worlds.{world_held};
-ghost use Rattle.shred.specs.Dispatchers.{dispatcher_plan, dispatcher_states};
-ghost use Rattle.shred.specs.Plans.{PlanRun};
+ghost use Rattle.shred.specs.Dispatchers.{dispatcher_plan};
 ghost use Rattle.shredmeasure.specs.Adders.{HasOneForEach};
-ghost use Rattle.shredmeasure.specs.Adds.{adds_one};
 ghost use Rattle.shredmeasure.specs.Counts.{count_id as id_of, kind_of, number_of, sum_to, zeros_to};
-ghost use Rattle.shredmeasure.specs.Measured.{IsMeasured};
+ghost use Rattle.shredmeasure.specs.Measured.{HasCountEach, IsMeasured};
 ghost use Rattle.shredmeasure.specs.Random.{AreDrawn, AreDrawnOften};
 
 mod adder;
 mod order;
 mod random;
+mod way;
 
 use adder::{AddOne, count_id};
 use order::{Mode, Order, Place};
 use random::Planned;
-use shred::{DataError, DispatchError, Dispatcher, StagesBuilder, SystemId, World, new_dispatcher};
+use shred::{Dispatcher, StagesBuilder, SystemId, World, new_dispatcher};
 use shredexample::{Count, Value};
 use std::alloc::Global;
 use std::io::{Read, Write};
 use std::process::ExitCode;
 use std::thread::Threads;
+use way::{OnCaller, OnThreads, Way};
 
 /// Why nothing is printed.
 #[derive(Clone, Copy)]
@@ -70,21 +68,6 @@ fn dispatcher_of(alloc: Global, systems: u64) -> Result<Dispatcher<Value, AddOne
         }
     }
     Ok(new_dispatcher(builder.build()))
-}
-
-fn dispatch<R: Threads + Sync>(
-    rt: &R,
-    place: Place,
-    dispatcher: &mut Dispatcher<Value, AddOne>,
-    world: &mut World<Value>,
-) -> Result<(), DispatchError<DataError>>
-    ensures ran { LeavesAsOneThread (λ list. PlanRun kind_of adds_one (dispatcher_plan dispatcher.old) list result) (setting_of (dispatcher_states dispatcher.old) (world_held kind_of world.old)) (setting_of (dispatcher_states dispatcher.new) (world_held kind_of world.new)) }
-    ensures plan { dispatcher_plan dispatcher.new ≡ dispatcher_plan dispatcher.old }
-{
-    match place {
-        Place::OnCaller => dispatcher.dispatch_seq(world),
-        Place::OnThreads => dispatcher.dispatch_par(rt, world),
-    }
 }
 
 // The count of this number, 0 where none is held.
@@ -139,31 +122,44 @@ fn planned_often(alloc: Global, systems: u64, times: u64) -> Result<u64, Stopped
     Ok(stages)
 }
 
-/// The sum of the counts after so many dispatches of so many systems.
-fn dispatched_often<R: Threads + Sync>(
+/// The world after the dispatches that are asked for.
+fn dispatched_often<R: Threads + Sync, W: Way + Drop>(
     rt: &R,
+    way: W,
     alloc: Global,
-    place: Place,
-    systems: u64,
-    times: u64,
-) -> Result<i64, Stopped>
-    ensures { IfOk result (λ sum. sum ≡ int_wrap w64 (pos (systems * times))) }
+    order: Order,
+) -> Result<World<Value>, Stopped>
+    ensures { IfOk result (λ world. HasCountEach order.systems order.times (world_held kind_of world)) }
 {
-    let mut world = world_of(alloc, systems)?;
-    let mut dispatcher = dispatcher_of(alloc, systems)?;
-    for _ in 0..times {
-        if dispatch(rt, place, &mut dispatcher, &mut world).is_err() {
+    let mut world = world_of(alloc, order.systems)?;
+    let mut dispatcher = dispatcher_of(alloc, order.systems)?;
+    for _ in 0..order.times {
+        if way.dispatch(rt, &mut dispatcher, &mut world).is_err() {
             return Err(Stopped);
         }
     }
-    Ok(sum_of(&world, systems))
+    Ok(world)
+}
+
+/// The sum of the counts after them.
+fn sum_dispatched<R: Threads + Sync, W: Way + Drop>(
+    rt: &R,
+    way: W,
+    alloc: Global,
+    order: Order,
+) -> Result<i64, Stopped>
+    ensures { IfOk result (λ sum. sum ≡ int_wrap w64 (pos (order.systems * order.times))) }
+{
+    let world = dispatched_often(rt, way, alloc, order)?;
+    Ok(sum_of(&world, order.systems))
 }
 
 fn measured<R: Threads + Sync>(rt: &R, alloc: Global, order: Order) -> Result<i64, Stopped>
     ensures { IfOk result (λ sum. IsMeasured order.mode order.systems order.times sum) }
 {
     match order.mode {
-        Mode::Dispatching(place) => dispatched_often(rt, alloc, place, order.systems, order.times),
+        Mode::Dispatching(Place::OnCaller) => sum_dispatched(rt, OnCaller, alloc, order),
+        Mode::Dispatching(Place::OnThreads) => sum_dispatched(rt, OnThreads, alloc, order),
         Mode::Planning => match planned_often(alloc, order.systems, order.times) {
             Ok(stages) => Ok(i64::try_from(stages).unwrap_or(i64::MAX)),
             Err(stopped) => Err(stopped),

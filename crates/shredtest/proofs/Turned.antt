@@ -1,9 +1,7 @@
 -- Rings of ids that turn.
-use Rattle.std.proofs.Common.{◌≡◌, ℕ, zero, suc, ◌+◌, List, [], ◌∷◌, length, refl, sym, subst, ◌∙◌, arith}
-use Rattle.std.specs.Prelude.{Result, Ok, Err}
-use Rattle.std.specs.Result.{OnOk, OnErr}
+use Rattle.std.proofs.Common.{◌≡◌, ℕ, zero, suc, ◌+◌, List, [], ◌∷◌, length, subst, ◌∙◌, arith}
 use Rattle.shred_world.specs.Parts.{Pair}
-use Rattle.shredtest.specs.declared.parted_counts.Adding.{Adding}
+use Rattle.shredtest.specs.declared.adding.Adding.{Adding}
 use Rattle.shredtest.specs.declared.values.Value.{Value}
 use Rattle.shredtest.specs.Adding.{HasSameIds, HasTurned, HasTurnedOften}
 use Rattle.shred_world.specs.Worked.{Held, IsWorked}

@@ -1,6 +1,6 @@
 -- The ids of the work that adds, which go round in a ring.
 use Rattle.std.specs.Prelude.{◌≡◌, ℕ, zero, suc}
-use Rattle.shredtest.specs.declared.parted_counts.Adding.{Adding}
+use Rattle.shredtest.specs.declared.adding.Adding.{Adding}
 
 -- the same ids, each in its place
 pub record HasSameIds (before after : Adding) : Type 0 where

@@ -1,8 +1,9 @@
-//! Tests of worlds, views and bundles, with what the other crates of tests share: values and writers.
+//! Tests of worlds, views and bundles, with the values that the other crates of tests share.
 #![tactic(auto)]
 
 #[cfg(test)]
 mod accessor_tests;
+pub mod adding;
 #[cfg(test)]
 mod bundles;
 pub mod chosen;
@@ -13,8 +14,8 @@ mod exec_tests;
 pub mod lent_calls;
 #[cfg(test)]
 mod own_bundle;
-pub mod parted;
-pub mod parted_counts;
+#[cfg(test)]
+mod parted_counts;
 #[cfg(test)]
 mod parted_tests;
 #[cfg(test)]
@@ -25,4 +26,3 @@ pub mod values;
 #[cfg(test)]
 mod world;
 pub mod world_calls;
-pub mod writers;

@@ -1,67 +1,68 @@
-//! Counts that are added to over the parts of a view.
-ghost use Rattle.std.specs.Prelude.{◌≡◌, ◌+◌, ◌||◌, IsTrue, false, is_some, length, OnOk, OnErr};
-ghost use Rattle.std.specs.List.{All};
-ghost use Rattle.shred_world.specs.Parts.{DoNotConflict, reads_of, writes_of};
+//! Work over the parts of a view.
+ghost use Rattle.std.specs.Prelude.{◌≡◌, ◌+◌, ◌||◌, IsTrue, false, length, [], ◌∷◌, OnOk, OnErr};
+ghost use Rattle.std.specs.List.{All, AllZip};
+ghost use Rattle.shred_world.specs.Parts.{DoNotConflict, HasNoOtherSlots, reads_of, writes_of};
+ghost use Rattle.shred_world.specs.Shown.{IsSameSlots};
 ghost use Rattle.shred_world.specs.Slots.{among};
 ghost use Rattle.shred_world.specs.declared.id.ResourceId.{ResourceId};
 ghost use Rattle.shred_world.specs.Id.{same_id};
 ghost use Rattle.shred_world.specs.Views.{view_held, may_read, may_write, is_out, IsSameView};
-ghost use Rattle.shredtest.specs.Adding.{HasTurned, HasTurnedOften};
-ghost use Rattle.shredtest.specs.Values.{kind_of};
+ghost use Rattle.shred_world.specs.Worked.{IsWorked, KeepsRest, KeepsHeldIds};
+ghost use Rattle.shredtest.specs.Adding.{HasTurnedOften};
 
-use crate::parted::work_once;
-use crate::values::{Count, Value};
-use shred::{Each, OutOfMemory, PartWork, ResourceId, View, World};
+use crate::adding::Adding;
+use crate::values::Value;
+use shred::{Each, OutOfMemory, PartWork, ResourceId, ResourceValue, Shelf, Table, View, World};
 use std::alloc::Global;
 
-/// Adds what is read under one id to a count of each part: of the first part under one id, of the next under another,
-/// and so on, in a ring of three.
-#[derive(Drop)]
-pub struct Adding {
-    pub read: ResourceId,
-    pub now: ResourceId,
-    pub then: ResourceId,
-    pub last: ResourceId,
-    /// How often the view let the count be written.
-    pub written: u8,
-}
-
-// Adds to the count under the id, where the view lets it be written.
-fn add(view: &mut View<Value>, id: ResourceId, amount: i64) -> bool
-    ensures view { IsSameView view.old view.new }
-    ensures frame { (q : ResourceId) → may_write view.old q ≡ false → view_held kind_of view.new q ≡ view_held kind_of view.old q }
-    ensures ids { (q : ResourceId) → is_some (view_held kind_of view.new q) ≡ is_some (view_held kind_of view.old q) }
+/// Works over the views of two hands, which are there at the same time.
+pub fn work_beside<'s, V: ResourceValue, W: PartWork<V>>(
+    pairs: &'s [(&'s [ResourceId], &'s [ResourceId])],
+    shelf: &'s [Shelf<'s, V>],
+    first: &mut Table<V>,
+    second: &mut Table<V>,
+    work: &mut W,
+)
+    requires { AllZip HasNoOtherSlots pairs.now (first.old ∷ second.old ∷ []) }
+    ensures first { IsSameSlots first.old first.new }
+    ensures second { IsSameSlots second.old second.new }
 {
-    let Ok(count) = view.write::<Count>(id) else {
-        return false;
-    };
-    count.0 = count.0.wrapping_add(amount);
-    true
+    let mut one = View::over(pairs[0].0, pairs[0].1, shelf, first);
+    let mut two = View::over(pairs[1].0, pairs[1].1, shelf, second);
+    work.run(&mut one);
+    work.run(&mut two);
+    work.run(&mut one);
 }
 
-impl PartWork<Value> for Adding {
-    ghost use Rattle.shred_world.specs.Views.{view_held, IsSameView};
-
-    // The next part has the next count.
-    ghost works = { λ before reads writes seen after left. HasTurned before after };
-
-    fn run(&mut self, view: &mut View<Value>) {
-        let amount = match view.read::<Count>(self.read) {
-            Ok(count) => count.0,
-            Err(_) => 0,
-        };
-        if add(view, self.now, amount) {
-            self.written = self.written.saturating_add(1);
+// Makes hands, parts the view with them, and works over each part. If memory is refused, nothing was done.
+fn work_once<V: ResourceValue + Drop, W: PartWork<V>>(
+    alloc: Global,
+    view: &mut View<V>,
+    pairs: &[(&[ResourceId], &[ResourceId])],
+    work: &mut Each<W>,
+) -> Result<(), OutOfMemory>
+    requires nothing_out { (id : ResourceId) → is_out view.old id ≡ false }
+    requires reads_within { All (λ p. (id : ResourceId) → IsTrue (among (reads_of p) id) → IsTrue (may_read view.old id)) pairs.now }
+    requires writes_within { All (λ p. (id : ResourceId) → IsTrue (among (writes_of p) id) → IsTrue (may_write view.old id)) pairs.now }
+    requires apart { DoNotConflict pairs.now }
+    ensures same { IsSameView view.old view.new }
+    ensures worked { OnOk result (IsWorked W.works pairs.now (view_held V.kind_of view.old) work.old.work (view_held V.kind_of view.new) work.new.work) }
+    ensures rest { KeepsRest pairs.now (view_held V.kind_of view.old) (view_held V.kind_of view.new) }
+    ensures ids { KeepsHeldIds (view_held V.kind_of view.old) (view_held V.kind_of view.new) }
+    ensures refused { OnErr result ((q : ResourceId) → view_held V.kind_of view.new q ≡ view_held V.kind_of view.old q) }
+    ensures not_begun { OnErr result (work.new ≡ work.old) }
+{
+    match view.make_hands(alloc, pairs) {
+        Ok(mut hands) => {
+            view.part_each(pairs, hands.as_mut_slice(), work);
+            Ok(())
         }
-        let was = self.now;
-        self.now = self.then;
-        self.then = self.last;
-        self.last = was;
+        Err(error) => Err(error),
     }
 }
 
-/// Works twice over the parts of the view that is narrowed to these ids, with the same hands.
-pub fn work_twice(
+// Works twice over the parts of the view, with the same hands.
+fn work_twice(
     alloc: Global,
     view: &mut View<Value>,
     pairs: &[(&[ResourceId], &[ResourceId])],

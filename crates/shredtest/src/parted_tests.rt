@@ -3,7 +3,8 @@ ghost use Rattle.std.specs.Prelude.{◌≡◌};
 ghost use Rattle.shred_world.specs.Id.{id_of};
 ghost use Rattle.shredtest.specs.Values.{count_kind};
 
-use crate::parted_counts::{Adding, work_over_none, work_over_three};
+use crate::adding::Adding;
+use crate::parted_counts::{work_over_none, work_over_three};
 use crate::values::{Count, Value};
 use shred::{Each, Kind, ResourceId, World};
 use std::test::Fail;

@@ -3,11 +3,11 @@
 use crate::plain_plan::PlainPlan;
 use crate::planner_tests::{Case, OnlyPlanned, described, next, numbered, plain_entry, system_of};
 use crate::slow_placement::slow_placement;
+use crate::stopping::{Stop, StoppingWriter};
 use shred::{
     AddError, DispatcherBuilder, PrintError, RunningTime, StagesBuilder, SystemId, ToWriter,
 };
 use shredtest::values::Value;
-use shredtest::writers::{FailingWriter, SlowWriter, Stop};
 use std::alloc::{AllocError, Global};
 use std::collections::HashMap;
 use std::process::Abort;
@@ -174,21 +174,21 @@ fn five_systems_are_printed(rt: HostRuntime) -> Result<(), Fail> {
 }
 
 #[test]
-fn a_failed_write_leaves_a_beginning(rt: HostRuntime) -> Result<(), Fail> {
+fn a_full_writer_has_a_beginning(rt: HostRuntime) -> Result<(), Fail> {
     let alloc = rt.alloc();
     let builder = five(&rt, alloc)?;
-    for taken in 0..FIVE.len() {
-        let mut writer = FailingWriter::after(alloc, taken);
-        let mut sink = ToWriter::new(&mut writer);
+    for room in 0..FIVE.len() {
+        let mut bytes = [0; FIVE.len()];
+        let mut sink = ToWriter::new(&mut bytes[..room]);
         assert_eq!(rt; builder.print_par_seq(&mut sink), Err(PrintError::Write));
         drop(sink);
-        let (beginning, _) = FIVE.as_bytes().split_at(taken);
-        assert_eq!(rt; writer.written(), beginning);
+        let (beginning, _) = FIVE.as_bytes().split_at(room);
+        assert_eq!(rt; &bytes[..room], beginning);
     }
     Ok(())
 }
 
-fn printed_slowly(builder: &Builder, writer: &mut SlowWriter) -> Result<(), PrintError> {
+fn printed_slowly(builder: &Builder, writer: &mut StoppingWriter) -> Result<(), PrintError> {
     let mut sink = ToWriter::new(writer);
     builder.print_par_seq(&mut sink)
 }
@@ -200,7 +200,7 @@ fn nothing_is_put_after_a_failure(rt: HostRuntime) -> Result<(), Fail> {
     for place in 0..FIVE.len() {
         let (beginning, _) = FIVE.as_bytes().split_at(place);
         for stop in [Stop::TakesNothing, Stop::Fails, Stop::IsInterrupted] {
-            let mut writer = SlowWriter::stopping_at(alloc, place, stop);
+            let mut writer = StoppingWriter::new(alloc, Some((place, stop)));
             assert_eq!(rt;
                 printed_slowly(&builder, &mut writer),
                 Err(PrintError::Write)
@@ -215,7 +215,7 @@ fn nothing_is_put_after_a_failure(rt: HostRuntime) -> Result<(), Fail> {
 fn a_plan_is_put_byte_by_byte(rt: HostRuntime) -> Result<(), Fail> {
     let alloc = rt.alloc();
     let builder = five(&rt, alloc)?;
-    let mut writer = SlowWriter::without_stop(alloc);
+    let mut writer = StoppingWriter::new(alloc, None);
     assert_eq!(rt; printed_slowly(&builder, &mut writer), Ok(()));
     assert_eq!(rt; writer.written(), FIVE.as_bytes());
     Ok(())

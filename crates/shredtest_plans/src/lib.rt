@@ -15,3 +15,5 @@ pub mod plain_plan;
 #[cfg(test)]
 mod planner_tests;
 pub mod slow_placement;
+#[cfg(test)]
+mod stopping;

@@ -9,3 +9,5 @@ mod plan_cases;
 mod readers;
 #[cfg(test)]
 mod runs;
+#[cfg(test)]
+mod writers;

@@ -1,8 +1,8 @@
 //! Whole runs, from a script's bytes to what is printed.
 use crate::readers::{FailingReader, InterruptedReader, RepeatingReader};
+use crate::writers::FailingWriter;
 use crate::{cases, plan_cases};
 use shredscript::run;
-use shredtest::writers::{FailingWriter, SlowWriter, Stop};
 use std::alloc::{AllocError, Global};
 use std::io::Read;
 use std::process::Abort;
@@ -279,8 +279,8 @@ fn a_failed_write_of_a_fault_leaves_a_beginning(rt: HostRuntime) {
     }
 }
 
-/// How a run ends whose output stops so at this call.
-fn status_at(rt: &(impl AllocGlobal + Threads + Sync), out: &mut SlowWriter) -> u8 {
+/// The status of a run into this output.
+fn status_into(rt: &(impl AllocGlobal + Threads + Sync), out: &mut FailingWriter) -> u8 {
     let mut reader = SCRIPT.as_bytes();
     let mut err = Vec::new(rt.alloc());
     run(rt, rt.alloc(), &mut reader, out, &mut err)
@@ -288,13 +288,13 @@ fn status_at(rt: &(impl AllocGlobal + Threads + Sync), out: &mut SlowWriter) -> 
 
 #[test]
 fn writes_on_after_an_interruption_alone(rt: HostRuntime) {
-    for call in 0..PRINTED.len() {
-        let mut out = SlowWriter::stopping_at(rt.alloc(), call, Stop::IsInterrupted);
-        assert_eq!(rt; status_at(&rt, &mut out), 2);
+    for count in 0..PRINTED.len() {
+        let mut out = FailingWriter::interrupted_after(rt.alloc(), count);
+        assert_eq!(rt; status_into(&rt, &mut out), 2);
         assert_eq!(rt; out.written(), PRINTED.as_bytes());
-        let mut full = SlowWriter::stopping_at(rt.alloc(), call, Stop::TakesNothing);
-        assert_eq!(rt; status_at(&rt, &mut full), 1);
-        let (beginning, _) = PRINTED.as_bytes().split_at(call);
+        let mut full = FailingWriter::full_after(rt.alloc(), count);
+        assert_eq!(rt; status_into(&rt, &mut full), 1);
+        let (beginning, _) = PRINTED.as_bytes().split_at(count);
         assert_eq!(rt; full.written(), beginning);
     }
 }

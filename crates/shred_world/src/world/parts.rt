@@ -78,7 +78,8 @@ pub trait PartsWork<V: ResourceValue> {
 
     ghost works: { PartsRelation V Self };
 
-    /// Works over the hands, of which each has slots of its pair's written ids alone. In each it leaves a value under the ids under which there was one.
+    /// Works over the hands, of which each has slots of its pair's written ids alone. In each it leaves a value under the
+    /// ids under which there was one.
     fn run(
         &mut self,
         pairs: &[(&[ResourceId], &[ResourceId])],

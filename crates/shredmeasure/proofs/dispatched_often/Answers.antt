@@ -1,7 +1,5 @@
-use Rattle.std.proofs.Common.{◌≡◌, ◌*◌, Some, Result, pos, sym, ap, subst, ◌∙◌, arith}
-use Rattle.std.specs.Prelude.{FitsSigned}
+use Rattle.std.proofs.Common.{◌≡◌, Some, Result, pos, sym, ap, subst, ◌∙◌, arith}
 use Rattle.std.specs.Int.{w64, int_wrap}
-use Rattle.std.proofs.lemmas.Int.{SFits-int_wrap, to_z-of_z}
 use Rattle.shred_model.specs.OneThread.{LeavesAsOneThread}
 use Rattle.shred_model.specs.Plan.{Plan}
 use Rattle.shred_model.specs.States.{setting_of}
@@ -15,7 +13,6 @@ use Rattle.shredmeasure.specs.Adders.{HasOneForEach}
 use Rattle.shredmeasure.specs.Adds.{adds_one}
 use Rattle.shredmeasure.specs.Counts.{count_of, kind_of}
 use Rattle.shredmeasure.proofs.Dispatched.{at_ok, dispatched_one_more}
-use Rattle.shredmeasure.proofs.Worlds.{same_counts}
 use Rattle.shredmeasure.proofs.Wraps.{one_more_time}
 use Rattle.shredmeasure.proofs.dispatched_often.Goals as goal
 
@@ -28,12 +25,11 @@ loop-preserved g c =
     let ran = at_ok (λ (r : Result (Unit {0}) (DispatchError DataError)). LeavesAsOneThread (λ list. PlanRun kind_of adds_one plan list r) x y) c.dispatch.result c.is_err.ensures.value c.if-is_err.false c.dispatch.ensures.ran in
     record {
       within = omega arith;
-      one_for_each = subst (λ (p : Plan ResourceId). HasOneForEach c.args.systems p) (sym c.dispatch.ensures.plan) before.one_for_each;
-      counts = λ k above below. dispatched_one_more c.args.systems plan x y k (int_wrap w64 (pos c.loop.counter)) before.one_for_each above below ran (before.counts k above below) ∙ ap (λ n. Some (count_of n)) (one_more_time c.loop.counter);
+      one_for_each = subst (λ (p : Plan ResourceId). HasOneForEach c.args.order.systems p) (sym c.dispatch.ensures.plan) before.one_for_each;
+      counts = λ k above below. dispatched_one_more c.args.order.systems plan x y k (int_wrap w64 (pos c.loop.counter)) before.one_for_each above below ran (before.counts k above below) ∙ ap (λ n. Some (count_of n)) (one_more_time c.loop.counter);
     }
 
 pub returns : goal.returns
 returns g c =
-    let times : c.loop.counter ≡ c.args.times = omega arith in
-    let sum = c.sum_of.ensures ∙ same_counts (world_held kind_of c.loop.world) c.args.systems c.loop.counter c.loop.invariant.counts ∙ ap (λ t. int_wrap w64 (pos (c.args.systems * t))) times in
-    to_z-of_z w64 c.sum_of.result (subst (λ z. FitsSigned w64 z) (sym sum) (SFits-int_wrap w64 (pos (c.args.systems * c.args.times)))) ∙ sum
+    let times : c.loop.counter ≡ c.args.order.times = omega arith in
+    λ k above below. c.loop.invariant.counts k above below ∙ ap (λ t. Some (count_of (int_wrap w64 (pos t)))) times

@@ -8,7 +8,7 @@ use Rattle.shredmeasure.proofs.dispatched_often.Given as goal
 
 abbrev pub invariant-loop : goal.invariant-loop
 invariant-loop g l = record {
-  within : l.counter ≤ l.times;
-  one_for_each : HasOneForEach l.systems (dispatcher_plan l.dispatcher);
-  counts : (k : ℕ) → 0 < k → k ≤ l.systems → world_held kind_of l.world (count_id k) ≡ Some (count_of (int_wrap w64 (pos l.counter)));
+  within : l.counter ≤ l.fn.order.times;
+  one_for_each : HasOneForEach l.fn.order.systems (dispatcher_plan l.dispatcher);
+  counts : (k : ℕ) → 0 < k → k ≤ l.fn.order.systems → world_held kind_of l.world (count_id k) ≡ Some (count_of (int_wrap w64 (pos l.counter)));
 }

@@ -16,7 +16,7 @@ pub use dispatch::stages_builder::StagesBuilder;
 pub use shred_world::{
     Accessor, BatchAccessor, DataError, DefaultProvider, DynamicSystemData, Each, Entry, Fetch,
     FetchMut, Kind, Lent, OutOfMemory, PanicHandler, PartWork, PartsWork, Read, ReadExpect,
-    ReplaceError, Resource, ResourceId, ResourceValue, Resources, SetupHandler, Shelf, SystemData,
-    Table, View, World, WorldError, Write, WriteExpect, check_intersection,
+    ReplaceError, Resource, ResourceId, ResourceValue, Resources, SetupHandler, Shelf, Slot,
+    SystemData, Table, View, World, WorldError, Write, WriteExpect, check_intersection,
 };
 pub use system::{Fault, RunningTime, System};

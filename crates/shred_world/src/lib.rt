@@ -12,7 +12,7 @@ pub mod world;
 pub use accessor::{Accessor, BatchAccessor, OutOfMemory};
 pub use id::{Kind, ResourceId};
 pub use resource::{Resource, ResourceValue};
-pub use table::Table;
+pub use table::{Slot, Table};
 pub use util::check_intersection;
 pub use world::bundle::SystemData;
 pub use world::data::{DataError, Shelf, View};

@@ -160,6 +160,19 @@ fn what_is_declared_and_held_is_shown(rt: HostRuntime) -> Result<(), Fail> {
 }
 
 #[test]
+fn an_option_is_none_where_nothing_is_held(rt: HostRuntime) -> Result<(), Fail> {
+    let mut world: World<Value> = World::empty(rt.alloc());
+    let reads = [id(X)];
+    let mut view = world.lend(&reads, &[]);
+    let absent = view
+        .system_data::<Option<Read<Count>>>()
+        .map_err(|_| "refused")?;
+    assert!(rt; absent.is_none());
+    view.give_back(absent);
+    Ok(())
+}
+
+#[test]
 fn an_option_that_is_written_is_given_back(rt: HostRuntime) -> Result<(), Fail> {
     let mut world: World<Value> = World::empty(rt.alloc());
     world.insert(Name(2)).map_err(|_| "memory")?;

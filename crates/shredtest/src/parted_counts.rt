@@ -34,8 +34,8 @@ pub fn work_beside<'s, V: ResourceValue, W: PartWork<V>>(
     work.run(&mut one);
 }
 
-// Makes hands, parts the view with them, and works over each part. If memory is refused, nothing was done.
-fn work_once<V: ResourceValue + Drop, W: PartWork<V>>(
+/// Makes hands, parts the view with them, and works over each part. If memory is refused, nothing was done.
+pub fn work_once<V: ResourceValue + Drop, W: PartWork<V>>(
     alloc: Global,
     view: &mut View<V>,
     pairs: &[(&[ResourceId], &[ResourceId])],

@@ -4,10 +4,11 @@ ghost use Rattle.shred_world.specs.Views.{may_write, table_of, view_held, IsSame
 ghost use Rattle.shred_world.specs.declared.id.ResourceId.{ResourceId};
 ghost use Rattle.shredtest.specs.Values.{kind_of};
 
+use crate::parted_counts::work_once;
 use crate::values::{Count, Flag, Name, Value};
 use shred::{
-    BatchAccessor, DataError, DispatcherBuilder, Fault, Kind, OutOfMemory, ReadExpect, Resource,
-    ResourceId, RunningTime, System, View, World,
+    BatchAccessor, DataError, DispatcherBuilder, Each, Fault, Kind, OutOfMemory, PartWork,
+    ReadExpect, Resource, ResourceId, RunningTime, System, View, World,
 };
 use std::alloc::Global;
 use std::test::Fail;
@@ -145,6 +146,35 @@ impl System<Value> for Task {
     }
 }
 
+/// Adds up what the count is in two reads, over each part.
+#[derive(Drop)]
+struct Summing {
+    sum: i64,
+}
+
+impl PartWork<Value> for Summing {
+    ghost works = { λ _ _ _ _ _ _. Unit {0} };
+
+    fn run(&mut self, view: &mut View<Value>) {
+        if let Ok(sum) = read_twice(view) {
+            self.sum = self.sum.wrapping_add(sum);
+        }
+    }
+}
+
+// Works over two parts, which both read the ids of the list.
+fn sum_over_two(
+    alloc: Global,
+    world: &mut World<Value>,
+    reads: &[ResourceId],
+    work: &mut Each<Summing>,
+) -> Result<(), OutOfMemory> {
+    let none: [ResourceId; 0] = [];
+    let pairs = [(reads, none.as_slice()), (reads, none.as_slice())];
+    let mut view = world.lend(reads, &[]);
+    work_once(alloc, &mut view, &pairs, work)
+}
+
 fn task_of(
     alloc: Global,
     reads: &[ResourceId],
@@ -191,5 +221,17 @@ fn what_the_group_writes_is_read_twice(rt: HostRuntime) -> Result<(), Fail> {
         .map_err(|_| "not dispatched")?;
     assert_eq!(rt; world.fetch::<Name>().map(|name| name.0), Ok(12));
     assert_eq!(rt; world.fetch::<Flag>().map(|flag| flag.0), Ok(true));
+    Ok(())
+}
+
+#[test]
+fn a_part_reads_an_id_twice(rt: HostRuntime) -> Result<(), Fail> {
+    let mut world: World<Value> = World::empty(rt.alloc());
+    world.insert(Count(4)).map_err(|_| "memory")?;
+    let mut work = Each {
+        work: Summing { sum: 0 },
+    };
+    sum_over_two(rt.alloc(), &mut world, &[id(0)], &mut work).map_err(|_| "memory")?;
+    assert_eq!(rt; work.work.sum, 16);
     Ok(())
 }

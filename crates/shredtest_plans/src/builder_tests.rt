@@ -264,6 +264,33 @@ fn the_least_of_several_names_is_printed(rt: HostRuntime) -> Result<(), Fail> {
     Ok(())
 }
 
+#[test]
+fn stages_are_written_where_each_system_is_named(rt: HostRuntime) -> Result<(), Fail> {
+    let alloc = rt.alloc();
+    let mut builder: StagesBuilder<Value, OnlyPlanned> = StagesBuilder::new(alloc);
+    builder.insert(&[], SystemId(0), system_of(alloc, PLAIN)?)?;
+    builder.insert(&[], SystemId(1), system_of(alloc, PLAIN)?)?;
+    let mut names = HashMap::new(alloc);
+    names.insert(String::from_str(alloc, "a")?, SystemId(0))?;
+    let mut writer = StoppingWriter::new(alloc, Some((5, Stop::Fails)));
+    let mut sink = ToWriter::new(&mut writer);
+    assert_eq!(rt;
+        builder.write_par_seq(&mut sink, &names),
+        Err(PrintError::Unnamed(SystemId(1)))
+    );
+    drop(sink);
+    assert!(rt; writer.written().is_empty());
+    names.insert(String::from_str(alloc, "b")?, SystemId(1))?;
+    let mut sink = ToWriter::new(&mut writer);
+    assert_eq!(rt;
+        builder.write_par_seq(&mut sink, &names),
+        Err(PrintError::Write)
+    );
+    drop(sink);
+    assert_eq!(rt; writer.written(), "seq![".as_bytes());
+    Ok(())
+}
+
 /// The printed text of a plain plan, whose systems are named by their ids.
 fn text_of(alloc: Global, plan: &PlainPlan) -> Result<String, AllocError> {
     let mut text = String::new(alloc);

@@ -10,8 +10,10 @@ use shredtest::values::Value;
 use std::alloc::Global;
 use std::sync::atomic::{AtomicBool, Ordering};
 use std::test::Fail;
+use std::thread;
 
-/// How often a system looks for the other's flag.
+/// How often a system looks for the other's flag. After each look it lets others run, so that a busy machine has the time
+/// to start the second thread.
 const TURNS: u32 = 10_000_000;
 
 /// Raises its flag, and refuses if it never sees the other's.
@@ -44,6 +46,7 @@ impl<'f> System<Value> for Meets<'f> {
             if self.other.load(Ordering::SeqCst) {
                 return Ok(());
             }
+            thread::yield_now();
         }
         Err(Fault::Refused(1))
     }

@@ -10,8 +10,9 @@ use Rattle.shred_world.specs.declared.id.Kind.{Kind}
 use Rattle.shred_world.specs.declared.id.ResourceId.{ResourceId}
 use Rattle.shred_world.specs.Slots.{among}
 use Rattle.shred_world.proofs.Ids.{among-contains, among-false}
+use Rattle.shred_world.specs.Worked.{Held}
 use Rattle.shred.specs.declared.dispatch.run.StageFault.{StageFault}
-use Rattle.shred.specs.Steps.{Held, Outcome, Step, Written, IsStep, declared_of}
+use Rattle.shred.specs.Steps.{Outcome, Step, Written, IsStep, declared_of}
 use Rattle.shred.specs.Entries.{entry_answer, EntryRun}
 
 -- under a declared id, the declared values are those that are held

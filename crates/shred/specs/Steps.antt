@@ -1,20 +1,17 @@
 -- Steps of systems: what one call of `run` does.
-use Rattle.std.specs.Prelude.{◌≡◌, cond, ◌||◌, Option, None, Result}
+use Rattle.std.specs.Prelude.{◌≡◌, cond, ◌||◌, None, Result}
 use Rattle.std.specs.Option.{option_map}
 use Rattle.shred_model.specs.Access.{Access, Declares}
 use Rattle.shred_model.specs.Record.{Record, Agent, IsFramed}
 use Rattle.shred_world.specs.declared.id.Kind.{Kind}
 use Rattle.shred_world.specs.declared.id.ResourceId.{ResourceId}
 use Rattle.shred_world.specs.Slots.{among}
+use Rattle.shred_world.specs.Worked.{Held}
 use Rattle.shred.specs.declared.system.Fault.{Fault}
 
 -- how a step ended: Done, or with a fault
 abbrev pub Outcome : Type 0 → Type 0
 Outcome E = Result (Unit {0}) (Fault E)
-
--- the values that are held, by id
-abbrev pub Held : Type 0 → Type 0
-Held V = ResourceId → Option V
 
 -- a system's own relation, from its state and what it sees to an outcome, its state and what it leaves
 abbrev pub Step : Type 0 → Type 0 → Type 0 → Type 1

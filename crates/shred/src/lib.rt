@@ -14,9 +14,9 @@ pub use dispatch::sink::{PlanSink, SinkFailed, ToWriter};
 pub use dispatch::stage::Stage;
 pub use dispatch::stages_builder::StagesBuilder;
 pub use shred_world::{
-    Accessor, BatchAccessor, DataError, DefaultProvider, DynamicSystemData, Each, Entry, Fetch,
-    FetchMut, Kind, Lent, OutOfMemory, PanicHandler, PartWork, PartsWork, Read, ReadExpect,
-    ReplaceError, Resource, ResourceId, ResourceValue, Resources, SetupHandler, Shelf, Slot,
-    SystemData, Table, View, World, WorldError, Write, WriteExpect, check_intersection,
+    Accessor, BatchAccessor, DataError, DefaultProvider, DynamicSystemData, EachPart, Entry, Fetch,
+    FetchMut, Kind, Lent, OutOfMemory, PanicHandler, PartsWork, Read, ReadExpect, ReplaceError,
+    Resource, ResourceId, ResourceValue, Resources, SetupHandler, Shelf, Slot, SystemData, Table,
+    View, ViewWork, World, WorldError, Write, WriteExpect, check_intersection,
 };
 pub use system::{Fault, RunningTime, System};

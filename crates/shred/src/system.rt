@@ -60,7 +60,8 @@ impl<E: From<DataError>> From<DataError> for Fault<E> {
 /// What is run over the resources that it declares.
 pub trait System<V: ResourceValue> {
     ghost use Rattle.shred_world.specs.OwnViews.{IsLent};
-    ghost use Rattle.shred.specs.Steps.{Held, Outcome, Step};
+    ghost use Rattle.shred_world.specs.Worked.{Held};
+    ghost use Rattle.shred.specs.Steps.{Outcome, Step};
     ghost use Rattle.shred_world.specs.Views.{view_held, declared_held, may_write, table_of, IsSameView};
     ghost use Rattle.shred_world.specs.Worlds.{world_held};
 

@@ -28,7 +28,7 @@ part_held kind behind p hand = declared_by p (λ q. slot_held kind q (part_slot 
 abbrev pub KeepsUnwritten : {V : Type 0} → Pair → Held V → Held V → Type 0
 KeepsUnwritten p before after = (q : ResourceId) → among (writes_of p) q ≡ false → after q ≡ before q
 
--- The work was done over the view of one pair, in its own relation; it wrote what the pair writes alone, no slot came or went, and values are held under the same ids.
+-- The work was done over the view of one pair, in its own relation; it wrote only what the pair writes, no slot came or went, and values are held under the same ids.
 pub record IsWorkedOver {V W : Type 0} (kind : V → Kind) (works : Works V W) (behind : Lent V) (p : Pair) (hand : Table V) (before : W) (left : Table V) (after : W) : Type 0 where
   pub lies : works before (reads_of p) (writes_of p) (part_held kind behind p hand) after (part_held kind behind p left)
   pub frame : KeepsUnwritten p (part_held kind behind p hand) (part_held kind behind p left)

@@ -17,7 +17,7 @@ pub use util::check_intersection;
 pub use world::bundle::SystemData;
 pub use world::data::{DataError, Shelf, View};
 pub use world::dynamic::DynamicSystemData;
-pub use world::each::{Each, PartWork};
+pub use world::each::{EachPart, ViewWork};
 pub use world::entry::Entry;
 pub use world::fetch::{Fetch, FetchMut};
 pub use world::lent::Lent;

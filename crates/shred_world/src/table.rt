@@ -73,6 +73,7 @@ impl<V> Slot<V> {
     }
 }
 
+/// Slots by id, and the ids whose values are noted as handed out.
 #[derive(Drop)]
 pub struct Table<V> {
     slots: HashMap<ResourceId, Slot<V>>,

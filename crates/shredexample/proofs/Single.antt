@@ -9,9 +9,10 @@ use Rattle.shred_model.specs.Record.{Agent}
 use Rattle.shred_model.specs.Replay.{Setting, Replays}
 use Rattle.shred_world.specs.declared.id.Kind.{Kind}
 use Rattle.shred_world.specs.declared.id.ResourceId.{ResourceId}
+use Rattle.shred_world.specs.Worked.{Held}
 use Rattle.shred.specs.Placement.{IsPlaced, in_new_group, at_end_of_group, in_new_stage}
 use Rattle.shred.specs.Plans.{PlanRun}
-use Rattle.shred.specs.Steps.{Held, Step, Written}
+use Rattle.shred.specs.Steps.{Step, Written}
 use Rattle.shredexample.specs.Entries.{plan_entries}
 use Rattle.shredexample.proofs.Done.{IsDoneStep, plan_done}
 

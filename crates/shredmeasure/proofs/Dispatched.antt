@@ -1,6 +1,6 @@
 -- A dispatch of systems that each add 1 to a count of their own.
 use Rattle.std.proofs.Common.{◌≡◌, ◌≢◌, ℕ, zero, suc, ◌+◌, ◌<◌, ◌≤◌, ◌&&◌, ◌==◌, Bool, false, cond, nat_lt, nat_le, ℤ, pos, List, [], ◌∷◌, ◌++◌, Some, Result, Ok, Err, inl, inr, refl, sym, ap, subst, ◌∙◌, arith}
-use Rattle.std.specs.Int.{w64, int_wrapping_add}
+use Rattle.std.specs.Int.{w64, int_wrap, int_wrapping_add}
 use Rattle.std.specs.Prelude.{is_err, OnOk}
 use Rattle.std.specs.List.{AllZip, Contains}
 use Rattle.std.proofs.lemmas.Bool.Decides.{nat_tests}
@@ -13,6 +13,7 @@ use Rattle.shred_model.proofs.Membership.{is_contained, is_declared}
 use Rattle.shred_world.specs.declared.id.ResourceId.{ResourceId}
 use Rattle.shred_world.specs.declared.world.data.DataError.{DataError}
 use Rattle.shred_world.proofs.Ids.{tell_ids}
+use Rattle.shred.specs.declared.dispatch.dispatcher.DispatchError.{DispatchError}
 use Rattle.shred.specs.Placement.{IsPlaced}
 use Rattle.shred.specs.Plans.{PlanRun}
 use Rattle.shred.specs.Steps.{Outcome, Written}
@@ -24,9 +25,10 @@ use Rattle.shredmeasure.specs.declared.adder.AddOne.{AddOne}
 use Rattle.shredmeasure.specs.Adders.{HasOneForEach, occurrences}
 use Rattle.shredmeasure.specs.Adds.{adds_one, IsOneMore}
 use Rattle.shredmeasure.specs.Counts.{kind_of, count_id, count_of, number_of}
+use Rattle.shredmeasure.specs.Measured.{HasCountEach}
 use Rattle.shredmeasure.proofs.Counted.{counted as stepped, steps_on}
 use Rattle.shredmeasure.proofs.Inserted.{placed_one}
-use Rattle.shredmeasure.proofs.Wraps.{other_number}
+use Rattle.shredmeasure.proofs.Wraps.{one_more_time, other_number}
 
 swap_sum : (a b c d : ℕ) → d ≡ b + c → a + d ≡ b + (a + c)
 swap_sum a b c d e = omega arith
@@ -102,7 +104,7 @@ miss : (k n : ℕ) (r : Written Value AddOne DataError) → n ≢ k → Made n r
 miss k n r other made declared = made.step.is_step.frame (count_id k) (λ has. other (ap (λ (id : ResourceId). id.dynamic_id) (written n r (count_id k) made has)))
 
 -- where a dispatch is Done, each count from 1 to the number of systems is one more
-pub dispatched_one_more : (most : ℕ) (plan : Plan ResourceId) (x y : Setting Agent ResourceId Value AddOne) (k : ℕ) (number : ℤ) → HasOneForEach most plan → 0 < k → k ≤ most
+dispatched_one_more : (most : ℕ) (plan : Plan ResourceId) (x y : Setting Agent ResourceId Value AddOne) (k : ℕ) (number : ℤ) → HasOneForEach most plan → 0 < k → k ≤ most
     → LeavesAsOneThread (λ list. PlanRun kind_of adds_one plan list (Ok tt)) x y → x.values (count_id k) ≡ Some (count_of number) → y.values (count_id k) ≡ Some (count_of (int_wrapping_add w64 number (pos 1)))
 dispatched_one_more most plan x y k number have above below ran here =
     stepped Made more (count_id k) k (hit k) (miss k) (λ r. is_declared tell_ids r.access (count_id k)) have.numbers ran.list x y (count_of number)
@@ -115,6 +117,15 @@ on_ok (Ok value) is none h = h
 on_ok (Err error) is none h = absurd (cc)
 
 -- what holds at an answer that is no error, holds at Ok
-pub at_ok : {E : Type 0} {failed : Bool} (P : Result (Unit {0}) E → Type 0) (result : Result (Unit {0}) E) → failed ≡ is_err result → failed ≡ false → P result → P (Ok tt)
+at_ok : {E : Type 0} {failed : Bool} (P : Result (Unit {0}) E → Type 0) (result : Result (Unit {0}) E) → failed ≡ is_err result → failed ≡ false → P result → P (Ok tt)
 at_ok P (Ok value) is none h = h
 at_ok P (Err error) is none h = absurd (cc)
+
+-- one more dispatch that is no error leaves a plan with one system for each count, and each count one more
+pub dispatched_again : {failed : Bool} (most times : ℕ) (plan left : Plan ResourceId) (x y : Setting Agent ResourceId Value AddOne) (result : Result (Unit {0}) (DispatchError DataError)) → failed ≡ is_err result → failed ≡ false → left ≡ plan
+    → LeavesAsOneThread (λ list. PlanRun kind_of adds_one plan list result) x y → HasOneForEach most plan × HasCountEach most times x.values → HasOneForEach most left × HasCountEach most (times + 1) y.values
+dispatched_again most times plan left x y result is none same ran (have, counts) =
+    let done = at_ok (λ (r : Result (Unit {0}) (DispatchError DataError)). LeavesAsOneThread (λ list. PlanRun kind_of adds_one plan list r) x y) result is none ran in (
+      subst (λ (p : Plan ResourceId). HasOneForEach most p) (sym same) have,
+      λ k above below. dispatched_one_more most plan x y k (int_wrap w64 (pos times)) have above below done (counts k above below) ∙ ap (λ n. Some (count_of n)) (one_more_time times),
+    )

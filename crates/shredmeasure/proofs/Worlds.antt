@@ -1,12 +1,12 @@
 -- Worlds of counts, filled and summed.
-use Rattle.std.proofs.Common.{◌≡◌, ℕ, zero, suc, ◌+◌, ◌*◌, ◌%◌, ◌^◌, ◌<◌, ◌≤◌, ◌&&◌, ◌==◌, Bool, true, false, cond, nat_le, ℤ, pos, ◌+ℤ◌, Some, None, of_z, to_z, refl, sym, ap, subst, ◌∙◌, arith}
+use Rattle.std.proofs.Common.{◌≡◌, ℕ, zero, suc, ◌+◌, ◌*◌, ◌%◌, ◌^◌, ◌<◌, ◌≤◌, ◌&&◌, ◌==◌, Bool, true, false, cond, nat_le, ℤ, pos, ◌+ℤ◌, Some, None, of_z, to_z, refl, sym, ap, ◌∙◌, arith}
 use Rattle.std.specs.Prelude.{FitsSigned}
 use Rattle.std.specs.Int.{w64, int_wrap, int_wrapping_add}
 use Rattle.std.proofs.lemmas.Bool.Decides.{nat_tests}
-use Rattle.std.proofs.lemmas.Int.{SFits-int_wrap, int_wrap-add_left, int_wrap-add_right, int_wrap-add_same, of_z-to_z, to_z-of_z, wrapping_add_is}
+use Rattle.std.proofs.lemmas.Int.{SFits-int_wrap, int_wrap-add_left, int_wrap-add_right, int_wrap-add_same, of_z-to_z, wrapping_add_is}
 use Rattle.shred_world.specs.declared.id.ResourceId.{ResourceId}
 use Rattle.shred_world.specs.Slots.{with_at}
-use Rattle.shred.specs.Steps.{Held}
+use Rattle.shred_world.specs.Worked.{Held}
 use Rattle.shredexample.specs.declared.Value.{Value}
 use Rattle.shredmeasure.specs.Counts.{count_id, count_of, number_of, sum_to, zeros_to}
 use Rattle.shredmeasure.specs.Measured.{HasCountEach}
@@ -31,19 +31,13 @@ pub zeros-at : (most k : ℕ) → k ≤ most → zeros_to most (count_id k) ≡ 
 zeros-at most k below = same_test (nat_le k most) true (count_of (pos 0)) (grind (arith, nat_tests))
 
 -- the sum of counts that are the same, within 64 bits with sign
-pub same_counts : (held : Held Value) (most times : ℕ) → ((k : ℕ) → 0 < k → k ≤ most → held (count_id k) ≡ Some (count_of (int_wrap w64 (pos times)))) → int_wrap w64 (sum_to held most) ≡ int_wrap w64 (pos (most * times))
+pub same_counts : (held : Held Value) (most times : ℕ) → HasCountEach most times held → int_wrap w64 (sum_to held most) ≡ int_wrap w64 (pos (most * times))
 same_counts held zero times is = (let none : 0 ≡ zero * times = omega arith in ap (λ n. int_wrap w64 (pos n)) none)
 same_counts held (suc most) times is =
     ap (λ o. int_wrap w64 (sum_to held most +ℤ number_of o)) (is (suc most) (omega arith) (omega arith))
     ∙ int_wrap-add_right w64 (sum_to held most) (pos times)
     ∙ int_wrap-add_same w64 (sum_to held most) (pos (most * times)) (pos times) (same_counts held most times (λ k above below. is k above (omega arith)))
     ∙ (let more : most * times + times ≡ suc most * times = omega arith in ap (λ n. int_wrap w64 (pos n)) more)
-
--- the same, of a sum of 64 bits
-pub summed : (held : Held Value) (systems times : ℕ) (sum : ℤ) → HasCountEach systems times held → sum ≡ int_wrap w64 (sum_to held systems) → to_z w64 (of_z w64 sum) ≡ int_wrap w64 (pos (systems * times))
-summed held systems times sum each is =
-    let all = is ∙ same_counts held systems times each in
-    to_z-of_z w64 sum (subst (λ z. FitsSigned w64 z) (sym all) (SFits-int_wrap w64 (pos (systems * times)))) ∙ all
 
 -- one more count in the sum
 pub sum-next : (held : Held Value) (most next : ℕ) (sum count : ℤ) → next ≡ most + 1 → sum ≡ int_wrap w64 (sum_to held most) → count ≡ number_of (held (count_id next)) → FitsSigned w64 count → int_wrapping_add w64 sum count ≡ int_wrap w64 (sum_to held next)

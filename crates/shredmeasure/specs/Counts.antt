@@ -3,7 +3,7 @@ use Rattle.std.specs.Prelude.{ℕ, zero, suc, ◌==◌, ◌&&◌, nat_le, ℤ, p
 use Rattle.shred_world.specs.declared.id.Kind.{Kind}
 use Rattle.shred_world.specs.declared.id.ResourceId.{ResourceId}
 use Rattle.shred_world.specs.Id.{id_of}
-use Rattle.shred.specs.Steps.{Held}
+use Rattle.shred_world.specs.Worked.{Held}
 use Rattle.shredexample.specs.declared.Value.{Value}
 use Rattle.shredexample.specs.declared.Value.TheVariants.{Count as counted}
 

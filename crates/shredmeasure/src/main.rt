@@ -20,7 +20,6 @@ ghost use Rattle.shredmeasure.specs.Random.{AreDrawn, AreDrawnOften};
 mod adder;
 mod order;
 mod random;
-mod way;
 
 use adder::{AddOne, count_id};
 use order::{Mode, Order, Place};
@@ -31,7 +30,6 @@ use std::alloc::Global;
 use std::io::{Read, Write};
 use std::process::ExitCode;
 use std::thread::Threads;
-use way::{OnCaller, OnThreads, Way};
 
 /// Why nothing is printed.
 #[derive(Clone, Copy)]
@@ -82,7 +80,8 @@ fn count_at(world: &World<Value>, number: u64) -> i64
 
 /// The sum of the systems' own counts, which wraps past 64 bits with sign.
 fn sum_of(world: &World<Value>, systems: u64) -> i64
-    ensures { result ≡ int_wrap w64 (sum_to (world_held kind_of world.now) systems) }
+    ensures sum { result ≡ int_wrap w64 (sum_to (world_held kind_of world.now) systems) }
+    ensures product { (times : ℕ) → HasCountEach systems times (world_held kind_of world.now) → result ≡ int_wrap w64 (pos (systems * times)) }
 {
     let mut sum: i64 = 0;
     for number in 0..systems {
@@ -122,10 +121,23 @@ fn planned_often(alloc: Global, systems: u64, times: u64) -> Result<u64, Stopped
     Ok(stages)
 }
 
-/// The world after the dispatches that are asked for.
-fn dispatched_often<R: Threads + Sync, W: Way + Drop>(
+/// The world after the dispatches that are asked for, on the caller's thread.
+fn dispatched_on_caller(alloc: Global, order: Order) -> Result<World<Value>, Stopped>
+    ensures { IfOk result (λ world. HasCountEach order.systems order.times (world_held kind_of world)) }
+{
+    let mut world = world_of(alloc, order.systems)?;
+    let mut dispatcher = dispatcher_of(alloc, order.systems)?;
+    for _ in 0..order.times {
+        if dispatcher.dispatch_seq(&mut world).is_err() {
+            return Err(Stopped);
+        }
+    }
+    Ok(world)
+}
+
+/// The world after the dispatches that are asked for, the groups of a stage beside each other on threads.
+fn dispatched_on_threads<R: Threads + Sync>(
     rt: &R,
-    way: W,
     alloc: Global,
     order: Order,
 ) -> Result<World<Value>, Stopped>
@@ -134,36 +146,30 @@ fn dispatched_often<R: Threads + Sync, W: Way + Drop>(
     let mut world = world_of(alloc, order.systems)?;
     let mut dispatcher = dispatcher_of(alloc, order.systems)?;
     for _ in 0..order.times {
-        if way.dispatch(rt, &mut dispatcher, &mut world).is_err() {
+        if dispatcher.dispatch_par(rt, &mut world).is_err() {
             return Err(Stopped);
         }
     }
     Ok(world)
 }
 
-/// The sum of the counts after them.
-fn sum_dispatched<R: Threads + Sync, W: Way + Drop>(
-    rt: &R,
-    way: W,
-    alloc: Global,
-    order: Order,
-) -> Result<i64, Stopped>
-    ensures { IfOk result (λ sum. sum ≡ int_wrap w64 (pos (order.systems * order.times))) }
-{
-    let world = dispatched_often(rt, way, alloc, order)?;
-    Ok(sum_of(&world, order.systems))
-}
-
+/// What is printed: the sum of the counts, or the number of stages.
 fn measured<R: Threads + Sync>(rt: &R, alloc: Global, order: Order) -> Result<i64, Stopped>
     ensures { IfOk result (λ sum. IsMeasured order.mode order.systems order.times sum) }
 {
     match order.mode {
-        Mode::Dispatching(Place::OnCaller) => sum_dispatched(rt, OnCaller, alloc, order),
-        Mode::Dispatching(Place::OnThreads) => sum_dispatched(rt, OnThreads, alloc, order),
-        Mode::Planning => match planned_often(alloc, order.systems, order.times) {
-            Ok(stages) => Ok(i64::try_from(stages).unwrap_or(i64::MAX)),
-            Err(stopped) => Err(stopped),
-        },
+        Mode::Dispatching(Place::OnCaller) => {
+            let world = dispatched_on_caller(alloc, order)?;
+            Ok(sum_of(&world, order.systems))
+        }
+        Mode::Dispatching(Place::OnThreads) => {
+            let world = dispatched_on_threads(rt, alloc, order)?;
+            Ok(sum_of(&world, order.systems))
+        }
+        Mode::Planning => {
+            let stages = planned_often(alloc, order.systems, order.times)?;
+            Ok(i64::try_from(stages).unwrap_or(i64::MAX))
+        }
     }
 }
 

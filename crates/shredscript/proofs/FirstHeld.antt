@@ -7,7 +7,7 @@ use Rattle.shred_world.specs.declared.id.ResourceId.{ResourceId}
 use Rattle.shred_world.specs.Id.{same_id}
 use Rattle.shred_world.specs.Slots.{with_at}
 use Rattle.shredscript.specs.Place.{id_at}
-use Rattle.shred.specs.Steps.{Held}
+use Rattle.shred_world.specs.Worked.{Held}
 use Rattle.shredscript.specs.declared.value.Value.{Value}
 use Rattle.shredscript.specs.Report.{first_held}
 

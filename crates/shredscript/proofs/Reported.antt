@@ -1,7 +1,7 @@
 -- Lines of a report, one after another.
 use Rattle.std.proofs.Common.{◌≡◌, ℕ, ◌+◌, List, ◌∷◌, ◌++◌, map, sym, ◌∙◌, ap, append_assoc}
 use denote.Ref.{Bor}
-use Rattle.shred.specs.Steps.{Held}
+use Rattle.shred_world.specs.Worked.{Held}
 use Rattle.shredscript.specs.declared.value.Value.{Value}
 use Rattle.shredscript.specs.Place.{number_at}
 use Rattle.shredscript.specs.Report.{value_line, value_lines}

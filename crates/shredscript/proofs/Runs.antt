@@ -6,9 +6,9 @@ use Rattle.shred_model.specs.Plan.{Plan}
 use Rattle.shred_model.specs.Record.{Agent}
 use Rattle.shred_model.specs.States.{setting_of}
 use Rattle.shred_world.specs.declared.id.ResourceId.{ResourceId}
+use Rattle.shred_world.specs.Worked.{Held}
 use Rattle.shred.specs.Built.{Built}
 use Rattle.shred.specs.Names.{AreNames, Pair}
-use Rattle.shred.specs.Steps.{Held}
 use Rattle.std.specs.Prelude.{IfOk, Option, Result, Ok, Err}
 use Rattle.shredscript.specs.declared.error.ScriptError.{ScriptError}
 use Rattle.shredscript.specs.declared.error.ScriptError.TheVariants.{TooLong, InputFailed, Line, Refused, Unnamed, OutOfMemory, OutputFailed}

@@ -3,7 +3,7 @@ use Rattle.std.specs.Prelude.{ℕ, ℤ, ◌+◌, ◌==◌, cond, Option, Some, N
 use Rattle.std.specs.Option.{option_map}
 use Rattle.indexmap.specs.IndexMap.{IndexMap, keys}
 use denote.Ref.{Bor}
-use Rattle.shred.specs.Steps.{Held}
+use Rattle.shred_world.specs.Worked.{Held}
 use Rattle.shredscript.specs.declared.outcome.Outcome.{Outcome}
 use Rattle.shredscript.specs.declared.value.Value.{Value}
 use Rattle.shredscript.specs.Place.{number_at}

@@ -9,11 +9,12 @@ use Rattle.shred_model.specs.Replay.{Setting}
 use Rattle.shred_model.specs.Runs.{Answer}
 use Rattle.shred_model.specs.States.{setting_of}
 use Rattle.shred_world.specs.declared.id.ResourceId.{ResourceId}
+use Rattle.shred_world.specs.Worked.{Held}
 use Rattle.shred.specs.Built.{Built}
 use Rattle.shred.specs.Names.{AreNames, Pair, first_unnamed}
 use Rattle.shred.specs.Plans.{PlanRun}
 use Rattle.shred.specs.Sinks.{AppendsBeginning}
-use Rattle.shred.specs.Steps.{Held, Outcome as Ends}
+use Rattle.shred.specs.Steps.{Outcome as Ends}
 use Rattle.shred.specs.declared.dispatch.dispatcher.DispatchError.{DispatchError}
 use Rattle.shredscript.specs.declared.error.ScriptError.{ScriptError}
 use Rattle.shredscript.specs.declared.error.ScriptError.TheVariants.{TooLong, InputFailed, Line, Refused, Unnamed, OutOfMemory, OutputFailed}

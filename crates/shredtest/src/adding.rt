@@ -6,7 +6,7 @@ ghost use Rattle.shredtest.specs.Adding.{HasTurned};
 ghost use Rattle.shredtest.specs.Values.{kind_of};
 
 use crate::values::{Count, Value};
-use shred::{PartWork, ResourceId, View};
+use shred::{ResourceId, View, ViewWork};
 
 /// Adds what is read under one id to a count of each part: of the first part under one id, of the next under another,
 /// and so on, in a ring of three.
@@ -33,7 +33,7 @@ fn add(view: &mut View<Value>, id: ResourceId, amount: i64) -> bool
     true
 }
 
-impl PartWork<Value> for Adding {
+impl ViewWork<Value> for Adding {
     ghost use Rattle.shred_world.specs.Views.{view_held, IsSameView};
 
     // The next part has the next count.

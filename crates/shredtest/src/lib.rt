@@ -15,7 +15,7 @@ pub mod lent_calls;
 #[cfg(test)]
 mod own_bundle;
 #[cfg(test)]
-mod parted_counts;
+mod parted_calls;
 #[cfg(test)]
 mod parted_tests;
 #[cfg(test)]

@@ -4,9 +4,9 @@ ghost use Rattle.shred_world.specs.Id.{id_of};
 ghost use Rattle.shredtest.specs.Values.{count_kind};
 
 use crate::adding::Adding;
-use crate::parted_counts::{work_over_none, work_over_three};
+use crate::parted_calls::{work_over_none, work_over_three};
 use crate::values::{Count, Value};
-use shred::{Each, Kind, ResourceId, World};
+use shred::{EachPart, Kind, ResourceId, World};
 use std::test::Fail;
 
 fn number(dynamic_id: u64) -> ResourceId
@@ -34,8 +34,8 @@ fn count_at(world: &World<Value>, dynamic_id: u64) -> Option<i64> {
 }
 
 // Adds what is read under number 0, to number 1 in the first part, to number 2 in the second, and to `last` in the third.
-fn adding(last: u64) -> Each<Adding> {
-    Each {
+fn adding(last: u64) -> EachPart<Adding> {
+    EachPart {
         work: Adding {
             read: number(0),
             now: number(1),

@@ -1,14 +1,15 @@
-//! What a system only reads goes out in bundles any number of times, also where another system of its group writes it.
+//! What a system only reads goes out in bundles any number of times, also where another system of its group writes it, and
+//! in the views of parts.
 ghost use Rattle.std.specs.Prelude.{◌≡◌, false, is_some};
 ghost use Rattle.shred_world.specs.Views.{may_write, table_of, view_held, IsSameView};
 ghost use Rattle.shred_world.specs.declared.id.ResourceId.{ResourceId};
 ghost use Rattle.shredtest.specs.Values.{kind_of};
 
-use crate::parted_counts::work_once;
+use crate::parted_calls::work_once;
 use crate::values::{Count, Flag, Name, Value};
 use shred::{
-    BatchAccessor, DataError, DispatcherBuilder, Each, Fault, Kind, OutOfMemory, PartWork,
-    ReadExpect, Resource, ResourceId, RunningTime, System, View, World,
+    BatchAccessor, DataError, DispatcherBuilder, EachPart, Fault, Kind, OutOfMemory, ReadExpect,
+    Resource, ResourceId, RunningTime, System, View, ViewWork, World,
 };
 use std::alloc::Global;
 use std::test::Fail;
@@ -146,13 +147,13 @@ impl System<Value> for Task {
     }
 }
 
-/// Adds up what the count is in two reads, over each part.
+/// Over each part, adds twice the count, from one bundle that reads it twice.
 #[derive(Drop)]
 struct Summing {
     sum: i64,
 }
 
-impl PartWork<Value> for Summing {
+impl ViewWork<Value> for Summing {
     ghost works = { λ _ _ _ _ _ _. Unit {0} };
 
     fn run(&mut self, view: &mut View<Value>) {
@@ -167,7 +168,7 @@ fn sum_over_two(
     alloc: Global,
     world: &mut World<Value>,
     reads: &[ResourceId],
-    work: &mut Each<Summing>,
+    work: &mut EachPart<Summing>,
 ) -> Result<(), OutOfMemory> {
     let none: [ResourceId; 0] = [];
     let pairs = [(reads, none.as_slice()), (reads, none.as_slice())];
@@ -228,7 +229,7 @@ fn what_the_group_writes_is_read_twice(rt: HostRuntime) -> Result<(), Fail> {
 fn a_part_reads_an_id_twice(rt: HostRuntime) -> Result<(), Fail> {
     let mut world: World<Value> = World::empty(rt.alloc());
     world.insert(Count(4)).map_err(|_| "memory")?;
-    let mut work = Each {
+    let mut work = EachPart {
         work: Summing { sum: 0 },
     };
     sum_over_two(rt.alloc(), &mut world, &[id(0)], &mut work).map_err(|_| "memory")?;

@@ -288,6 +288,13 @@ fn stages_are_written_where_each_system_is_named(rt: HostRuntime) -> Result<(), 
     );
     drop(sink);
     assert_eq!(rt; writer.written(), "seq![".as_bytes());
+    let mut bytes = Vec::new(alloc);
+    let mut sink = ToWriter::new(&mut bytes);
+    assert_eq!(rt; builder.write_par_seq(&mut sink, &names), Ok(()));
+    drop(sink);
+    let text =
+        "seq![\n\tpar![\n\t\tseq![\n\t\t\ta,\n\t\t],\n\t\tseq![\n\t\t\tb,\n\t\t],\n\t],\n]\n";
+    assert_eq!(rt; bytes.as_slice(), text.as_bytes());
     Ok(())
 }
 

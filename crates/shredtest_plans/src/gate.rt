@@ -12,15 +12,13 @@ use std::sync::atomic::{AtomicBool, Ordering};
 use std::test::Fail;
 use std::thread;
 
-/// How often a system looks for the other's flag. After each look it lets others run, so that a busy machine has the time
-/// to start the second thread.
-const TURNS: u32 = 10_000_000;
-
-/// Raises its flag, and refuses if it never sees the other's.
+/// Raises its flag, looks so often at most for the other's, and refuses if it never sees it. After each look it lets others
+/// run, so that a busy machine has the time to start the second thread.
 #[derive(Drop)]
 struct Meets<'f> {
     own: &'f AtomicBool,
     other: &'f AtomicBool,
+    turns: u32,
 }
 
 impl<'f> System<Value> for Meets<'f> {
@@ -42,7 +40,7 @@ impl<'f> System<Value> for Meets<'f> {
 
     fn run(&mut self, _view: &mut View<Value>) -> Result<(), Fault<u8>> {
         self.own.store(true, Ordering::SeqCst);
-        for _ in 0..TURNS {
+        for _ in 0..self.turns {
             if self.other.load(Ordering::SeqCst) {
                 return Ok(());
             }
@@ -72,16 +70,19 @@ fn two_that_meet<'f>(
     alloc: Global,
     first: &'f AtomicBool,
     second: &'f AtomicBool,
+    turns: u32,
 ) -> Result<Dispatcher<Value, Meets<'f>>, OutOfMemory> {
     let mut builder = StagesBuilder::new(alloc);
     let one = Meets {
         own: first,
         other: second,
+        turns,
     };
     builder.insert(&[], SystemId(0), one)?;
     let two = Meets {
         own: second,
         other: first,
+        turns,
     };
     builder.insert(&[], SystemId(1), two)?;
     Ok(new_dispatcher(builder.build()))
@@ -91,7 +92,7 @@ fn two_that_meet<'f>(
 fn two_halves_run_at_once(rt: HostRuntime) -> Result<(), Fail> {
     let first = AtomicBool::new(false);
     let second = AtomicBool::new(false);
-    let mut dispatcher = two_that_meet(rt.alloc(), &first, &second)?;
+    let mut dispatcher = two_that_meet(rt.alloc(), &first, &second, 10_000_000)?;
     let mut world: World<Value> = World::empty(rt.alloc());
     assert_eq!(rt; dispatcher.max_threads(), 2);
     assert!(rt; dispatcher.dispatch_par(&rt, &mut world).is_ok());
@@ -102,7 +103,8 @@ fn two_halves_run_at_once(rt: HostRuntime) -> Result<(), Fail> {
 fn one_after_the_other_they_do_not_meet(rt: HostRuntime) -> Result<(), Fail> {
     let first = AtomicBool::new(false);
     let second = AtomicBool::new(false);
-    let mut dispatcher = two_that_meet(rt.alloc(), &first, &second)?;
+    // No number of looks would do: the second has not begun.
+    let mut dispatcher = two_that_meet(rt.alloc(), &first, &second, 1_000)?;
     let mut world: World<Value> = World::empty(rt.alloc());
     match dispatcher.dispatch_seq(&mut world) {
         Err(

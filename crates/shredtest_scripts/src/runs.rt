@@ -1,6 +1,6 @@
 //! Whole runs, from a script's bytes to what is printed.
 use crate::readers::{FailingReader, InterruptedReader, RepeatingReader};
-use crate::writers::FailingWriter;
+use crate::writers::StoppingWriter;
 use crate::{cases, plan_cases};
 use shredscript::run;
 use std::alloc::{AllocError, Global};
@@ -197,7 +197,7 @@ fn assert_fails_after(
     after: usize,
 ) {
     let mut reader = script.as_bytes();
-    let mut out = FailingWriter::after(rt.alloc(), after);
+    let mut out = StoppingWriter::after(rt.alloc(), after);
     let mut err = Vec::new(rt.alloc());
     let status = run(rt, rt.alloc(), &mut reader, &mut out, &mut err);
     let (beginning, _) = printed.as_bytes().split_at(after.min(printed.len()));
@@ -224,7 +224,7 @@ fn tells_a_failed_write_wherever_it_comes(rt: HostRuntime) {
 fn a_refused_line_writes_nothing_to_the_output(rt: HostRuntime) {
     for (script, err) in plan_cases::REFUSED_LINES {
         let mut reader = script.as_bytes();
-        let mut out = FailingWriter::after(rt.alloc(), 0);
+        let mut out = StoppingWriter::after(rt.alloc(), 0);
         let mut told = Vec::new(rt.alloc());
         let status = run(&rt, rt.alloc(), &mut reader, &mut out, &mut told);
         assert_eq!(rt; told.as_slice(), err.as_bytes(), "err of {script:?}");
@@ -235,7 +235,7 @@ fn a_refused_line_writes_nothing_to_the_output(rt: HostRuntime) {
 #[test]
 fn tells_a_failed_flush(rt: HostRuntime) {
     let mut reader = SCRIPT.as_bytes();
-    let mut out = FailingWriter::at_flush(rt.alloc());
+    let mut out = StoppingWriter::at_flush(rt.alloc());
     let mut err = Vec::new(rt.alloc());
     assert_eq!(rt; run(&rt, rt.alloc(), &mut reader, &mut out, &mut err), 1);
     assert_eq!(rt; out.written(), PRINTED.as_bytes());
@@ -253,7 +253,7 @@ fn a_failed_write_of_a_fault_changes_no_status(rt: HostRuntime) {
     ] {
         let mut reader = script.as_bytes();
         let mut out = Vec::new(rt.alloc());
-        let mut err = FailingWriter::after(rt.alloc(), 0);
+        let mut err = StoppingWriter::after(rt.alloc(), 0);
         assert_eq!(rt;
             run(&rt, rt.alloc(), &mut reader, &mut out, &mut err),
             status
@@ -271,7 +271,7 @@ fn a_failed_write_of_a_fault_leaves_a_beginning(rt: HostRuntime) {
         for after in 0..told.len() {
             let mut reader = script.as_bytes();
             let mut out = Vec::new(rt.alloc());
-            let mut err = FailingWriter::after(rt.alloc(), after);
+            let mut err = StoppingWriter::after(rt.alloc(), after);
             let _ = run(&rt, rt.alloc(), &mut reader, &mut out, &mut err);
             let (beginning, _) = told.as_bytes().split_at(after);
             assert_eq!(rt; err.written(), beginning, "{script:?} after {after}");
@@ -280,7 +280,7 @@ fn a_failed_write_of_a_fault_leaves_a_beginning(rt: HostRuntime) {
 }
 
 /// The status of a run into this output.
-fn status_into(rt: &(impl AllocGlobal + Threads + Sync), out: &mut FailingWriter) -> u8 {
+fn status_into(rt: &(impl AllocGlobal + Threads + Sync), out: &mut StoppingWriter) -> u8 {
     let mut reader = SCRIPT.as_bytes();
     let mut err = Vec::new(rt.alloc());
     run(rt, rt.alloc(), &mut reader, out, &mut err)
@@ -289,10 +289,10 @@ fn status_into(rt: &(impl AllocGlobal + Threads + Sync), out: &mut FailingWriter
 #[test]
 fn writes_on_after_an_interruption_alone(rt: HostRuntime) {
     for count in 0..PRINTED.len() {
-        let mut out = FailingWriter::interrupted_after(rt.alloc(), count);
+        let mut out = StoppingWriter::interrupted_after(rt.alloc(), count);
         assert_eq!(rt; status_into(&rt, &mut out), 2);
         assert_eq!(rt; out.written(), PRINTED.as_bytes());
-        let mut full = FailingWriter::full_after(rt.alloc(), count);
+        let mut full = StoppingWriter::full_after(rt.alloc(), count);
         assert_eq!(rt; status_into(&rt, &mut full), 1);
         let (beginning, _) = PRINTED.as_bytes().split_at(count);
         assert_eq!(rt; full.written(), beginning);

@@ -15,7 +15,7 @@ enum End {
 
 /// Takes so many bytes, some at most in one call, and then fails or stops.
 #[derive(Drop)]
-pub struct FailingWriter {
+pub struct StoppingWriter {
     taken: Vec<u8>,
     left: usize,
     most: usize,
@@ -23,9 +23,9 @@ pub struct FailingWriter {
     flushes: bool,
 }
 
-impl FailingWriter {
-    fn ending(alloc: Global, left: usize, most: usize, end: End) -> FailingWriter {
-        FailingWriter {
+impl StoppingWriter {
+    fn ending(alloc: Global, left: usize, most: usize, end: End) -> StoppingWriter {
+        StoppingWriter {
             taken: Vec::new(alloc),
             left,
             most,
@@ -35,23 +35,23 @@ impl FailingWriter {
     }
 
     /// Takes that many bytes, and fails at each call then.
-    pub fn after(alloc: Global, count: usize) -> FailingWriter {
-        FailingWriter::ending(alloc, count, usize::MAX, End::Fails)
+    pub fn after(alloc: Global, count: usize) -> StoppingWriter {
+        StoppingWriter::ending(alloc, count, usize::MAX, End::Fails)
     }
 
     /// Takes that many bytes, one a call, and nothing then.
-    pub fn full_after(alloc: Global, count: usize) -> FailingWriter {
-        FailingWriter::ending(alloc, count, 1, End::TakesNothing)
+    pub fn full_after(alloc: Global, count: usize) -> StoppingWriter {
+        StoppingWriter::ending(alloc, count, 1, End::TakesNothing)
     }
 
     /// Takes that many bytes, is interrupted, and takes all that comes then; one byte a call.
-    pub fn interrupted_after(alloc: Global, count: usize) -> FailingWriter {
-        FailingWriter::ending(alloc, count, 1, End::IsInterruptedOnce)
+    pub fn interrupted_after(alloc: Global, count: usize) -> StoppingWriter {
+        StoppingWriter::ending(alloc, count, 1, End::IsInterruptedOnce)
     }
 
     /// Takes all bytes, and fails to flush them.
-    pub fn at_flush(alloc: Global) -> FailingWriter {
-        FailingWriter {
+    pub fn at_flush(alloc: Global) -> StoppingWriter {
+        StoppingWriter {
             taken: Vec::new(alloc),
             left: usize::MAX,
             most: usize::MAX,
@@ -79,7 +79,7 @@ impl FailingWriter {
     }
 }
 
-impl Write for FailingWriter {
+impl Write for StoppingWriter {
     fn write(&mut self, buf: &[u8]) -> io::Result<usize> {
         if self.left == 0 {
             return self.stop();

@@ -15,7 +15,7 @@ use crate::world::data::{Shelf, View};
 use crate::world::parts::PartsWork;
 
 /// What is done over the view of one part.
-pub trait PartWork<V: ResourceValue> {
+pub trait ViewWork<V: ResourceValue> {
     ghost use Rattle.shred_world.specs.OwnViews.{IsLent};
     ghost use Rattle.shred_world.specs.Views.{declared_held};
     ghost use Rattle.shred_world.specs.Worked.{Works};
@@ -33,7 +33,7 @@ pub trait PartWork<V: ResourceValue> {
 }
 
 // Works over the view of one hand.
-fn work_over_one<'s, V: ResourceValue, W: PartWork<V>>(
+fn work_over_one<'s, V: ResourceValue, W: ViewWork<V>>(
     pair: &'s (&'s [ResourceId], &'s [ResourceId]),
     shelf: &'s [Shelf<'s, V>],
     hand: &mut Table<V>,
@@ -50,7 +50,7 @@ fn work_over_one<'s, V: ResourceValue, W: PartWork<V>>(
 }
 
 // Works over the view of each hand, one after the other.
-fn work_over_each<V: ResourceValue, W: PartWork<V>>(
+fn work_over_each<V: ResourceValue, W: ViewWork<V>>(
     pairs: &[(&[ResourceId], &[ResourceId])],
     shelf: &[Shelf<V>],
     hands: &mut [Table<V>],
@@ -66,11 +66,11 @@ fn work_over_each<V: ResourceValue, W: PartWork<V>>(
 
 /// The work over the view of each part, in the order of the pairs.
 #[derive(Drop)]
-pub struct Each<W> {
+pub struct EachPart<W> {
     pub work: W,
 }
 
-impl<V: ResourceValue, W: PartWork<V>> PartsWork<V> for Each<W> {
+impl<V: ResourceValue, W: ViewWork<V>> PartsWork<V> for EachPart<W> {
     ghost use Rattle.shred_world.specs.Worked.{IsWorkedEach};
 
     ghost works = { λ before pairs behind hands after left. IsWorkedEach V.kind_of W.works behind pairs hands before.work left after.work };
@@ -87,13 +87,13 @@ impl<V: ResourceValue, W: PartWork<V>> PartsWork<V> for Each<W> {
 
 impl<'s, 'a, V: ResourceValue + Drop> View<'s, 'a, V> {
     /// Parts the view, makes a view of each pair's lists, in order, and works over each. Under each id that a pair
-    /// writes this view shows then what that pair's view showed last, and all else as before. No value comes or goes. It
-    /// takes no memory, and leaves the hands with room for the next time.
-    pub fn part_each<W: PartWork<V>>(
+    /// writes this view shows then what that pair's view showed last, and all else as before. It holds values under the
+    /// same ids. It takes no memory of its own, and leaves the hands with room for the next time.
+    pub fn part_each<W: ViewWork<V>>(
         &mut self,
         pairs: &[(&[ResourceId], &[ResourceId])],
         hands: &mut [Table<V>],
-        work: &mut Each<W>,
+        work: &mut EachPart<W>,
     )
         requires nothing_out { (id : ResourceId) → is_out self.old id ≡ false }
         requires reads_within { All (λ p. (id : ResourceId) → IsTrue (among (reads_of p) id) → IsTrue (may_read self.old id)) pairs.now }

@@ -139,7 +139,7 @@ impl<'s, 'a, V: ResourceValue + Drop> View<'s, 'a, V> {
     /// Parts the view for the time of one work. For each pair of lists, of ids to be read and of ids to be written, the
     /// values of the ids that the pair writes are moved into its hand; the slots that they leave stay. Then the work is
     /// done over the hands, and at last every value goes back into the slot that it left. The list of pairs may be
-    /// empty. It takes no memory, and leaves the hands with room for the next time.
+    /// empty. It takes no memory of its own, and leaves the hands with room for the next time.
     pub fn part<W: PartsWork<V>>(
         &mut self,
         pairs: &[(&[ResourceId], &[ResourceId])],

@@ -12,7 +12,7 @@ use Rattle.shred_world.proofs.world.each.work_over_each.Goals as goal
 pub loop-i-init : goal.loop-i-init
 loop-i-init g c = record {
   long = zip-length HasNoOtherSlots c.args.pairs.now c.args.hands.now c.requires;
-  worked = worked-start g.V.ResourceValue.kind_of g.W.PartWork.works (λ q. lent_slot c.args.shelf.now q) c.args.pairs.now c.args.hands.now c.args.work.now (zip-length HasNoOtherSlots c.args.pairs.now c.args.hands.now c.requires);
+  worked = worked-start g.V.ResourceValue.kind_of g.W.ViewWork.works (λ q. lent_slot c.args.shelf.now q) c.args.pairs.now c.args.hands.now c.args.work.now (zip-length HasNoOtherSlots c.args.pairs.now c.args.hands.now c.requires);
 }
 
 pub work_over_one-requires : goal.work_over_one-requires
@@ -22,13 +22,13 @@ work_over_one-requires g c =
     let d : Pair = (record { ref_ptr = (0, 0); now = [] }, record { ref_ptr = (0, 0); now = [] }) in
     let e = c.index-hands-i.result in
     let below : i < length pairs = omega (arith, zip-length HasNoOtherSlots pairs c.args.hands.now c.requires, c.loop-i-test.true) in
-    let same : slice_index_or c.loop-i.hands i e ≡ slice_index_or c.args.hands.now i e = worked-at g.V.ResourceValue.kind_of g.W.PartWork.works (λ q. lent_slot c.args.shelf.now q) i pairs c.args.hands.now c.loop-i.hands c.args.work.now c.loop-i.work e below c.loop-i.invariant.worked in
+    let same : slice_index_or c.loop-i.hands i e ≡ slice_index_or c.args.hands.now i e = worked-at g.V.ResourceValue.kind_of g.W.ViewWork.works (λ q. lent_slot c.args.shelf.now q) i pairs c.args.hands.now c.loop-i.hands c.args.work.now c.loop-i.work e below c.loop-i.invariant.worked in
     subst (λ (h : Table g.row.V.Denot). HasNoOtherSlots (slice_index_or pairs i d) h) (sym same) (zip-get HasNoOtherSlots i pairs c.args.hands.now d e below c.requires)
 
 pub loop-i-preserved : goal.loop-i-preserved
 loop-i-preserved g c =
     let kind = g.V.ResourceValue.kind_of in
-    let works = g.W.PartWork.works in
+    let works = g.W.ViewWork.works in
     let behind : Lent g.row.V.Denot = λ q. lent_slot c.args.shelf.now q in
     let pairs = c.args.pairs.now in
     let i = c.loop-i.i in
@@ -44,4 +44,4 @@ loop-i-preserved g c =
     }
 
 pub returns : goal.returns
-returns g c = worked-end g.V.ResourceValue.kind_of g.W.PartWork.works (λ q. lent_slot c.args.shelf.now q) c.loop-i.i c.args.pairs.now c.args.hands.now c.loop-i.hands c.args.work.now c.loop-i.work (omega (arith, zip-length HasNoOtherSlots c.args.pairs.now c.args.hands.now c.requires, c.loop-i-test.false)) c.loop-i.invariant.worked
+returns g c = worked-end g.V.ResourceValue.kind_of g.W.ViewWork.works (λ q. lent_slot c.args.shelf.now q) c.loop-i.i c.args.pairs.now c.args.hands.now c.loop-i.hands c.args.work.now c.loop-i.work (omega (arith, zip-length HasNoOtherSlots c.args.pairs.now c.args.hands.now c.requires, c.loop-i-test.false)) c.loop-i.invariant.worked

@@ -6,5 +6,5 @@ use Rattle.shred_world.proofs.world.each.work_over_each.Given as goal
 abbrev pub invariant-loop-i : goal.invariant-loop-i
 invariant-loop-i g l = record {
   long : length l.pairs ≡ length l.hands;
-  worked : WorkedTo g.V.ResourceValue.kind_of g.W.PartWork.works (λ q. lent_slot l.shelf q) l.i l.pairs l.initial.hands l.initial.work l.hands l.work;
+  worked : WorkedTo g.V.ResourceValue.kind_of g.W.ViewWork.works (λ q. lent_slot l.shelf q) l.i l.pairs l.initial.hands l.initial.work l.hands l.work;
 }

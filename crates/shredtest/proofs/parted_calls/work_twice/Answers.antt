@@ -1,7 +1,7 @@
 use Rattle.shred_world.specs.Views.{view_held}
 use Rattle.shredtest.specs.Values.{kind_of}
 use Rattle.shredtest.proofs.Turned.{worked_twice-turns}
-use Rattle.shredtest.proofs.parted_counts.work_twice.Goals as goal
+use Rattle.shredtest.proofs.parted_calls.work_twice.Goals as goal
 
 pub returns-clause-turned : goal.returns-clause-turned
 returns-clause-turned c =

@@ -12,11 +12,13 @@ ghost use Rattle.shredtest.specs.Adding.{HasTurnedOften};
 
 use crate::adding::Adding;
 use crate::values::Value;
-use shred::{Each, OutOfMemory, PartWork, ResourceId, ResourceValue, Shelf, Table, View, World};
+use shred::{
+    EachPart, OutOfMemory, ResourceId, ResourceValue, Shelf, Table, View, ViewWork, World,
+};
 use std::alloc::Global;
 
-/// Works over the views of two hands, which are there at the same time.
-pub fn work_beside<'s, V: ResourceValue, W: PartWork<V>>(
+/// Works over the views of two hands. Nothing calls it: it shows that both views may be there at the same time.
+pub fn work_beside<'s, V: ResourceValue, W: ViewWork<V>>(
     pairs: &'s [(&'s [ResourceId], &'s [ResourceId])],
     shelf: &'s [Shelf<'s, V>],
     first: &mut Table<V>,
@@ -35,11 +37,11 @@ pub fn work_beside<'s, V: ResourceValue, W: PartWork<V>>(
 }
 
 /// Makes hands, parts the view with them, and works over each part. If memory is refused, nothing was done.
-pub fn work_once<V: ResourceValue + Drop, W: PartWork<V>>(
+pub fn work_once<V: ResourceValue + Drop, W: ViewWork<V>>(
     alloc: Global,
     view: &mut View<V>,
     pairs: &[(&[ResourceId], &[ResourceId])],
-    work: &mut Each<W>,
+    work: &mut EachPart<W>,
 ) -> Result<(), OutOfMemory>
     requires nothing_out { (id : ResourceId) → is_out view.old id ≡ false }
     requires reads_within { All (λ p. (id : ResourceId) → IsTrue (among (reads_of p) id) → IsTrue (may_read view.old id)) pairs.now }
@@ -66,7 +68,7 @@ fn work_twice(
     alloc: Global,
     view: &mut View<Value>,
     pairs: &[(&[ResourceId], &[ResourceId])],
-    work: &mut Each<Adding>,
+    work: &mut EachPart<Adding>,
 ) -> Result<(), OutOfMemory>
     requires nothing_out { (id : ResourceId) → is_out view.old id ≡ false }
     requires reads_within { All (λ p. (id : ResourceId) → IsTrue (among (reads_of p) id) → IsTrue (may_read view.old id)) pairs.now }
@@ -92,7 +94,7 @@ fn work_narrowed(
     reads: &[ResourceId],
     writes: &[ResourceId],
     pairs: &[(&[ResourceId], &[ResourceId])],
-    work: &mut Each<Adding>,
+    work: &mut EachPart<Adding>,
 ) -> Result<(), OutOfMemory>
     requires nothing_out { (id : ResourceId) → is_out view.old id ≡ false }
     requires reads { (id : ResourceId) → IsTrue (among reads.now id) → IsTrue (may_read view.old id) }
@@ -115,7 +117,7 @@ fn work_lent(
     reads: &[ResourceId],
     writes: &[ResourceId],
     pairs: &[(&[ResourceId], &[ResourceId])],
-    work: &mut Each<Adding>,
+    work: &mut EachPart<Adding>,
 ) -> Result<(), OutOfMemory>
     requires reads { (id : ResourceId) → IsTrue (among reads.now id) → IsTrue (among all.now id) }
     requires writes { (id : ResourceId) → IsTrue (among writes.now id) → IsTrue (among all.now id) }
@@ -137,7 +139,7 @@ pub fn work_over_three(
     read: ResourceId,
     first: ResourceId,
     second: ResourceId,
-    work: &mut Each<Adding>,
+    work: &mut EachPart<Adding>,
 ) -> Result<(), OutOfMemory>
     requires first { same_id read first ≡ false }
     requires second { same_id read second ≡ false }
@@ -163,7 +165,7 @@ pub fn work_over_three(
 pub fn work_over_none(
     alloc: Global,
     world: &mut World<Value>,
-    work: &mut Each<Adding>,
+    work: &mut EachPart<Adding>,
 ) -> Result<(), OutOfMemory>
     ensures { work.new ≡ work.old }
 {

@@ -14,8 +14,8 @@ pub use dispatch::sink::{PlanSink, SinkFailed, ToWriter};
 pub use dispatch::stage::Stage;
 pub use dispatch::stages_builder::StagesBuilder;
 pub use shred_world::{
-    Accessor, BatchAccessor, DataError, DefaultProvider, DynamicSystemData, EachPart, Entry, Fetch,
-    FetchMut, Kind, Lent, OutOfMemory, PanicHandler, PartsWork, Read, ReadExpect, ReplaceError,
+    Accessor, BatchAccessor, Behind, DataError, DefaultProvider, DynamicSystemData, Entry, Fetch,
+    FetchMut, Kind, Lent, OutOfMemory, PanicHandler, Parts, Read, ReadExpect, ReplaceError,
     Resource, ResourceId, ResourceValue, Resources, SetupHandler, Shelf, Slot, SystemData, Table,
     View, ViewWork, World, WorldError, Write, WriteExpect, check_intersection,
 };

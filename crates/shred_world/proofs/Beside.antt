@@ -7,6 +7,8 @@ use Rattle.shred_world.specs.declared.id.ResourceId.{ResourceId}
 use Rattle.shred_world.specs.declared.id.Kind.{Kind}
 use Rattle.shred_world.specs.declared.table.Slot.{Slot}
 use Rattle.shred_world.specs.declared.table.Table.{Table}
+use Rattle.shred_world.specs.declared.world.data.View.{View}
+use Rattle.shred_world.specs.Views.{lent_slot, is_out, is_whole, may_read, may_write, IsSameLoan, IsSameView}
 use Rattle.shred_world.specs.Slots.{slot_at, slot_held, held, among, or_slot}
 use Rattle.shred_world.specs.Parting.{emptied}
 use Rattle.shred_world.specs.Parts.{Pair, writes_of, declares, AreBeside, DoNotConflict, written_by, HoldsWritten, HoldsSameIds, IsJoined}
@@ -72,6 +74,43 @@ module _ {V : Type 0} where
   room-again true u t h n joined fit is = is ∙ ap emptied (sym (joined refl))
   room-again false u t (Some h) n joined fit is = absurd (cc)
   room-again false u t None n joined fit is = is
+
+-- behind the same loan's own table the same is shown
+pub same-behind : {V : Type 0} (v w : View V) → IsSameLoan v w → (q : ResourceId) → cond (among w.owned.now q) None (lent_slot w.shelf.now q) ≡ cond (among v.owned.now q) None (lent_slot v.shelf.now q)
+same-behind v w same q = ap (λ (ids : List ResourceId). cond (among ids q) None (lent_slot w.shelf.now q)) same.owned ∙ ap (cond (among v.owned.now q) None) (same.shelf q)
+
+-- the same may be written
+pub same-may_write : {V : Type 0} (v w : View V) → IsSameLoan v w → (q : ResourceId) → may_write w q ≡ may_write v q
+same-may_write v w same q =
+    ap (λ (whole : Bool). whole || (among w.writes.now q && among w.owned.now q)) same.whole
+    ∙ ap (λ (ids : List ResourceId). is_whole v || (among ids q && among w.owned.now q)) same.writes
+    ∙ ap (λ (ids : List ResourceId). is_whole v || (among v.writes.now q && among ids q)) same.owned
+
+-- the same may be read
+pub same-may_read : {V : Type 0} (v w : View V) → IsSameLoan v w → (q : ResourceId) → may_read w q ≡ may_read v q
+same-may_read v w same q = ap (λ (ids : List ResourceId). among ids q || may_write w q) same.reads ∙ ap (λ (b : Bool). among v.reads.now q || b) (same-may_write v w same q)
+
+-- a loan that stayed twice, with nothing out at first and in the end, is the same view
+pub same-again : {V : Type 0} (u v w : View V) → IsSameLoan u v → IsSameLoan v w → ((q : ResourceId) → is_out u q ≡ false) → ((q : ResourceId) → is_out w q ≡ false) → IsSameView u w
+same-again u v w one two before after = record {
+  reads = two.reads ∙ one.reads;
+  writes = two.writes ∙ one.writes;
+  owned = two.owned ∙ one.owned;
+  shelf = λ q. two.shelf q ∙ one.shelf q;
+  whole = two.whole ∙ one.whole;
+  table = two.table ∙ one.table;
+  slots = λ q. two.slots q ∙ one.slots q;
+  out = λ q. after q ∙ sym (before q);
+}
+
+module _ {V : Type 0} where
+  -- a hand that holds what its pair writes is the pair's over what is left
+  pub hand-of : (b a : Bool) (h t s f : Option (Slot V)) → h ≡ cond b t None → s ≡ cond a (emptied t) t → (b ≡ true → f ≡ None) → is_some h ≡ (b && is_some (or_slot s f))
+  hand-of true a h t s f held left none = ap is_some held ∙ sym (left-slots a t s left) ∙ bare s ∙ ap (λ o. is_some (or_slot s o)) (sym (none refl)) where
+    bare : (s : Option (Slot V)) → is_some s ≡ is_some (or_slot s None)
+    bare (Some s) = refl
+    bare None = refl
+  hand-of false a h t s f held left none = ap is_some held
 
 module _ {V : Type 0} (kind : V → Kind) where
   -- what is shown over the same shelf is there where it was, where the table's own is

@@ -8,6 +8,7 @@ pub mod HeldKinds
 pub mod Moves
 pub mod Shown
 pub mod Pairs
+pub mod Parted
 pub mod Beside
 pub mod Worked
 pub mod Grants

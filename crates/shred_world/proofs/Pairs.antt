@@ -1,7 +1,8 @@
 -- Lists of pairs and hands, gone through side by side.
-use Rattle.std.proofs.Common.{◌≡◌, ℕ, zero, suc, ◌<◌, ◌≤◌, ◌+◌, Bool, true, false, ◌&&◌, ◌||◌, Option, None, cond, List, [], ◌∷◌, length, get_or, set, take, refl, ◌∙◌, ap, arith, IsTrue, add-one}
+use Rattle.std.proofs.Common.{◌≡◌, ℕ, zero, suc, ◌<◌, ◌≤◌, ◌+◌, Bool, true, false, ◌&&◌, ◌||◌, Option, None, cond, List, [], ◌∷◌, ◌++◌, length, get_or, set, take, drop, refl, ◌∙◌, ap, arith, IsTrue, add-one}
 use Rattle.std.specs.Prelude.{is_some, ⊤}
-use Rattle.std.specs.List.{AllZip, AllByRecursion}
+use Rattle.std.specs.List.{All, AllZip, AllByRecursion}
+use Rattle.std.proofs.lemmas.List.{append-nil, drop_all, take_all}
 use Rattle.std.proofs.lemmas.List.Folds.{list_any_at}
 use Rattle.shred_model.proofs.Apart.{AllPairs-head, AllPairs-tail}
 use Rattle.shred_world.specs.declared.id.ResourceId.{ResourceId}
@@ -9,7 +10,7 @@ use Rattle.shred_world.specs.declared.table.Slot.{Slot}
 use Rattle.shred_world.specs.declared.table.Table.{Table}
 use Rattle.shred_world.specs.Slots.{slot_at, among}
 use Rattle.shred_world.specs.Parting.{emptied}
-use Rattle.shred_world.specs.Parts.{Pair, writes_of, AreBeside, DoNotConflict, written_by}
+use Rattle.shred_world.specs.Parts.{Pair, writes_of, AreBeside, DoNotConflict, written_by, HasNothingOut, HoldsWritten}
 use Rattle.shred_world.proofs.Moves.{emptied-twice}
 
 module _ {A B : Type 0} where
@@ -24,6 +25,10 @@ module _ {A B : Type 0} where
   zip-length R [] (y ∷ ys) zip = absurd zip
   zip-length R (x ∷ xs) [] zip = absurd zip
   zip-length R (x ∷ xs) (y ∷ ys) zip = ap suc (zip-length R xs ys zip.1)
+
+  -- what holds of each second one, by what holds of it with the first
+  pub zip-second : (R : A → B → Type 0) (S : B → Type 0) (xs : List A) (ys : List B) (d : A) → ((x : A) (y : B) → R x y → S y) → AllZip R xs ys → All S ys
+  zip-second R S xs ys d f zip i e below = f (get_or xs i d) (get_or ys i e) (zip-get R i xs ys d e (rw (zip-length R xs ys zip) below) zip)
 
   module _ (R S : A → B → Type 0) where
     -- R holds of the items below a place, and S of those from there on
@@ -62,6 +67,10 @@ module _ {A B : Type 0} where
     pub zip-more : (i : ℕ) (xs : List A) (ys : List B) (d : A) (y : B) → i < length xs → ZipTo i xs ys → R (get_or xs i d) y → ZipTo (i + 1) xs (set ys i y)
     zip-more i xs ys d y h zip r = rw add-one (zip-suc i xs ys d y h zip r)
 
+-- a list that was written over as a whole has what was written
+pub written-over : {A : Type 0} (n : ℕ) (was now : List A) → n ≡ length was → length now ≡ length was → take n (now ++ drop (length now) was) ≡ now
+written-over n was now here same = ap (λ rest. take n (now ++ rest)) (drop_all (length now) was (omega arith)) ∙ ap (take n) (append-nil now) ∙ take_all n now (omega arith)
+
 pub same-start : {A : Type 0} (R : A → A → Type 0) (xs : List A) → ZipTo R (λ was now. now ≡ was) 0 xs xs
 same-start R [] = tt
 same-start R (x ∷ xs) = (refl, same-start R xs)
@@ -96,6 +105,10 @@ written-after (suc i) p [] q beside w = refl
 written-after (suc i) p (r ∷ ps) q beside w = or_none (among (writes_of r) q) _ (or_right (among r.0.now q) _ ((beside.0).0 q w)) (written-after i p ps q beside.1 w)
 
 module _ {V : Type 0} where
+  -- the hand holds what its pair writes, and nothing of it is out
+  abbrev pub IsFilled : Table V → Pair → Table V → Type 0
+  IsFilled table p hand = HoldsWritten table p hand × HasNothingOut hand
+
   -- one more pair's slots are left empty
   pub left-or : (a w : Bool) (t s u : Option (Slot V)) → s ≡ cond a (emptied t) t → u ≡ cond w (emptied s) s → u ≡ cond (a || w) (emptied t) t
   left-or true true t s u was is = is ∙ ap emptied was ∙ emptied-twice t

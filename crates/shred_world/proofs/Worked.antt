@@ -5,12 +5,10 @@ use Rattle.shred_world.specs.declared.id.Kind.{Kind}
 use Rattle.shred_world.specs.declared.id.ResourceId.{ResourceId}
 use Rattle.shred_world.specs.declared.table.Slot.{Slot}
 use Rattle.shred_world.specs.declared.table.Table.{Table}
-use Rattle.shred_world.specs.declared.world.data.View.{View}
 use Rattle.shred_world.specs.Beside.{ShowsDeclared, part_slot}
-use Rattle.shred_world.specs.Parts.{Pair, reads_of, writes_of, declares, IsJoined, HoldsSameIds}
+use Rattle.shred_world.specs.Parts.{Pair, reads_of, writes_of, declares, HasNothingOut, IsJoined, HoldsSameIds}
 use Rattle.shred_world.specs.Shown.{Lent, IsSameSlots}
 use Rattle.shred_world.specs.Slots.{slot_at, slot_held, among, or_slot}
-use Rattle.shred_world.specs.Views.{view_slot, view_held, table_in}
 use Rattle.shred_world.specs.Worked.{Works, IsWorkedOver, IsWorkedEach, IsWorked, part_held}
 
 module _ {V W : Type 0} (kind : V → Kind) (works : Works V W) (behind : Lent V) where
@@ -90,23 +88,23 @@ module _ {V W : Type 0} (kind : V → Kind) (works : Works V W) (behind : Lent V
       ap (λ (b : Bool). cond (among (reads_of p) q || b) (slot_held kind q (or_slot (slot_at n q) (cond b None (behind q)))) None) w ∙ cond-either (among (reads_of p) q) (slot_held kind q (or_slot (slot_at n q) None))
 
   -- work over the hands of a view that was parted is work over what the view showed, and leaves what the view shows
-  pub worked-apart : (old new : View V) (ps : List Pair) (hs : List (Table V)) (b : W) (ns : List (Table V)) (a : W) → AllZip (ShowsDeclared behind (view_slot old)) ps hs → AllZip (IsJoined (table_in new)) ps ns
-      → All (λ p. (q : ResourceId) → IsTrue (among (writes_of p) q) → view_slot new q ≡ or_slot (slot_at (table_in new) q) None) ps
-      → IsWorkedEach kind works behind ps hs b ns a → IsWorked works ps (view_held kind old) b (view_held kind new) a
-  worked-apart old new [] [] b [] a shown joined alone each = each
-  worked-apart old new [] [] b (n ∷ ns) a shown joined alone each = absurd each
-  worked-apart old new [] (h ∷ hs) b ns a shown joined alone each = absurd each
-  worked-apart old new (p ∷ ps) [] b ns a shown joined alone each = absurd each
-  worked-apart old new (p ∷ ps) (h ∷ hs) b [] a shown joined alone each = absurd each
-  worked-apart old new (p ∷ ps) (h ∷ hs) b (n ∷ ns) a shown joined alone each = (
+  pub worked-apart : (old new : Lent V) (table : Table V) (ps : List Pair) (hs : List (Table V)) (b : W) (ns : List (Table V)) (a : W) → AllZip (ShowsDeclared behind old) ps hs → AllZip (IsJoined table) ps ns
+      → All (λ p. (q : ResourceId) → IsTrue (among (writes_of p) q) → new q ≡ or_slot (slot_at table q) None) ps
+      → IsWorkedEach kind works behind ps hs b ns a → IsWorked works ps (λ q. slot_held kind q (old q)) b (λ q. slot_held kind q (new q)) a
+  worked-apart old new table [] [] b [] a shown joined alone each = each
+  worked-apart old new table [] [] b (n ∷ ns) a shown joined alone each = absurd each
+  worked-apart old new table [] (h ∷ hs) b ns a shown joined alone each = absurd each
+  worked-apart old new table (p ∷ ps) [] b ns a shown joined alone each = absurd each
+  worked-apart old new table (p ∷ ps) (h ∷ hs) b [] a shown joined alone each = absurd each
+  worked-apart old new table (p ∷ ps) (h ∷ hs) b (n ∷ ns) a shown joined alone each = (
     each.0,
     part_held kind behind p n,
     subst (λ (m : ResourceId → Option V). works b (reads_of p) (writes_of p) m each.0 (part_held kind behind p n))
-        (λ i q. same-declared (declares p q) (slot_held kind q (part_slot behind p h q)) (view_held kind old q) (λ d. ap (slot_held kind q) ((shown.0) q d)) i)
+        (λ i q. same-declared (declares p q) (slot_held kind q (part_slot behind p h q)) (slot_held kind q (old q)) (λ d. ap (slot_held kind q) ((shown.0) q d)) i)
         each.1.lies,
-    λ q other. each.1.frame q other ∙ same-declared (declares p q) (slot_held kind q (part_slot behind p h q)) (view_held kind old q) (λ d. ap (slot_held kind q) ((shown.0) q d)),
+    λ q other. each.1.frame q other ∙ same-declared (declares p q) (slot_held kind q (part_slot behind p h q)) (slot_held kind q (old q)) (λ d. ap (slot_held kind q) ((shown.0) q d)),
     λ q w. ap (slot_held kind q) (alone 0 p (omega arith) q w ∙ ap (λ (s : Option (Slot V)). or_slot s None) ((joined.0) q w)) ∙ sym (left-written p n q w),
-    worked-apart old new ps hs each.0 ns a shown.1 joined.1 (λ i d below q w. alone (suc i) d (omega arith) q w) each.2,
+    worked-apart old new table ps hs each.0 ns a shown.1 joined.1 (λ i d below q w. alone (suc i) d (omega arith) q w) each.2,
   )
 
   pub each-slots : (ps : List Pair) (hs : List (Table V)) (b : W) (ns : List (Table V)) (a : W) → IsWorkedEach kind works behind ps hs b ns a → AllZip IsSameSlots hs ns
@@ -124,3 +122,14 @@ module _ {V W : Type 0} (kind : V → Kind) (works : Works V W) (behind : Lent V
   each-ids (p ∷ ps) [] b ns a each = absurd each
   each-ids (p ∷ ps) (h ∷ hs) b [] a each = absurd each
   each-ids (p ∷ ps) (h ∷ hs) b (n ∷ ns) a each = (each.1.ids, each-ids ps hs each.0 ns a each.2)
+
+  pub each-given_back : (ps : List Pair) (hs : List (Table V)) (b : W) (ns : List (Table V)) (a : W) → IsWorkedEach kind works behind ps hs b ns a → All HasNothingOut ns
+  each-given_back [] [] b [] a each = λ i d below. absurd (omega arith)
+  each-given_back [] [] b (n ∷ ns) a each = absurd each
+  each-given_back [] (h ∷ hs) b ns a each = absurd each
+  each-given_back (p ∷ ps) [] b ns a each = absurd each
+  each-given_back (p ∷ ps) (h ∷ hs) b [] a each = absurd each
+  each-given_back (p ∷ ps) (h ∷ hs) b (n ∷ ns) a each = λ i. elim i as (λ i. (d : Table V) → i < length (n ∷ ns) → HasNothingOut (get_or (n ∷ ns) i d)) [
+    | zero ↦ λ d below. each.1.given_back
+    | suc i ↦ λ d below. each-given_back ps hs each.0 ns a each.2 i d (omega arith)
+  ]

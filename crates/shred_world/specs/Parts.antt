@@ -5,8 +5,10 @@ use Rattle.std.specs.List.{list_any, AllPairs}
 use Rattle.shred_world.specs.declared.id.Kind.{Kind}
 use Rattle.shred_world.specs.declared.id.ResourceId.{ResourceId}
 use Rattle.shred_world.specs.declared.table.Table.{Table}
-use Rattle.shred_world.specs.Parting.{IsRoom, emptied}
-use Rattle.shred_world.specs.Slots.{slot_at, among, held}
+use Rattle.shred_world.specs.Parting.{IsRoom}
+use Rattle.shred_world.specs.Shown.{Lent}
+use Rattle.shred_world.specs.Slots.{slot_at, noted_in, among, held}
+use Rattle.shred_world.specs.Views.{is_vacant}
 
 -- a list of ids that are read, and one of ids that are written
 abbrev pub Pair : Type 0
@@ -36,9 +38,9 @@ DoNotConflict pairs = AllPairs AreBeside pairs
 abbrev pub written_by : List Pair → ResourceId → Bool
 written_by pairs q = list_any (λ p. among (writes_of p) q) pairs
 
--- the hand has no slot but of the ids that the pair writes
-abbrev pub HasNoOtherSlots : {V : Type 0} → Pair → Table V → Type 0
-HasNoOtherSlots p hand = (q : ResourceId) → among (writes_of p) q ≡ false → slot_at hand q ≡ None
+-- none of the hand's values is out
+abbrev pub HasNothingOut : {V : Type 0} → Table V → Type 0
+HasNothingOut hand = (q : ResourceId) → (noted_in hand q && is_vacant (slot_at hand q)) ≡ false
 
 -- the hand has room for what the pair writes
 abbrev pub HasRoom : {V : Type 0} → Table V → Pair → Table V → Type 0
@@ -52,13 +54,13 @@ HoldsWritten table p hand = (q : ResourceId) → slot_at hand q ≡ cond (among 
 abbrev pub Fits : {V : Type 0} → Table V → Pair → Table V → Type 0
 Fits table p hand = (q : ResourceId) → is_some (slot_at hand q) ≡ (among (writes_of p) q && is_some (slot_at table q))
 
+-- the hand has a slot for each id that the pair writes and for which something else shows a slot, and no other slot
+abbrev pub IsHandOf : {V : Type 0} → Lent V → Pair → Table V → Type 0
+IsHandOf behind p hand = (q : ResourceId) → is_some (slot_at hand q) ≡ (among (writes_of p) q && is_some (behind q))
+
 -- the table has the hand's slots for the ids that the pair writes
 abbrev pub IsJoined : {V : Type 0} → Table V → Pair → Table V → Type 0
 IsJoined table p hand = (q : ResourceId) → IsTrue (among (writes_of p) q) → slot_at table q ≡ slot_at hand q
-
--- the hand has the slots that it had, without their values
-abbrev pub IsEmptied : {V : Type 0} → (old new : Table V) → Type 0
-IsEmptied old new = (q : ResourceId) → slot_at new q ≡ emptied (slot_at old q)
 
 -- the hand holds values under the same ids
 abbrev pub HoldsSameIds : {V : Type 0} → (V → Kind) → (old new : Table V) → Type 0

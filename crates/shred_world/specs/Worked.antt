@@ -4,7 +4,7 @@ use Rattle.shred_world.specs.declared.id.Kind.{Kind}
 use Rattle.shred_world.specs.declared.id.ResourceId.{ResourceId}
 use Rattle.shred_world.specs.declared.table.Table.{Table}
 use Rattle.shred_world.specs.Beside.{part_slot}
-use Rattle.shred_world.specs.Parts.{Pair, reads_of, writes_of, declares, written_by, HoldsSameIds}
+use Rattle.shred_world.specs.Parts.{Pair, reads_of, writes_of, declares, written_by, HasNothingOut, HoldsSameIds}
 use Rattle.shred_world.specs.Shown.{Lent, IsSameSlots}
 use Rattle.shred_world.specs.Slots.{among, slot_held}
 
@@ -28,11 +28,12 @@ part_held kind behind p hand = declared_by p (λ q. slot_held kind q (part_slot 
 abbrev pub KeepsUnwritten : {V : Type 0} → Pair → Held V → Held V → Type 0
 KeepsUnwritten p before after = (q : ResourceId) → among (writes_of p) q ≡ false → after q ≡ before q
 
--- The work was done over the view of one pair, in its own relation; it wrote only what the pair writes, no slot came or went, and values are held under the same ids.
+-- The work was done over the view of one pair, in its own relation; it wrote only what the pair writes, no slot came or went, nothing is out, and values are held under the same ids.
 pub record IsWorkedOver {V W : Type 0} (kind : V → Kind) (works : Works V W) (behind : Lent V) (p : Pair) (hand : Table V) (before : W) (left : Table V) (after : W) : Type 0 where
   pub lies : works before (reads_of p) (writes_of p) (part_held kind behind p hand) after (part_held kind behind p left)
   pub frame : KeepsUnwritten p (part_held kind behind p hand) (part_held kind behind p left)
   pub slots : IsSameSlots hand left
+  pub given_back : HasNothingOut left
   pub ids : HoldsSameIds kind hand left
 
 -- the work was done over each pair and its hand, one after the other

@@ -7,6 +7,15 @@ ghost use Rattle.shred_world.specs.Slots.{slot_at, with_at, among};
 use crate::accessor::OutOfMemory;
 use crate::id::ResourceId;
 use crate::table::Table;
+use std::alloc::Global;
+
+/// A hand without slots, for `Table::make_room`. It takes no memory. The dispatcher makes such hands; whoever parts a view
+/// is given them.
+pub fn empty_hand<V>(alloc: Global) -> Table<V>
+    ensures { (id : ResourceId) → slot_at result id ≡ None }
+{
+    Table::new(alloc)
+}
 
 impl<V: Drop> Table<V> {
     // Gives the hand an empty slot for the id where this table has a slot, and no slot where it has none.

@@ -2,7 +2,7 @@
 ghost use Rattle.std.specs.Prelude.{◌≡◌, ◌≢◌, ◌||◌, false, IfNone, IfSome, None, Some, MatchOption, OnOk, OnErr, IfOk, IfErr};
 ghost use Rattle.std.specs.Option.{option_copied, option_copied_mut};
 ghost use Rattle.std.specs.Borrow.{sem};
-ghost use Rattle.shred_world.specs.Slots.{slot_at, noted_in, of_kind, held, slot_held, with_at};
+ghost use Rattle.shred_world.specs.Slots.{slot_at, noted_in, among, of_kind, held, slot_held, with_at};
 ghost use Rattle.shred_world.specs.Id.{kind_of, same_id};
 ghost use Rattle.shred_world.specs.Parting.{emptied, slot_value, filled};
 ghost use Rattle.shred_world.specs.Lent.{LendsSlot, LendsValue, LendsResource, LendsHeld};
@@ -81,8 +81,8 @@ pub struct Table<V> {
 }
 
 impl<V> Table<V> {
-    /// No slots. It takes no memory.
-    pub fn new(alloc: Global) -> Self
+    // No slots. It takes no memory.
+    pub(crate) fn new(alloc: Global) -> Self
         ensures { (id : ResourceId) → slot_at result id ≡ None }
     {
         Table {
@@ -97,6 +97,14 @@ impl<V> Table<V> {
         ensures noted { (q : ResourceId) → noted_in self.new q ≡ false }
     {
         self.out.clear();
+    }
+
+    // Notes just these ids.
+    pub(crate) fn note_all(&mut self, ids: Vec<ResourceId>)
+        ensures slots { self.new.slots ≡ self.old.slots }
+        ensures noted { (q : ResourceId) → noted_in self.new q ≡ among ids.items q }
+    {
+        self.out = ids;
     }
 
     // Whether the id's value was noted as handed out.

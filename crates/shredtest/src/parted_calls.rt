@@ -1,100 +1,132 @@
 //! Work over the parts of a view.
-ghost use Rattle.std.specs.Prelude.{◌≡◌, ◌+◌, ◌||◌, IsTrue, false, length, [], ◌∷◌, OnOk, OnErr};
+ghost use Rattle.std.specs.Prelude.{◌≡◌, ◌||◌, IsTrue, false, length, OnOk, OnErr};
 ghost use Rattle.std.specs.List.{All, AllZip};
-ghost use Rattle.shred_world.specs.Parts.{DoNotConflict, HasNoOtherSlots, reads_of, writes_of};
+ghost use Rattle.shred_world.specs.Beside.{pairs_behind, pair_behind, lent_behind};
+ghost use Rattle.shred_world.specs.Parts.{DoNotConflict, HasNothingOut, IsHandOf, reads_of, writes_of};
 ghost use Rattle.shred_world.specs.Shown.{IsSameSlots};
 ghost use Rattle.shred_world.specs.Slots.{among};
 ghost use Rattle.shred_world.specs.declared.id.ResourceId.{ResourceId};
 ghost use Rattle.shred_world.specs.Id.{same_id};
-ghost use Rattle.shred_world.specs.Views.{view_held, may_read, may_write, is_out, IsSameView};
-ghost use Rattle.shred_world.specs.Worked.{IsWorked, KeepsRest, KeepsHeldIds};
+ghost use Rattle.shred_world.specs.Views.{may_read, may_write, is_out, table_of, IsSameView};
 ghost use Rattle.shredtest.specs.Adding.{HasTurnedOften};
 
 use crate::adding::Adding;
-use crate::values::Value;
-use shred::{
-    EachPart, OutOfMemory, ResourceId, ResourceValue, Shelf, Table, View, ViewWork, World,
-};
+use crate::values::{Count, Value};
+use shred::{Behind, OutOfMemory, ResourceId, Table, View, World};
 use std::alloc::Global;
 
-/// Works over the views of two hands. Nothing calls it: it shows that both views may be there at the same time.
-pub fn work_beside<'s, V: ResourceValue, W: ViewWork<V>>(
-    pairs: &'s [(&'s [ResourceId], &'s [ResourceId])],
-    shelf: &'s [Shelf<'s, V>],
-    first: &mut Table<V>,
-    second: &mut Table<V>,
-    work: &mut W,
-)
-    requires { AllZip HasNoOtherSlots pairs.now (first.old ∷ second.old ∷ []) }
-    ensures first { IsSameSlots first.old first.new }
-    ensures second { IsSameSlots second.old second.new }
+// Exchanges the counts that two views may write, if both are held.
+fn exchange(
+    one: &mut View<Value>,
+    first: ResourceId,
+    two: &mut View<Value>,
+    second: ResourceId,
+) -> bool
+    ensures one { IsSameView one.old one.new }
+    ensures two { IsSameView two.old two.new }
+    ensures first_table { table_of one.new ≡ table_of one.old }
+    ensures second_table { table_of two.new ≡ table_of two.old }
 {
-    let mut one = View::over(pairs[0].0, pairs[0].1, shelf, first);
-    let mut two = View::over(pairs[1].0, pairs[1].1, shelf, second);
-    work.run(&mut one);
-    work.run(&mut two);
-    work.run(&mut one);
+    let Ok(here) = one.write::<Count>(first) else {
+        return false;
+    };
+    let Ok(there) = two.write::<Count>(second) else {
+        return false;
+    };
+    let was = here.0;
+    here.0 = there.0;
+    there.0 = was;
+    true
 }
 
-/// Makes hands, parts the view with them, and works over each part. If memory is refused, nothing was done.
-pub fn work_once<V: ResourceValue + Drop, W: ViewWork<V>>(
-    alloc: Global,
-    view: &mut View<V>,
-    pairs: &[(&[ResourceId], &[ResourceId])],
-    work: &mut EachPart<W>,
-) -> Result<(), OutOfMemory>
-    requires nothing_out { (id : ResourceId) → is_out view.old id ≡ false }
-    requires reads_within { All (λ p. (id : ResourceId) → IsTrue (among (reads_of p) id) → IsTrue (may_read view.old id)) pairs.now }
-    requires writes_within { All (λ p. (id : ResourceId) → IsTrue (among (writes_of p) id) → IsTrue (may_write view.old id)) pairs.now }
-    requires apart { DoNotConflict pairs.now }
-    ensures same { IsSameView view.old view.new }
-    ensures worked { OnOk result (IsWorked W.works pairs.now (view_held V.kind_of view.old) work.old.work (view_held V.kind_of view.new) work.new.work) }
-    ensures rest { KeepsRest pairs.now (view_held V.kind_of view.old) (view_held V.kind_of view.new) }
-    ensures ids { KeepsHeldIds (view_held V.kind_of view.old) (view_held V.kind_of view.new) }
-    ensures refused { OnErr result ((q : ResourceId) → view_held V.kind_of view.new q ≡ view_held V.kind_of view.old q) }
-    ensures not_begun { OnErr result (work.new ≡ work.old) }
+// The same over the views of the first two parts, which are there at the same time.
+fn exchange_beside(
+    behind: &Behind<Value>,
+    one: &mut Table<Value>,
+    first: ResourceId,
+    two: &mut Table<Value>,
+    second: ResourceId,
+) -> bool
+    requires two { length (pairs_behind behind.now) ≡ 2 }
+    requires front { IsHandOf (lent_behind behind.now) (pair_behind behind.now 0) one.old }
+    requires back { IsHandOf (lent_behind behind.now) (pair_behind behind.now 1) two.old }
+    ensures one { IsSameSlots one.old one.new }
+    ensures two { IsSameSlots two.old two.new }
+    ensures one_given_back { HasNothingOut one.new }
+    ensures two_given_back { HasNothingOut two.new }
 {
-    match view.make_hands(alloc, pairs) {
-        Ok(mut hands) => {
-            view.part_each(pairs, hands.as_mut_slice(), work);
-            Ok(())
-        }
-        Err(error) => Err(error),
-    }
+    let mut front = behind.view(0, one);
+    let mut back = behind.view(1, two);
+    exchange(&mut front, first, &mut back, second)
 }
 
-// Works twice over the parts of the view, with the same hands.
-fn work_twice(
+// The same over the two hands of parts.
+fn exchange_in_hands(
+    behind: &Behind<Value>,
+    hands: &mut [Table<Value>],
+    first: ResourceId,
+    second: ResourceId,
+) -> bool
+    requires parts { length (pairs_behind behind.now) ≡ 2 }
+    requires two { length hands.old ≡ 2 }
+    requires hands { AllZip (IsHandOf (lent_behind behind.now)) (pairs_behind behind.now) hands.old }
+    ensures slots { AllZip IsSameSlots hands.old hands.new }
+    ensures given_back { All HasNothingOut hands.new }
+{
+    let (front, back) = hands.split_at_mut(1);
+    exchange_beside(behind, &mut front[0], first, &mut back[0], second)
+}
+
+// Parts the view in two, exchanges two counts over the views of the parts, and joins them.
+fn exchange_parted(
     alloc: Global,
     view: &mut View<Value>,
     pairs: &[(&[ResourceId], &[ResourceId])],
-    work: &mut EachPart<Adding>,
-) -> Result<(), OutOfMemory>
+    first: ResourceId,
+    second: ResourceId,
+) -> Result<bool, OutOfMemory>
     requires nothing_out { (id : ResourceId) → is_out view.old id ≡ false }
     requires reads_within { All (λ p. (id : ResourceId) → IsTrue (among (reads_of p) id) → IsTrue (may_read view.old id)) pairs.now }
     requires writes_within { All (λ p. (id : ResourceId) → IsTrue (among (writes_of p) id) → IsTrue (may_write view.old id)) pairs.now }
     requires apart { DoNotConflict pairs.now }
-    ensures same { IsSameView view.old view.new }
-    ensures turned { OnOk result (HasTurnedOften (length pairs.now + length pairs.now) work.old.work work.new.work) }
-    ensures not_begun { OnErr result (work.new ≡ work.old) }
+    requires two { length pairs.now ≡ 2 }
+    ensures { IsSameView view.old view.new }
 {
-    let mut hands = match view.make_hands(alloc, pairs) {
-        Ok(hands) => hands,
+    let mut parts = match view.part(alloc, pairs) {
+        Ok(parts) => parts,
         Err(error) => return Err(error),
     };
-    view.part_each(pairs, hands.as_mut_slice(), work);
-    view.part_each(pairs, hands.as_mut_slice(), work);
-    Ok(())
+    let behind = parts.behind(view);
+    let exchanged = exchange_in_hands(&behind, parts.hands.as_mut_slice(), first, second);
+    parts.join(view);
+    Ok(exchanged)
 }
 
-// Works twice over the parts of the view that is narrowed to these lists.
+/// Exchanges two counts of the world, each written by a part of its own.
+pub fn exchange_over_parts(
+    alloc: Global,
+    world: &mut World<Value>,
+    first: ResourceId,
+    second: ResourceId,
+) -> Result<bool, OutOfMemory>
+    requires { same_id first second ≡ false }
+{
+    let one = [first];
+    let two = [second];
+    let pairs: [(&[ResourceId], &[ResourceId]); 2] = [(&[], &one), (&[], &two)];
+    let both = [first, second];
+    let mut view = world.lend(&[], &both);
+    exchange_parted(alloc, &mut view, &pairs, first, second)
+}
+
+// Works over the parts of the view that is narrowed to these lists.
 fn work_narrowed(
     alloc: Global,
     view: &mut View<Value>,
     reads: &[ResourceId],
     writes: &[ResourceId],
     pairs: &[(&[ResourceId], &[ResourceId])],
-    work: &mut EachPart<Adding>,
+    work: &mut Adding,
 ) -> Result<(), OutOfMemory>
     requires nothing_out { (id : ResourceId) → is_out view.old id ≡ false }
     requires reads { (id : ResourceId) → IsTrue (among reads.now id) → IsTrue (may_read view.old id) }
@@ -102,11 +134,11 @@ fn work_narrowed(
     requires reads_within { All (λ p. (id : ResourceId) → IsTrue (among (reads_of p) id) → IsTrue (among reads.now id || among writes.now id)) pairs.now }
     requires writes_within { All (λ p. (id : ResourceId) → IsTrue (among (writes_of p) id) → IsTrue (among writes.now id)) pairs.now }
     requires apart { DoNotConflict pairs.now }
-    ensures turned { OnOk result (HasTurnedOften (length pairs.now + length pairs.now) work.old.work work.new.work) }
+    ensures turned { OnOk result (HasTurnedOften (length pairs.now) work.old work.new) }
     ensures not_begun { OnErr result (work.new ≡ work.old) }
 {
     let mut narrowed = view.narrow(reads, writes);
-    work_twice(alloc, &mut narrowed, pairs, work)
+    narrowed.part_each(alloc, pairs, work)
 }
 
 // The same over a view that may write all these ids.
@@ -117,34 +149,34 @@ fn work_lent(
     reads: &[ResourceId],
     writes: &[ResourceId],
     pairs: &[(&[ResourceId], &[ResourceId])],
-    work: &mut EachPart<Adding>,
+    work: &mut Adding,
 ) -> Result<(), OutOfMemory>
     requires reads { (id : ResourceId) → IsTrue (among reads.now id) → IsTrue (among all.now id) }
     requires writes { (id : ResourceId) → IsTrue (among writes.now id) → IsTrue (among all.now id) }
     requires reads_within { All (λ p. (id : ResourceId) → IsTrue (among (reads_of p) id) → IsTrue (among reads.now id || among writes.now id)) pairs.now }
     requires writes_within { All (λ p. (id : ResourceId) → IsTrue (among (writes_of p) id) → IsTrue (among writes.now id)) pairs.now }
     requires apart { DoNotConflict pairs.now }
-    ensures turned { OnOk result (HasTurnedOften (length pairs.now + length pairs.now) work.old.work work.new.work) }
+    ensures turned { OnOk result (HasTurnedOften (length pairs.now) work.old work.new) }
     ensures not_begun { OnErr result (work.new ≡ work.old) }
 {
     let mut view = world.lend(&[], all);
     work_narrowed(alloc, &mut view, reads, writes, pairs, work)
 }
 
-/// Works twice over three parts, with the same hands: each part reads one id, the first and the second write one id
-/// each, and the third writes nothing.
+/// Works over three parts: each part reads one id, the first and the second write one id each, and the third writes
+/// nothing.
 pub fn work_over_three(
     alloc: Global,
     world: &mut World<Value>,
     read: ResourceId,
     first: ResourceId,
     second: ResourceId,
-    work: &mut EachPart<Adding>,
+    work: &mut Adding,
 ) -> Result<(), OutOfMemory>
     requires first { same_id read first ≡ false }
     requires second { same_id read second ≡ false }
     requires apart { same_id first second ≡ false }
-    ensures turned { OnOk result (HasTurnedOften 6 work.old.work work.new.work) }
+    ensures turned { OnOk result (HasTurnedOften 3 work.old work.new) }
     ensures not_begun { OnErr result (work.new ≡ work.old) }
 {
     let reads = [read];
@@ -165,10 +197,10 @@ pub fn work_over_three(
 pub fn work_over_none(
     alloc: Global,
     world: &mut World<Value>,
-    work: &mut EachPart<Adding>,
+    work: &mut Adding,
 ) -> Result<(), OutOfMemory>
     ensures { work.new ≡ work.old }
 {
     let mut view = world.lend(&[], &[]);
-    work_once(alloc, &mut view, &[], work)
+    view.part_each(alloc, &[], work)
 }

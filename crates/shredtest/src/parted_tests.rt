@@ -4,9 +4,9 @@ ghost use Rattle.shred_world.specs.Id.{id_of};
 ghost use Rattle.shredtest.specs.Values.{count_kind};
 
 use crate::adding::Adding;
-use crate::parted_calls::{work_over_none, work_over_three};
+use crate::parted_calls::{exchange_over_parts, work_over_none, work_over_three};
 use crate::values::{Count, Value};
-use shred::{EachPart, Kind, ResourceId, World};
+use shred::{Kind, ResourceId, World};
 use std::test::Fail;
 
 fn number(dynamic_id: u64) -> ResourceId
@@ -34,15 +34,13 @@ fn count_at(world: &World<Value>, dynamic_id: u64) -> Option<i64> {
 }
 
 // Adds what is read under number 0, to number 1 in the first part, to number 2 in the second, and to `last` in the third.
-fn adding(last: u64) -> EachPart<Adding> {
-    EachPart {
-        work: Adding {
-            read: number(0),
-            now: number(1),
-            then: number(2),
-            last: number(last),
-            written: 0,
-        },
+fn adding(last: u64) -> Adding {
+    Adding {
+        read: number(0),
+        now: number(1),
+        then: number(2),
+        last: number(last),
+        written: 0,
     }
 }
 
@@ -60,10 +58,10 @@ fn each_part_writes_its_own_and_all_is_joined(rt: HostRuntime) -> Result<(), Fai
     )
     .map_err(|_| "memory")?;
     assert_eq!(rt; count_at(&world, 0), Some(10));
-    assert_eq!(rt; count_at(&world, 1), Some(21));
-    assert_eq!(rt; count_at(&world, 2), Some(22));
+    assert_eq!(rt; count_at(&world, 1), Some(11));
+    assert_eq!(rt; count_at(&world, 2), Some(12));
     assert_eq!(rt; count_at(&world, 3), Some(3));
-    assert_eq!(rt; work.work.written, 4);
+    assert_eq!(rt; work.written, 2);
     Ok(())
 }
 
@@ -83,7 +81,7 @@ fn a_part_writes_nothing_of_another(rt: HostRuntime) -> Result<(), Fail> {
     assert_eq!(rt; count_at(&world, 0), Some(10));
     assert_eq!(rt; count_at(&world, 1), Some(1));
     assert_eq!(rt; count_at(&world, 2), Some(2));
-    assert_eq!(rt; work.work.written, 0);
+    assert_eq!(rt; work.written, 0);
     Ok(())
 }
 
@@ -102,8 +100,8 @@ fn what_is_not_held_is_not_held_after(rt: HostRuntime) -> Result<(), Fail> {
     .map_err(|_| "memory")?;
     assert_eq!(rt; count_at(&world, 1), None);
     assert!(rt; !world.has_value_raw(number(1)));
-    assert_eq!(rt; count_at(&world, 2), Some(22));
-    assert_eq!(rt; work.work.written, 2);
+    assert_eq!(rt; count_at(&world, 2), Some(12));
+    assert_eq!(rt; work.written, 1);
     Ok(())
 }
 
@@ -114,6 +112,31 @@ fn no_parts_leave_all_as_it_was(rt: HostRuntime) -> Result<(), Fail> {
     work_over_none(rt.alloc(), &mut world, &mut work).map_err(|_| "memory")?;
     assert_eq!(rt; count_at(&world, 0), Some(10));
     assert_eq!(rt; count_at(&world, 1), Some(1));
-    assert_eq!(rt; work.work.written, 0);
+    assert_eq!(rt; work.written, 0);
+    Ok(())
+}
+
+#[test]
+fn views_of_two_parts_are_there_at_the_same_time(rt: HostRuntime) -> Result<(), Fail> {
+    let mut world = world_of(&rt, &[(0, 10), (1, 1), (2, 2)])?;
+    let exchanged = exchange_over_parts(rt.alloc(), &mut world, number(1), number(2)).map_err(
+        |_| "memory",
+    )?;
+    assert!(rt; exchanged);
+    assert_eq!(rt; count_at(&world, 0), Some(10));
+    assert_eq!(rt; count_at(&world, 1), Some(2));
+    assert_eq!(rt; count_at(&world, 2), Some(1));
+    Ok(())
+}
+
+#[test]
+fn a_value_that_the_other_part_lacks_is_not_exchanged(rt: HostRuntime) -> Result<(), Fail> {
+    let mut world = world_of(&rt, &[(1, 1)])?;
+    let exchanged = exchange_over_parts(rt.alloc(), &mut world, number(1), number(2)).map_err(
+        |_| "memory",
+    )?;
+    assert!(rt; !exchanged);
+    assert_eq!(rt; count_at(&world, 1), Some(1));
+    assert_eq!(rt; count_at(&world, 2), None);
     Ok(())
 }

@@ -5,11 +5,10 @@ ghost use Rattle.shred_world.specs.Views.{may_write, table_of, view_held, IsSame
 ghost use Rattle.shred_world.specs.declared.id.ResourceId.{ResourceId};
 ghost use Rattle.shredtest.specs.Values.{kind_of};
 
-use crate::parted_calls::work_once;
 use crate::values::{Count, Flag, Name, Value};
 use shred::{
-    BatchAccessor, DataError, DispatcherBuilder, EachPart, Fault, Kind, OutOfMemory, ReadExpect,
-    Resource, ResourceId, RunningTime, System, View, ViewWork, World,
+    BatchAccessor, DataError, DispatcherBuilder, Fault, Kind, OutOfMemory, ReadExpect, Resource,
+    ResourceId, RunningTime, System, View, ViewWork, World,
 };
 use std::alloc::Global;
 use std::test::Fail;
@@ -168,12 +167,12 @@ fn sum_over_two(
     alloc: Global,
     world: &mut World<Value>,
     reads: &[ResourceId],
-    work: &mut EachPart<Summing>,
+    work: &mut Summing,
 ) -> Result<(), OutOfMemory> {
     let none: [ResourceId; 0] = [];
     let pairs = [(reads, none.as_slice()), (reads, none.as_slice())];
     let mut view = world.lend(reads, &[]);
-    work_once(alloc, &mut view, &pairs, work)
+    view.part_each(alloc, &pairs, work)
 }
 
 fn task_of(
@@ -229,10 +228,8 @@ fn what_the_group_writes_is_read_twice(rt: HostRuntime) -> Result<(), Fail> {
 fn a_part_reads_an_id_twice(rt: HostRuntime) -> Result<(), Fail> {
     let mut world: World<Value> = World::empty(rt.alloc());
     world.insert(Count(4)).map_err(|_| "memory")?;
-    let mut work = EachPart {
-        work: Summing { sum: 0 },
-    };
+    let mut work = Summing { sum: 0 };
     sum_over_two(rt.alloc(), &mut world, &[id(0)], &mut work).map_err(|_| "memory")?;
-    assert_eq!(rt; work.work.sum, 16);
+    assert_eq!(rt; work.sum, 16);
     Ok(())
 }

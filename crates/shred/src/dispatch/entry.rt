@@ -12,6 +12,7 @@ use crate::dispatch::growing::push_or_drop;
 use crate::dispatch::side::Side;
 use crate::system::{RunningTime, System};
 use arrayvec::ArrayVec;
+use shred_world::parting::empty_hand;
 use shred_world::{OutOfMemory, ResourceId, Table, check_intersection};
 use smallvec::SmallVec;
 use std::alloc::Global;
@@ -139,7 +140,7 @@ impl<V, S> Group<V, S> {
                 ids,
                 entries,
                 written,
-                hand: Table::new(alloc),
+                hand: empty_hand(alloc),
             }),
             Err(_) => Err(OutOfMemory),
         }

@@ -27,6 +27,7 @@ use crate::dispatch::sorted::sort_without_doubles;
 use crate::dispatch::spot::Spot;
 use crate::dispatch::stage::Stage;
 use crate::system::System;
+use shred_world::parting::empty_hand;
 use shred_world::{Accessor, OutOfMemory, ResourceId, ResourceValue, Table};
 use smallvec::SmallVec;
 use std::alloc::Global;
@@ -330,6 +331,6 @@ fn kept_entry<V: ResourceValue + Drop, S: System<V> + Drop>(
         writes,
         time,
         system,
-        hand: Table::new(alloc),
+        hand: empty_hand(alloc),
     })
 }

@@ -1,18 +1,21 @@
 //! Work over the views of the parts of a view, of which the library makes one for each pair of lists.
-ghost use Rattle.std.specs.Prelude.{◌≡◌, IsTrue, false, is_some};
+ghost use Rattle.std.specs.Prelude.{◌≡◌, ◌<◌, IsTrue, OnErr, OnOk, false, is_some, length};
 ghost use Rattle.std.specs.List.{All, AllZip};
 ghost use Rattle.shred_world.specs.declared.id.ResourceId.{ResourceId};
-ghost use Rattle.shred_world.specs.Parts.{DoNotConflict, reads_of, writes_of, HasNoOtherSlots, HasRoom, HoldsSameIds};
+ghost use Rattle.shred_world.specs.Beside.{pairs_of, pairs_behind, pair_behind, lent_behind};
+ghost use Rattle.shred_world.specs.Parts.{DoNotConflict, reads_of, writes_of, HasNothingOut, HoldsSameIds, IsHandOf};
 ghost use Rattle.shred_world.specs.Shown.{IsSameSlots};
 ghost use Rattle.shred_world.specs.Slots.{among};
-ghost use Rattle.shred_world.specs.Views.{may_read, may_write, is_out, lent_slot, view_held, table_in, IsSameView};
+ghost use Rattle.shred_world.specs.Views.{may_read, may_write, is_out, view_slot, view_held, IsSameView};
 ghost use Rattle.shred_world.specs.Worked.{part_held, KeepsUnwritten, IsWorkedEach, IsWorked, KeepsRest, KeepsHeldIds};
 
+use crate::accessor::OutOfMemory;
 use crate::id::ResourceId;
 use crate::resource::ResourceValue;
 use crate::table::Table;
-use crate::world::data::{Shelf, View};
-use crate::world::parts::PartsWork;
+use crate::world::data::View;
+use crate::world::parts::{Behind, Parts};
+use std::alloc::Global;
 
 /// What is done over the view of one part.
 pub trait ViewWork<V: ResourceValue> {
@@ -32,80 +35,78 @@ pub trait ViewWork<V: ResourceValue> {
         ensures ids { (id : ResourceId) → is_some (view_held V.kind_of view.new id) ≡ is_some (view_held V.kind_of view.old id) };
 }
 
-// Works over the view of one hand.
-fn work_over_one<'s, V: ResourceValue, W: ViewWork<V>>(
-    pair: &'s (&'s [ResourceId], &'s [ResourceId]),
-    shelf: &'s [Shelf<'s, V>],
+// Works over the view of one part.
+fn work_over_one<V: ResourceValue, W: ViewWork<V>>(
+    behind: &Behind<V>,
+    number: usize,
     hand: &mut Table<V>,
     work: &mut W,
 )
-    requires { HasNoOtherSlots pair.now hand.old }
-    ensures works { W.works work.old (reads_of pair.now) (writes_of pair.now) (part_held V.kind_of (λ q. lent_slot shelf.now q) pair.now hand.old) work.new (part_held V.kind_of (λ q. lent_slot shelf.now q) pair.now hand.new) }
-    ensures frame { KeepsUnwritten pair.now (part_held V.kind_of (λ q. lent_slot shelf.now q) pair.now hand.old) (part_held V.kind_of (λ q. lent_slot shelf.now q) pair.now hand.new) }
+    requires number { number < length (pairs_behind behind.now) }
+    requires hand { IsHandOf (lent_behind behind.now) (pair_behind behind.now number) hand.old }
+    ensures works { W.works work.old (reads_of (pair_behind behind.now number)) (writes_of (pair_behind behind.now number)) (part_held V.kind_of (lent_behind behind.now) (pair_behind behind.now number) hand.old) work.new (part_held V.kind_of (lent_behind behind.now) (pair_behind behind.now number) hand.new) }
+    ensures frame { KeepsUnwritten (pair_behind behind.now number) (part_held V.kind_of (lent_behind behind.now) (pair_behind behind.now number) hand.old) (part_held V.kind_of (lent_behind behind.now) (pair_behind behind.now number) hand.new) }
     ensures slots { IsSameSlots hand.old hand.new }
+    ensures given_back { HasNothingOut hand.new }
     ensures ids { HoldsSameIds V.kind_of hand.old hand.new }
 {
-    let mut view = View::over(pair.0, pair.1, shelf, hand);
+    let mut view = behind.view(number, hand);
     work.run(&mut view);
 }
 
-// Works over the view of each hand, one after the other.
+// Works over the view of each part, one after the other.
 fn work_over_each<V: ResourceValue, W: ViewWork<V>>(
-    pairs: &[(&[ResourceId], &[ResourceId])],
-    shelf: &[Shelf<V>],
+    behind: &Behind<V>,
     hands: &mut [Table<V>],
     work: &mut W,
 )
-    requires { AllZip HasNoOtherSlots pairs.now hands.old }
-    ensures { IsWorkedEach V.kind_of W.works (λ q. lent_slot shelf.now q) pairs.now hands.old work.old hands.new work.new }
+    requires { AllZip (IsHandOf (lent_behind behind.now)) (pairs_behind behind.now) hands.old }
+    ensures { IsWorkedEach V.kind_of W.works (lent_behind behind.now) (pairs_behind behind.now) hands.old work.old hands.new work.new }
 {
     for i in 0..hands.len() {
-        work_over_one(&pairs[i], &*shelf, &mut hands[i], work);
-    }
-}
-
-/// The work over the view of each part, in the order of the pairs.
-#[derive(Drop)]
-pub struct EachPart<W> {
-    pub work: W,
-}
-
-impl<V: ResourceValue, W: ViewWork<V>> PartsWork<V> for EachPart<W> {
-    ghost use Rattle.shred_world.specs.Worked.{IsWorkedEach};
-
-    ghost works = { λ before pairs behind hands after left. IsWorkedEach V.kind_of W.works behind pairs hands before.work left after.work };
-
-    fn run(
-        &mut self,
-        pairs: &[(&[ResourceId], &[ResourceId])],
-        shelf: &[Shelf<V>],
-        hands: &mut [Table<V>],
-    ) {
-        work_over_each(pairs, shelf, hands, &mut self.work);
+        work_over_one(behind, i, &mut hands[i], work);
     }
 }
 
 impl<'s, 'a, V: ResourceValue + Drop> View<'s, 'a, V> {
-    /// Parts the view, makes a view of each pair's lists, in order, and works over each. Under each id that a pair
-    /// writes this view shows then what that pair's view showed last, and all else as before. It holds values under the
-    /// same ids. It takes no memory of its own, and leaves the hands with room for the next time.
+    /// Parts the view, makes a view of each pair's lists, in order, works over each, and joins the parts. Under each id
+    /// that a pair writes this view shows then what that pair's view showed last, and all else as before. It holds
+    /// values under the same ids. If memory is refused, nothing was done.
     pub fn part_each<W: ViewWork<V>>(
         &mut self,
+        alloc: Global,
         pairs: &[(&[ResourceId], &[ResourceId])],
-        hands: &mut [Table<V>],
-        work: &mut EachPart<W>,
-    )
+        work: &mut W,
+    ) -> Result<(), OutOfMemory>
         requires nothing_out { (id : ResourceId) → is_out self.old id ≡ false }
         requires reads_within { All (λ p. (id : ResourceId) → IsTrue (among (reads_of p) id) → IsTrue (may_read self.old id)) pairs.now }
         requires writes_within { All (λ p. (id : ResourceId) → IsTrue (among (writes_of p) id) → IsTrue (may_write self.old id)) pairs.now }
         requires apart { DoNotConflict pairs.now }
-        requires room { AllZip (HasRoom (table_in self.old)) pairs.now hands.old }
         ensures same { IsSameView self.old self.new }
-        ensures worked { IsWorked W.works pairs.now (view_held V.kind_of self.old) work.old.work (view_held V.kind_of self.new) work.new.work }
+        ensures worked { OnOk result (IsWorked W.works pairs.now (view_held V.kind_of self.old) work.old (view_held V.kind_of self.new) work.new) }
         ensures rest { KeepsRest pairs.now (view_held V.kind_of self.old) (view_held V.kind_of self.new) }
         ensures ids { KeepsHeldIds (view_held V.kind_of self.old) (view_held V.kind_of self.new) }
-        ensures room { AllZip (HasRoom (table_in self.new)) pairs.now hands.new }
+        ensures refused { OnErr result ((id : ResourceId) → view_slot self.new id ≡ view_slot self.old id) }
+        ensures not_begun { OnErr result (work.new ≡ work.old) }
     {
-        self.part(pairs, hands, work);
+        let mut parts = match self.part(alloc, pairs) {
+            Ok(parts) => parts,
+            Err(error) => return Err(error),
+        };
+        self.work_parted(&mut parts, work);
+        parts.join(self);
+        Ok(())
+    }
+
+    // Works over the hands of parts, and over what lies behind them: what the view shows now.
+    fn work_parted<W: ViewWork<V>>(&self, parts: &mut Parts<V>, work: &mut W)
+        requires reads_within { All (λ p. (id : ResourceId) → IsTrue (among (reads_of p) id) → IsTrue (may_read self.now id)) (pairs_of parts.old) }
+        requires writes_within { All (λ p. (id : ResourceId) → IsTrue (among (writes_of p) id) → IsTrue (may_write self.now id)) (pairs_of parts.old) }
+        requires hands { AllZip (IsHandOf (view_slot self.now)) (pairs_of parts.old) parts.old.hands.items }
+        ensures worked { IsWorkedEach V.kind_of W.works (view_slot self.now) (pairs_of parts.old) parts.old.hands.items work.old parts.new.hands.items work.new }
+        ensures pairs { pairs_of parts.new ≡ pairs_of parts.old }
+    {
+        let behind = parts.behind(self);
+        work_over_each(&behind, parts.hands.as_mut_slice(), work);
     }
 }

@@ -4,6 +4,7 @@ ghost use Rattle.std.specs.Borrow.{sem};
 ghost use Rattle.std.specs.Option.{option_map};
 ghost use Rattle.shred_world.specs.declared.id.ResourceId.{ResourceId};
 ghost use Rattle.shred_world.specs.Fetched.{fetched};
+ghost use Rattle.shred_world.specs.Id.{kind_of};
 
 use crate::accessor::OutOfMemory;
 use crate::id::{Kind, ResourceId};
@@ -63,6 +64,21 @@ pub struct World<V> {
 
 /// `World`.
 pub type Resources<V> = World<V>;
+
+// Refuses an id of another kind than the resource's.
+fn test_kind<V: ResourceValue, R: Resource<V>>(id: ResourceId) -> Result<(), WorldError>
+    ensures ok { OnOk result (R.KIND ≡ kind_of id) }
+    ensures wrong_kind { IfErr result (λ e. (R.KIND ≢ kind_of id) × (e ≡ WorldError.WrongKind R.KIND (kind_of id))) }
+{
+    if R::KIND == id.kind() {
+        Ok(())
+    } else {
+        Err(WorldError::WrongKind {
+            asked: R::KIND,
+            found: id.kind(),
+        })
+    }
+}
 
 impl<V: ResourceValue> World<V> {
     ghost use Rattle.shred_world.specs.Worlds.{world_held, table_of_world, IsFilled};
@@ -128,12 +144,7 @@ impl<V: ResourceValue> World<V> {
         ensures wrong_kind { (R.KIND ≢ kind_of id) ↔ (result ≡ Err (WorldError.WrongKind R.KIND (kind_of id))) }
         ensures out_of_memory { IfErr result (λ e. (R.KIND ≡ kind_of id) → (e ≡ WorldError.OutOfMemory) × (world_held V.kind_of self.old id ≡ None)) }
     {
-        if R::KIND != id.kind() {
-            return Err(WorldError::WrongKind {
-                asked: R::KIND,
-                found: id.kind(),
-            });
-        }
+        test_kind::<V, R>(id)?;
         match self.table.put(id, resource.wrap()) {
             Ok(()) => Ok(()),
             Err(OutOfMemory) => Err(WorldError::OutOfMemory),
@@ -187,12 +198,7 @@ impl<V: ResourceValue> World<V> {
         ensures err { OnErr result ((q : ResourceId) → world_held V.kind_of self.new q ≡ world_held V.kind_of self.old q) }
         ensures wrong_kind { IfErr result (λ e. (R.KIND ≢ kind_of id) × (e ≡ WorldError.WrongKind R.KIND (kind_of id))) }
     {
-        if R::KIND != id.kind() {
-            return Err(WorldError::WrongKind {
-                asked: R::KIND,
-                found: id.kind(),
-            });
-        }
+        test_kind::<V, R>(id)?;
         Ok(self.take(id))
     }
 
@@ -264,12 +270,7 @@ impl<V: ResourceValue> World<V> {
         ensures ok { IfOk result (λ found. (R.KIND ≡ kind_of id) × (option_map (λ f. R.wrapped (fetched f)) found ≡ world_held V.kind_of self.now id)) }
         ensures wrong_kind { IfErr result (λ e. (R.KIND ≢ kind_of id) × (e ≡ WorldError.WrongKind R.KIND (kind_of id))) }
     {
-        if R::KIND != id.kind() {
-            return Err(WorldError::WrongKind {
-                asked: R::KIND,
-                found: id.kind(),
-            });
-        }
+        test_kind::<V, R>(id)?;
         let Some(value) = self.table.get(id) else {
             return Ok(None);
         };
@@ -334,12 +335,7 @@ impl<V: ResourceValue> World<V> {
         ensures missing { (R.KIND ≡ kind_of id) → IfErr result (λ e. (e ≡ WorldError.Missing id) × (world_held V.kind_of self.old id ≡ None)) }
         ensures* written { sem 𝓛 (LendsGotOk V.row R.row V.kind_of R.wrapped self.entry id result) }
     {
-        if R::KIND != id.kind() {
-            return Err(WorldError::WrongKind {
-                asked: R::KIND,
-                found: id.kind(),
-            });
-        }
+        test_kind::<V, R>(id)?;
         let Some(resource) = self.resource_mut::<R>(id) else {
             return Err(WorldError::Missing(id));
         };

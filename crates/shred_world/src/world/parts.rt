@@ -1,20 +1,38 @@
 //! Parting a view into views that may be used beside each other.
-ghost use Rattle.std.specs.Prelude.{◌≡◌, IsTrue, false, cond, is_some, IfOk, None, List};
+ghost use Rattle.std.specs.Prelude.{◌≡◌, ◌<◌, ◌&&◌, IsTrue, false, cond, is_some, IfOk, OnOk, OnErr, None, List, length};
 ghost use Rattle.std.specs.List.{All, AllZip};
 ghost use Rattle.shred_world.specs.declared.id.ResourceId.{ResourceId};
 ghost use Rattle.shred_world.specs.Parting.{emptied};
-ghost use Rattle.shred_world.specs.Parts.{DoNotConflict, reads_of, writes_of, written_by, HasNoOtherSlots, HasRoom, HoldsWritten, Fits, IsJoined, IsEmptied, HoldsSameIds};
-ghost use Rattle.shred_world.specs.Shown.{IsSameSlots};
+ghost use Rattle.shred_world.specs.Parts.{DoNotConflict, reads_of, writes_of, written_by, HasNothingOut, HasRoom, HoldsWritten, Fits, IsHandOf, IsJoined};
 ghost use Rattle.shred_world.specs.Slots.{slot_at, noted_in, among, or_slot};
-ghost use Rattle.shred_world.specs.Views.{may_read, may_write, is_out, shelf_slot, lent_slot, view_slot, view_held, table_in, IsSameView};
-ghost use Rattle.shred_world.specs.Beside.{WasParted};
+ghost use Rattle.shred_world.specs.Views.{may_read, may_write, is_out, owned_ids, shelf_slot, shelves_of, lent_slot, view_slot, table_in, IsSameLoan};
+ghost use Rattle.shred_world.specs.Beside.{pairs_of, pairs_behind, pair_behind, lent_behind, shelf_behind};
+ghost use Rattle.shred_world.specs.OwnViews.{IsLent};
 
 use crate::accessor::OutOfMemory;
 use crate::id::ResourceId;
 use crate::resource::ResourceValue;
 use crate::table::Table;
 use crate::world::data::{Shelf, View};
+use crate::world::tuples::joined;
 use std::alloc::Global;
+
+// The ids that the pairs write.
+fn written_ids(
+    alloc: Global,
+    pairs: &[(&[ResourceId], &[ResourceId])],
+) -> Result<Vec<ResourceId>, OutOfMemory>
+    ensures { IfOk result (λ ids. (q : ResourceId) → among ids.items q ≡ written_by pairs.now q) }
+{
+    let mut ids = Vec::new(alloc);
+    for pair in pairs {
+        ids = match joined(ids, pair.1) {
+            Ok(ids) => ids,
+            Err(error) => return Err(error),
+        };
+    }
+    Ok(ids)
+}
 
 impl<V: Drop> Table<V> {
     // A hand for each pair, with room for what the pair writes.
@@ -28,9 +46,8 @@ impl<V: Drop> Table<V> {
         let mut hands = Vec::new(alloc);
         for pair in pairs {
             let mut hand = Table::new(alloc);
-            match self.make_room(pair.1, &mut hand) {
-                Ok(()) => {}
-                Err(error) => return Err(error),
+            if let Err(error) = self.make_room(pair.1, &mut hand) {
+                return Err(error);
             }
             match hands.push(hand) {
                 Ok(()) => {}
@@ -45,10 +62,13 @@ impl<V: Drop> Table<V> {
         requires apart { DoNotConflict pairs.now }
         requires room { AllZip (HasRoom self.old) pairs.now hands.old }
         ensures hands { AllZip (HoldsWritten self.old) pairs.now hands.new }
+        ensures nothing_out { All HasNothingOut hands.new }
         ensures left { (q : ResourceId) → slot_at self.new q ≡ cond (written_by pairs.now q) (emptied (slot_at self.old q)) (slot_at self.old q) }
     {
         for i in 0..pairs.len() {
-            self.move_out(pairs[i].1, &mut hands[i]);
+            let hand = &mut hands[i];
+            self.move_out(pairs[i].1, hand);
+            hand.forget_notes();
         }
     }
 
@@ -60,7 +80,6 @@ impl<V: Drop> Table<V> {
         ensures joined { AllZip (IsJoined self.new) pairs.now hands.old }
         ensures rest { (q : ResourceId) → written_by pairs.now q ≡ false → slot_at self.new q ≡ slot_at self.old q }
         ensures slots { (q : ResourceId) → is_some (slot_at self.new q) ≡ is_some (slot_at self.old q) }
-        ensures emptied { AllZip IsEmptied hands.old hands.new }
         ensures noted { (q : ResourceId) → noted_in self.new q ≡ false }
     {
         for i in 0..pairs.len() {
@@ -70,43 +89,41 @@ impl<V: Drop> Table<V> {
     }
 }
 
-/// What is done over the parts of a view: over the hands, of which each has what its pair writes, and what lies behind
-/// them. `View::over` makes a view of each.
-pub trait PartsWork<V: ResourceValue> {
-    ghost use Rattle.shred_world.specs.Beside.{PartsRelation};
-    ghost use Rattle.shred_world.specs.Parts.{HasNoOtherSlots};
-
-    ghost works: { PartsRelation V Self };
-
-    /// Works over the hands, of which each has slots of its pair's written ids alone. In each it leaves a value under the
-    /// ids under which there was one.
-    fn run(
-        &mut self,
-        pairs: &[(&[ResourceId], &[ResourceId])],
-        shelf: &[Shelf<V>],
-        hands: &mut [Table<V>],
-    )
-        requires { AllZip HasNoOtherSlots pairs.now hands.old }
-        ensures works { works self.old pairs.now (λ q. lent_slot shelf.now q) hands.old self.new hands.new }
-        ensures slots { AllZip IsSameSlots hands.old hands.new }
-        ensures ids { AllZip (HoldsSameIds V.kind_of) hands.old hands.new };
+/// The pairs of lists by which a view is parted, and what lies behind the hands of the parts.
+#[derive(Drop)]
+pub struct Behind<'p, 's, V> {
+    pub(crate) pairs: &'p [(&'p [ResourceId], &'p [ResourceId])],
+    pub(crate) shelf: [Shelf<'s, V>; 1],
 }
 
-impl<'s, 'a, V: Drop> View<'s, 'a, V> {
-    /// A hand for each pair of lists, with room for the values of the ids that the pair writes.
-    pub fn make_hands(
-        &self,
-        alloc: Global,
-        pairs: &[(&[ResourceId], &[ResourceId])],
-    ) -> Result<Vec<Table<V>>, OutOfMemory>
-        ensures { IfOk result (λ hands. AllZip (HasRoom (table_in self.now)) pairs.now hands.items) }
+impl<'p, 's, V> Behind<'p, 's, V> {
+    /// How many parts there are.
+    pub fn len(&self) -> usize
+        ensures { result ≡ length (pairs_behind self.now) }
     {
-        self.own.make_hands(alloc, pairs)
+        self.pairs.len()
+    }
+
+    /// The view of the part of this number, of just the ids of its pair, over its hand and what lies behind the hands.
+    /// Views of several parts may be there at the same time.
+    pub fn view<'b, 'a>(&'b self, number: usize, hand: &'a mut Table<V>) -> View<'b, 'a, V>
+        requires number { number < length (pairs_behind self.now) }
+        requires hand { IsHandOf (lent_behind self.now) (pair_behind self.now number) hand.old }
+        ensures name { result.own.ghost_name ≡ hand.entry.ghost_name }
+        ensures slots { result.own.now.slots ≡ hand.old.slots }
+        ensures reads { result.reads.now ≡ reads_of (pair_behind self.now number) }
+        ensures writes { result.writes.now ≡ writes_of (pair_behind self.now number) }
+        ensures owned { owned_ids result ≡ writes_of (pair_behind self.now number) }
+        ensures shelf { shelves_of result ≡ shelf_behind self.now }
+        ensures lent { IsLent result (reads_of (pair_behind self.now number)) (writes_of (pair_behind self.now number)) }
+    {
+        let pair = &self.pairs[number];
+        View::over(pair.0, pair.1, &self.shelf, hand)
     }
 }
 
 // A table before a shelf, where there is one; the ids of the list are not looked for behind the table.
-fn shelf_before<'b, V>(
+pub(crate) fn shelf_before<'b, V>(
     table: &'b Table<V>,
     owned: &'b [ResourceId],
     shelf: &'b [Shelf<'b, V>],
@@ -119,62 +136,75 @@ fn shelf_before<'b, V>(
     }
 }
 
-// Works over the hands, and over a shelf of what lies behind them.
-fn work_over<V: ResourceValue, W: PartsWork<V>>(
-    pairs: &[(&[ResourceId], &[ResourceId])],
-    behind: Shelf<V>,
-    hands: &mut [Table<V>],
-    work: &mut W,
-)
-    requires { AllZip HasNoOtherSlots pairs.now hands.old }
-    ensures works { W.works work.old pairs.now (λ q. shelf_slot behind.entry q) hands.old work.new hands.new }
-    ensures slots { AllZip IsSameSlots hands.old hands.new }
-    ensures ids { AllZip (HoldsSameIds V.kind_of) hands.old hands.new }
-{
-    let shelf = [behind];
-    work.run(pairs, &shelf, hands);
+/// The parts of a view: for each pair of lists a hand, with the values that the pair writes. They cannot be dropped, and
+/// must be joined.
+pub struct Parts<'p, V> {
+    pub(crate) pairs: &'p [(&'p [ResourceId], &'p [ResourceId])],
+    /// The hands, in the order of the pairs.
+    pub hands: Vec<Table<V>>,
 }
 
 impl<'s, 'a, V: ResourceValue + Drop> View<'s, 'a, V> {
-    /// Parts the view for the time of one work. For each pair of lists, of ids to be read and of ids to be written, the
-    /// values of the ids that the pair writes are moved into its hand; the slots that they leave stay. Then the work is
-    /// done over the hands, and at last every value goes back into the slot that it left. The list of pairs may be
-    /// empty. It takes no memory of its own, and leaves the hands with room for the next time.
-    pub fn part<W: PartsWork<V>>(
+    /// Moves the values of the ids that each pair writes into a hand of the pair. The slots that they leave stay, and
+    /// these ids are out until `Parts::join` moves the values back. If memory is refused, nothing was moved.
+    pub fn part<'p>(
         &mut self,
-        pairs: &[(&[ResourceId], &[ResourceId])],
-        hands: &mut [Table<V>],
-        work: &mut W,
-    )
+        alloc: Global,
+        pairs: &'p [(&'p [ResourceId], &'p [ResourceId])],
+    ) -> Result<Parts<'p, V>, OutOfMemory>
         requires nothing_out { (id : ResourceId) → is_out self.old id ≡ false }
         requires reads_within { All (λ p. (id : ResourceId) → IsTrue (among (reads_of p) id) → IsTrue (may_read self.old id)) pairs.now }
         requires writes_within { All (λ p. (id : ResourceId) → IsTrue (among (writes_of p) id) → IsTrue (may_write self.old id)) pairs.now }
         requires apart { DoNotConflict pairs.now }
-        requires room { AllZip (HasRoom (table_in self.old)) pairs.now hands.old }
-        ensures same { IsSameView self.old self.new }
-        ensures parted { WasParted W.works pairs.now self.old work.old self.new work.new }
-        ensures rest { (q : ResourceId) → written_by pairs.now q ≡ false → view_slot self.new q ≡ view_slot self.old q }
-        ensures ids { (q : ResourceId) → is_some (view_held V.kind_of self.new q) ≡ is_some (view_held V.kind_of self.old q) }
-        ensures room { AllZip (HasRoom (table_in self.new)) pairs.now hands.new }
+        ensures loan { IsSameLoan self.old self.new }
+        ensures pairs { IfOk result (λ parts. pairs_of parts ≡ pairs.now) }
+        ensures hands { IfOk result (λ parts. AllZip (HoldsWritten (table_in self.old)) pairs.now parts.hands.items) }
+        ensures nothing_out { IfOk result (λ parts. All HasNothingOut parts.hands.items) }
+        ensures left { OnOk result ((q : ResourceId) → slot_at (table_in self.new) q ≡ cond (written_by pairs.now q) (emptied (slot_at (table_in self.old) q)) (slot_at (table_in self.old) q)) }
+        ensures out { OnOk result ((q : ResourceId) → is_out self.new q ≡ (written_by pairs.now q && is_some (slot_at (table_in self.old) q))) }
+        ensures refused { OnErr result ((q : ResourceId) → view_slot self.new q ≡ view_slot self.old q) }
+        ensures nothing_begun { OnErr result ((q : ResourceId) → is_out self.new q ≡ false) }
     {
-        self.own.move_all_out(pairs, hands);
-        self.work_parted(pairs, hands, work);
-        self.own.move_all_back(pairs, hands);
+        let mut hands = match self.own.make_hands(alloc, pairs) {
+            Ok(hands) => hands,
+            Err(error) => return Err(error),
+        };
+        let written = match written_ids(alloc, pairs) {
+            Ok(ids) => ids,
+            Err(error) => return Err(error),
+        };
+        self.own.move_all_out(pairs, hands.as_mut_slice());
+        self.own.note_all(written);
+        Ok(Parts { pairs, hands })
+    }
+}
+
+impl<'p, V: Drop> Parts<'p, V> {
+    /// What lies behind the hands, for views of the parts.
+    pub fn behind<'b>(&self, lender: &'b View<V>) -> Behind<'p, 'b, V>
+        requires reads_within { All (λ p. (id : ResourceId) → IsTrue (among (reads_of p) id) → IsTrue (may_read lender.now id)) (pairs_of self.now) }
+        requires writes_within { All (λ p. (id : ResourceId) → IsTrue (among (writes_of p) id) → IsTrue (may_write lender.now id)) (pairs_of self.now) }
+        ensures pairs { pairs_behind result ≡ pairs_of self.now }
+        ensures shelf { (q : ResourceId) → lent_behind result q ≡ view_slot lender.now q }
+    {
+        Behind {
+            pairs: self.pairs,
+            shelf: [shelf_before(lender.own, lender.owned, lender.shelf)],
+        }
     }
 
-    // Works over the hands, and over what lies behind them: what the view shows now.
-    fn work_parted<W: PartsWork<V>>(
-        &self,
-        pairs: &[(&[ResourceId], &[ResourceId])],
-        hands: &mut [Table<V>],
-        work: &mut W,
-    )
-        requires { AllZip HasNoOtherSlots pairs.now hands.old }
-        ensures works { W.works work.old pairs.now (view_slot self.now) hands.old work.new hands.new }
-        ensures slots { AllZip IsSameSlots hands.old hands.new }
-        ensures ids { AllZip (HoldsSameIds V.kind_of) hands.old hands.new }
+    /// Moves each value back into the slot of its id in the view that was parted, which it left empty.
+    pub fn join(self, lender: &mut View<V>)
+        requires out { (id : ResourceId) → is_out lender.old id ≡ (written_by (pairs_of self) id && is_some (slot_at (table_in lender.old) id)) }
+        requires given_back { All HasNothingOut self.hands.items }
+        requires apart { DoNotConflict (pairs_of self) }
+        requires fit { AllZip (Fits (table_in lender.old)) (pairs_of self) self.hands.items }
+        ensures loan { IsSameLoan lender.old lender.new }
+        ensures joined { AllZip (IsJoined (table_in lender.new)) (pairs_of self.entry) self.entry.hands.items }
+        ensures rest { (q : ResourceId) → written_by (pairs_of self.entry) q ≡ false → slot_at (table_in lender.new) q ≡ slot_at (table_in lender.old) q }
+        ensures nothing_out { (q : ResourceId) → is_out lender.new q ≡ false }
     {
-        let behind = shelf_before(self.own, self.owned, self.shelf);
-        work_over(pairs, behind, hands, work);
+        let Parts { pairs, mut hands } = self;
+        lender.own.move_all_back(pairs, hands.as_mut_slice());
     }
 }

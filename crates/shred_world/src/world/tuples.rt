@@ -11,7 +11,10 @@ use crate::world::{World, WorldError};
 use std::alloc::Global;
 
 // The ids of the second list behind those of the first.
-fn joined(mut ids: Vec<ResourceId>, more: &[ResourceId]) -> Result<Vec<ResourceId>, OutOfMemory>
+pub(crate) fn joined(
+    mut ids: Vec<ResourceId>,
+    more: &[ResourceId],
+) -> Result<Vec<ResourceId>, OutOfMemory>
     ensures { IfOk result (λ joined. joined.items ≡ ids.items ++ more.now) }
 {
     match ids.extend_from_slice(more) {

@@ -23,7 +23,7 @@ returns-clause-own_lists g c =
     let sorted = c.sort_without_doubles in
     let given = c.in-Ok-reads.ensures ∙ c.in-Ok.ensures.reads in
     record {
-      hand = λ q. spare-of_empty _ (c.new.ensures q);
+      hand = λ q. spare-of_empty _ (c.empty_hand.ensures q);
       lists = own_lists-of_same (g.S.System.reads c.args.system) (g.S.System.writes c.args.system) sorted.new.items.items c.in-Ok-writes.writes.items
           (λ i. ((λ h. rw given at (sorted.ensures.none_new i h)), (λ h. Contains-from_same sorted.new.items.items i (sorted.ensures.none_lost i (rw given h)))))
           (c.in-Ok-writes.ensures ∙ c.in-Ok.ensures.writes);

@@ -1,5 +1,5 @@
 use Rattle.std.proofs.Common.{◌≡◌, ◌&&◌, Bool, Option, cond, List, [], slice_index_or, take, refl, sym, ◌∙◌, ap, arith}
-use Rattle.std.specs.Prelude.{is_some}
+use Rattle.std.specs.Prelude.{is_some, ⊤}
 use Rattle.std.specs.HashMap.{get}
 use Rattle.shred_world.specs.Id.{same_id}
 use Rattle.std.proofs.lemmas.List.{take_all}
@@ -7,16 +7,16 @@ use Rattle.std.proofs.Math.ListN.{length-set}
 use Rattle.shred_world.specs.declared.table.Slot.{Slot}
 use Rattle.shred_world.specs.declared.table.Table.{Table}
 use Rattle.shred_world.specs.Parting.{emptied}
-use Rattle.shred_world.specs.Parts.{Pair, writes_of, written_by, Fits, IsEmptied}
+use Rattle.shred_world.specs.Parts.{Pair, writes_of, written_by, Fits}
 use Rattle.shred_world.specs.Slots.{slot_at, among}
-use Rattle.shred_world.proofs.Pairs.{zip-get, zip-length, zip-end, zip-at, zip-more, same-start, joined-more, joined-rest, joined-slots, joined-all, written-at, written-before}
+use Rattle.shred_world.proofs.Pairs.{zip-get, zip-length, zip-at, zip-more, same-start, joined-more, joined-rest, joined-slots, joined-all, written-at, written-before}
 use Rattle.shred_world.proofs.table.Table.move_all_back.Goals as goal
 
 pub loop-i-init : goal.loop-i-init
 loop-i-init g c = record {
   long = zip-length (Fits c.args.self.now) c.args.pairs.now c.args.hands.now c.requires.fit;
   table = λ q. refl;
-  same = same-start IsEmptied c.args.hands.now;
+  same = same-start (λ was now. ⊤) c.args.hands.now;
 }
 
 pub move_back-requires-clause-slots : goal.move_back-requires-clause-slots
@@ -26,7 +26,7 @@ move_back-requires-clause-slots g c = λ q.
     let d : Pair = (record { ref_ptr = (0, 0); now = [] }, record { ref_ptr = (0, 0); now = [] }) in
     let e = c.index-hands-i.result in
     let same : slice_index_or c.loop-i.hands i e ≡ slice_index_or c.args.hands.now i e =
-    zip-at IsEmptied (λ was now. now ≡ was) i c.args.hands.now c.loop-i.hands e e (omega (arith, c.loop-i.invariant.long)) c.loop-i.invariant.same in
+    zip-at (λ was now. ⊤) (λ was now. now ≡ was) i c.args.hands.now c.loop-i.hands e e (omega (arith, c.loop-i.invariant.long)) c.loop-i.invariant.same in
     ap (λ (h : Table g.row.V.Denot). is_some (slot_at h q)) same
     ∙ zip-get (Fits c.args.self.now) i pairs c.args.hands.now d e c.loop-i-test.true c.requires.fit q
     ∙ ap (λ (b : Bool). among (writes_of (slice_index_or pairs i d)) q && b)
@@ -48,15 +48,14 @@ loop-i-preserved g c =
     let d : Pair = (record { ref_ptr = (0, 0); now = [] }, record { ref_ptr = (0, 0); now = [] }) in
     let e = c.index-hands-i.result in
     let same : slice_index_or c.loop-i.hands i e ≡ slice_index_or c.args.hands.now i e =
-    zip-at IsEmptied (λ was now. now ≡ was) i c.args.hands.now c.loop-i.hands e e (omega (arith, c.loop-i.invariant.long)) c.loop-i.invariant.same in
+    zip-at (λ was now. ⊤) (λ was now. now ≡ was) i c.args.hands.now c.loop-i.hands e e (omega (arith, c.loop-i.invariant.long)) c.loop-i.invariant.same in
     record {
       long = c.loop-i.invariant.long ∙ sym (length-set c.loop-i.hands i c.move_back.new.hand);
       table = λ q. c.move_back.ensures.back q
           ∙ ap (λ (h : Table g.row.V.Denot). cond (among (writes_of (slice_index_or pairs i d)) q) (slot_at h q) (slot_at c.loop-i.self q)) same
           ∙ ap (λ (o : Option (Slot g.row.V.Denot)). cond (among (writes_of (slice_index_or pairs i d)) q) (slot_at (slice_index_or c.args.hands.now i e) q) o) (c.loop-i.invariant.table q)
           ∙ sym (joined-more i pairs c.args.hands.now (slot_at c.args.self.now) d e q c.loop-i-test.true (omega (arith, c.loop-i.invariant.long)));
-      same = zip-more IsEmptied (λ was now. now ≡ was) i c.args.hands.now c.loop-i.hands e c.move_back.new.hand (omega (arith, c.loop-i.invariant.long)) c.loop-i.invariant.same
-          (λ q. c.move_back.ensures.hand q ∙ ap (λ (h : Table g.row.V.Denot). emptied (slot_at h q)) same);
+      same = zip-more (λ was now. ⊤) (λ was now. now ≡ was) i c.args.hands.now c.loop-i.hands e c.move_back.new.hand (omega (arith, c.loop-i.invariant.long)) c.loop-i.invariant.same tt;
     }
 
 pub returns-clause-joined : goal.returns-clause-joined
@@ -69,6 +68,3 @@ returns-clause-rest g c = λ q n.
 
 pub returns-clause-slots : goal.returns-clause-slots
 returns-clause-slots g c = λ q. ap is_some ((λ i. get same_id (c.forget_notes.ensures.slots i) q) ∙ c.loop-i.invariant.table q) ∙ joined-slots (λ r. is_some (slot_at c.args.self.now r)) c.loop-i.i c.args.pairs.now c.args.hands.now (slot_at c.args.self.now) c.requires.fit (λ r. refl) q
-
-pub returns-clause-emptied : goal.returns-clause-emptied
-returns-clause-emptied g c = zip-end IsEmptied (λ was now. now ≡ was) c.loop-i.i c.args.hands.now c.loop-i.hands (omega (arith, c.loop-i.invariant.long)) c.loop-i.invariant.same

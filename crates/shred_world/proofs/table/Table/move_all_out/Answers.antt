@@ -4,17 +4,22 @@ use Rattle.std.proofs.lemmas.List.Folds.{list_any_more}
 use Rattle.std.proofs.Math.ListN.{length-set}
 use Rattle.shred_world.specs.declared.table.Slot.{Slot}
 use Rattle.shred_world.specs.Parting.{emptied}
-use Rattle.shred_world.specs.Parts.{Pair, writes_of, written_by, HasRoom, HoldsWritten}
+use Rattle.shred_world.specs.Parts.{Pair, writes_of, written_by, HasNothingOut, HasRoom, HoldsWritten}
 use Rattle.shred_world.specs.Slots.{slot_at, among}
+use Rattle.std.specs.HashMap.{get}
+use Rattle.std.proofs.Common.{◌&&◌}
+use Rattle.shred_world.specs.Id.{same_id}
+use Rattle.shred_world.specs.Views.{is_vacant}
+use Rattle.shred_world.proofs.Beside.{zip-map}
 use Rattle.shred_world.proofs.Moves.{left-more}
-use Rattle.shred_world.proofs.Pairs.{zip-length, zip-start, zip-end, zip-at, zip-more, left-or, held-now, written-before}
+use Rattle.shred_world.proofs.Pairs.{IsFilled, zip-second, zip-length, zip-start, zip-end, zip-at, zip-more, left-or, held-now, written-before}
 use Rattle.shred_world.proofs.table.Table.move_all_out.Goals as goal
 
 pub loop-i-init : goal.loop-i-init
 loop-i-init g c = record {
   long = zip-length (HasRoom c.args.self.now) c.args.pairs.now c.args.hands.now c.requires.room;
   left = λ q. refl;
-  hands = zip-start (HoldsWritten c.args.self.now) (HasRoom c.args.self.now) c.args.pairs.now c.args.hands.now c.requires.room;
+  hands = zip-start (IsFilled c.args.self.now) (HasRoom c.args.self.now) c.args.pairs.now c.args.hands.now c.requires.room;
 }
 
 pub move_out-requires : goal.move_out-requires
@@ -22,7 +27,7 @@ move_out-requires g c = λ q.
     let pairs = c.args.pairs.now in
     let d : Pair = (record { ref_ptr = (0, 0); now = [] }, record { ref_ptr = (0, 0); now = [] }) in
     let pair = slice_index_or pairs c.loop-i.i d in
-    zip-at (HoldsWritten c.args.self.now) (HasRoom c.args.self.now) c.loop-i.i pairs c.loop-i.hands d c.index-hands-i.result c.loop-i-test.true c.loop-i.invariant.hands q
+    zip-at (IsFilled c.args.self.now) (HasRoom c.args.self.now) c.loop-i.i pairs c.loop-i.hands d c.index-hands-i.result c.loop-i-test.true c.loop-i.invariant.hands q
     ∙ ap (λ (o : Option (Slot g.row.V.Denot)). cond (among (writes_of pair) q) o None) (sym (left-more (written_by (take c.loop-i.i pairs) q) (slot_at c.loop-i.self q) (slot_at c.args.self.now q) (c.loop-i.invariant.left q)))
 
 pub loop-i-preserved : goal.loop-i-preserved
@@ -32,16 +37,23 @@ loop-i-preserved g c =
     let d : Pair = (record { ref_ptr = (0, 0); now = [] }, record { ref_ptr = (0, 0); now = [] }) in
     let pair = slice_index_or pairs i d in
     record {
-      long = c.loop-i.invariant.long ∙ sym (length-set c.loop-i.hands i c.move_out.new.hand);
+      long = c.loop-i.invariant.long ∙ sym (length-set c.loop-i.hands i c.forget_notes.new.self);
       left = λ q. left-or (written_by (take i pairs) q) (among (writes_of pair) q) (slot_at c.args.self.now q) (slot_at c.loop-i.self q) (slot_at c.move_out.new.self q) (c.loop-i.invariant.left q) (c.move_out.ensures.left q)
           ∙ ap (λ (b : Bool). cond b (emptied (slot_at c.args.self.now q)) (slot_at c.args.self.now q)) (sym (list_any_more (λ p. among (writes_of p) q) pairs i d c.loop-i-test.true));
-      hands = zip-more (HoldsWritten c.args.self.now) (HasRoom c.args.self.now) i pairs c.loop-i.hands d c.move_out.new.hand c.loop-i-test.true c.loop-i.invariant.hands
-          (λ q. held-now (written_by (take i pairs) q) (among (writes_of pair) q) (slot_at c.args.self.now q) (slot_at c.loop-i.self q) (slot_at c.move_out.new.hand q)
-          (λ w. written-before i pairs d q c.requires.apart c.loop-i-test.true w) (c.loop-i.invariant.left q) (c.move_out.ensures.hand q));
+      hands = zip-more (IsFilled c.args.self.now) (HasRoom c.args.self.now) i pairs c.loop-i.hands d c.forget_notes.new.self c.loop-i-test.true c.loop-i.invariant.hands (
+        λ q. (λ i. get same_id (c.forget_notes.ensures.slots i) q) ∙ held-now (written_by (take i pairs) q) (among (writes_of pair) q) (slot_at c.args.self.now q) (slot_at c.loop-i.self q) (slot_at c.move_out.new.hand q)
+            (λ w. written-before i pairs d q c.requires.apart c.loop-i-test.true w) (c.loop-i.invariant.left q) (c.move_out.ensures.hand q),
+        λ q. ap (λ (b : Bool). b && is_vacant (slot_at c.forget_notes.new.self q)) (c.forget_notes.ensures.noted q),
+      );
     }
 
 pub returns-clause-hands : goal.returns-clause-hands
-returns-clause-hands g c = zip-end (HoldsWritten c.args.self.now) (HasRoom c.args.self.now) c.loop-i.i c.args.pairs.now c.loop-i.hands (omega arith) c.loop-i.invariant.hands
+returns-clause-hands g c = zip-map (IsFilled c.args.self.now) (HoldsWritten c.args.self.now) c.args.pairs.now c.loop-i.hands (λ i d h below filled. filled.0)
+    (zip-end (IsFilled c.args.self.now) (HasRoom c.args.self.now) c.loop-i.i c.args.pairs.now c.loop-i.hands (omega arith) c.loop-i.invariant.hands)
+
+pub returns-clause-nothing_out : goal.returns-clause-nothing_out
+returns-clause-nothing_out g c = zip-second (IsFilled c.args.self.now) HasNothingOut c.args.pairs.now c.loop-i.hands (record { ref_ptr = (0, 0); now = [] }, record { ref_ptr = (0, 0); now = [] }) (λ p h filled. filled.1)
+    (zip-end (IsFilled c.args.self.now) (HasRoom c.args.self.now) c.loop-i.i c.args.pairs.now c.loop-i.hands (omega arith) c.loop-i.invariant.hands)
 
 pub returns-clause-left : goal.returns-clause-left
 returns-clause-left g c = λ q.

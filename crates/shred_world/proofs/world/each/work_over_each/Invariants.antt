@@ -1,10 +1,10 @@
 use Rattle.std.proofs.Common.{◌≡◌, length}
-use Rattle.shred_world.specs.Views.{lent_slot}
+use Rattle.shred_world.specs.Beside.{lent_behind}
 use Rattle.shred_world.proofs.Worked.{WorkedTo}
 use Rattle.shred_world.proofs.world.each.work_over_each.Given as goal
 
 abbrev pub invariant-loop-i : goal.invariant-loop-i
 invariant-loop-i g l = record {
-  long : length l.pairs ≡ length l.hands;
-  worked : WorkedTo g.V.ResourceValue.kind_of g.W.ViewWork.works (λ q. lent_slot l.shelf q) l.i l.pairs l.initial.hands l.initial.work l.hands l.work;
+  long : length l.behind.pairs.now ≡ length l.hands;
+  worked : WorkedTo g.V.ResourceValue.kind_of g.W.ViewWork.works (lent_behind l.behind) l.i l.behind.pairs.now l.initial.hands l.initial.work l.hands l.work;
 }

@@ -1,15 +1,92 @@
-use Rattle.std.proofs.Common.{◌&&◌, ◌||◌, ◌∙◌, ap}
-use Rattle.shred_world.specs.Slots.{slot_at, among, or_slot}
+use Rattle.std.proofs.Common.{◌≡◌, ◌&&◌, IsTrue, Bool, true, false, None, List, cond, refl, sym, subst, ◌∙◌, ap, get_or}
+use Rattle.std.specs.Prelude.{is_some}
+use Rattle.std.specs.List.{All, AllZip}
+use Rattle.shred_world.specs.declared.id.ResourceId.{ResourceId}
+use Rattle.shred_world.specs.Parts.{Pair, DoNotConflict, reads_of, writes_of, written_by, HoldsWritten, Fits, IsHandOf, IsJoined}
+use Rattle.shred_world.specs.Slots.{slot_at, slot_held, among, or_slot}
+use Rattle.shred_world.specs.Views.{lent_slot, may_read, may_write, view_slot}
+use Rattle.shred_world.specs.Worked.{IsWorkedEach}
+use Rattle.shred_world.proofs.Beside.{zip-map, written-none, shown-over, held-over, held-joined, same-behind, same-may_read, same-may_write, same-again}
+use Rattle.shred_world.proofs.Parted.{parted-hands, parted-fit}
 use Rattle.shred_world.proofs.Refusals.{hidden}
-use Rattle.shred_world.proofs.Worked.{worked-apart}
+use Rattle.shred_world.proofs.Worked.{worked-apart, each-slots, each-ids, each-given_back}
 use Rattle.shred_world.proofs.world.data.View.part_each.Goals as goal
+
+pub work_parted-requires-clause-reads_within : goal.work_parted-requires-clause-reads_within
+work_parted-requires-clause-reads_within g c =
+    subst (All (λ p. (q : ResourceId) → IsTrue (among (reads_of p) q) → IsTrue (may_read c.part.new.self q))) (sym c.in-Ok.ensures.pairs)
+    (λ i d below q reads. same-may_read c.args.self.now c.part.new.self c.in-Ok.ensures.loan q ∙ c.requires.reads_within i d below q reads)
+
+pub work_parted-requires-clause-writes_within : goal.work_parted-requires-clause-writes_within
+work_parted-requires-clause-writes_within g c =
+    subst (All (λ p. (q : ResourceId) → IsTrue (among (writes_of p) q) → IsTrue (may_write c.part.new.self q))) (sym c.in-Ok.ensures.pairs)
+    (λ i d below q writes. same-may_write c.args.self.now c.part.new.self c.in-Ok.ensures.loan q ∙ c.requires.writes_within i d below q writes)
+
+pub work_parted-requires-clause-hands : goal.work_parted-requires-clause-hands
+work_parted-requires-clause-hands g c =
+    subst (λ (ps : List Pair). AllZip (IsHandOf (view_slot c.part.new.self)) ps c.in-Ok.parts.hands.items) (sym c.in-Ok.ensures.pairs)
+    (parted-hands c.args.pairs.now c.args.self.now c.part.new.self c.in-Ok.parts.hands.items c.in-Ok.ensures.loan c.in-Ok.ensures.left c.requires.writes_within c.in-Ok.ensures.hands)
+
+pub join-requires-clause-out : goal.join-requires-clause-out
+join-requires-clause-out g c = λ q. c.in-Ok.ensures.out q
+    ∙ ap (λ (b : Bool). written_by c.args.pairs.now q && b) (sym (c.in-Ok.ensures.loan.slots q))
+    ∙ ap (λ (ps : List Pair). written_by ps q && is_some (slot_at c.part.new.self.own.now q)) (sym (c.work_parted.ensures.pairs ∙ c.in-Ok.ensures.pairs))
+
+pub join-requires-clause-apart : goal.join-requires-clause-apart
+join-requires-clause-apart g c = subst DoNotConflict (sym (c.work_parted.ensures.pairs ∙ c.in-Ok.ensures.pairs)) c.requires.apart
+
+pub join-requires-clause-given_back : goal.join-requires-clause-given_back
+join-requires-clause-given_back g c =
+    each-given_back g.V.ResourceValue.kind_of g.W.ViewWork.works (view_slot c.part.new.self) c.in-Ok.parts.pairs.now c.in-Ok.parts.hands.items c.args.work.now c.work_parted.new.parts.hands.items c.work_parted.new.work c.work_parted.ensures.worked
+
+pub join-requires-clause-fit : goal.join-requires-clause-fit
+join-requires-clause-fit g c =
+    let hands = c.in-Ok.parts.hands.items in
+    let left = c.work_parted.new.parts.hands.items in
+    subst (λ (ps : List Pair). AllZip (Fits c.part.new.self.own.now) ps left) (sym (c.work_parted.ensures.pairs ∙ c.in-Ok.ensures.pairs))
+    (parted-fit c.args.pairs.now c.args.self.now.own.now c.part.new.self.own.now hands left c.in-Ok.ensures.left c.in-Ok.ensures.hands
+    (each-slots g.V.ResourceValue.kind_of g.W.ViewWork.works (view_slot c.part.new.self) c.in-Ok.parts.pairs.now hands c.args.work.now left c.work_parted.new.work c.work_parted.ensures.worked))
+
+pub returns-clause-same : goal.returns-clause-same
+returns-clause-same g c = same-again c.args.self.now c.part.new.self c.join.new.lender c.in-Ok.ensures.loan c.join.ensures.loan c.requires.nothing_out c.join.ensures.nothing_out
 
 pub returns-clause-worked : goal.returns-clause-worked
 returns-clause-worked g c =
-    let old = c.args.self.now in
-    let new = c.part.new.self in
-    let parted = c.part.ensures.parted in
-    let same = c.part.ensures.same in
-    worked-apart g.V.ResourceValue.kind_of g.W.ViewWork.works parted.behind old new c.args.pairs.now parted.hands c.args.work.now.work parted.left c.part.new.work.work parted.shown parted.joined
-    (λ i d below q w. ap (or_slot (slot_at new.own.now q)) (hidden new q ((λ i. same.whole i || (among (same.writes i) q && among (same.owned i) q)) ∙ c.requires.writes_within i d below q w)))
-    parted.works
+    let kind = g.V.ResourceValue.kind_of in
+    let works = g.W.ViewWork.works in
+    let pairs = c.args.pairs.now in
+    let was = c.args.self.now in
+    let now = c.part.new.self in
+    let new = c.join.new.lender in
+    let hands = c.in-Ok.parts.hands.items in
+    let left = c.work_parted.new.parts.hands.items in
+    worked-apart kind works (view_slot now) (view_slot was) (view_slot new) new.own.now pairs hands c.args.work.now left c.work_parted.new.work
+    (zip-map (HoldsWritten was.own.now) _ pairs hands
+    (λ i d h below holds q declared. shown-over (among (writes_of (get_or pairs i d)) q) (written_by pairs q) (among now.owned.now q) (slot_at was.own.now q) (slot_at now.own.now q) (slot_at h q) (lent_slot now.shelf.now q)
+    (holds q) (c.in-Ok.ensures.left q) (λ w. same-behind was now c.in-Ok.ensures.loan q ∙ hidden was q (c.requires.writes_within i d below q w)) (λ out. written-none i pairs d q c.requires.apart below declared out)
+    ∙ ap (or_slot (slot_at was.own.now q)) (same-behind was now c.in-Ok.ensures.loan q))
+    c.in-Ok.ensures.hands)
+    (subst (λ (ps : List Pair). AllZip (IsJoined new.own.now) ps left) (c.work_parted.ensures.pairs ∙ c.in-Ok.ensures.pairs) c.join.ensures.joined)
+    (λ i d below q w. ap (or_slot (slot_at new.own.now q)) (same-behind now new c.join.ensures.loan q ∙ same-behind was now c.in-Ok.ensures.loan q ∙ hidden was q (c.requires.writes_within i d below q w)))
+    (subst (λ (ps : List Pair). IsWorkedEach kind works (view_slot now) ps hands c.args.work.now left c.work_parted.new.work) c.in-Ok.ensures.pairs c.work_parted.ensures.worked)
+
+pub returns-clause-ids : goal.returns-clause-ids
+returns-clause-ids g c = λ q.
+    let kind = g.V.ResourceValue.kind_of in
+    let pairs = c.args.pairs.now in
+    let was = c.args.self.now in
+    let now = c.part.new.self in
+    let new = c.join.new.lender in
+    let hands = c.in-Ok.parts.hands.items in
+    let left = c.work_parted.new.parts.hands.items in
+    let same = c.work_parted.ensures.pairs ∙ c.in-Ok.ensures.pairs in
+    let slots : is_some (slot_at new.own.now q) ≡ is_some (slot_at was.own.now q) = c.join.ensures.loan.slots q ∙ c.in-Ok.ensures.loan.slots q in
+    let ids = subst (λ (ps : List Pair). AllZip (IsJoined new.own.now) ps left) same c.join.ensures.joined in
+    let at : (b : Bool) → written_by pairs q ≡ b → is_some (slot_held kind q (slot_at new.own.now q)) ≡ is_some (slot_held kind q (slot_at was.own.now q)) = λ b.
+    elim b as (λ b. written_by pairs q ≡ b → is_some (slot_held kind q (slot_at new.own.now q)) ≡ is_some (slot_held kind q (slot_at was.own.now q))) [
+      | true ↦ λ w. held-joined kind was.own.now new.own.now pairs hands left q c.in-Ok.ensures.hands
+          (each-ids kind g.W.ViewWork.works (view_slot now) c.in-Ok.parts.pairs.now hands c.args.work.now left c.work_parted.new.work c.work_parted.ensures.worked) ids w
+      | false ↦ λ w. ap (λ o. is_some (slot_held kind q o)) (c.join.ensures.rest q (ap (λ (ps : List Pair). written_by ps q) same ∙ w) ∙ c.in-Ok.ensures.left q ∙ rw w refl)
+    ] in
+    ap (λ o. is_some (slot_held kind q (or_slot (slot_at new.own.now q) o))) (same-behind now new c.join.ensures.loan q ∙ same-behind was now c.in-Ok.ensures.loan q)
+    ∙ held-over kind q (slot_at new.own.now q) (slot_at was.own.now q) _ slots (at (written_by pairs q) refl)

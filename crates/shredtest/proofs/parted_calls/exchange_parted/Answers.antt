@@ -1,0 +1,69 @@
+use Rattle.std.proofs.Common.{◌≡◌, IsTrue, List, length, subst, sym, ◌∙◌, ◌&&◌, ap, arith}
+use Rattle.std.specs.Prelude.{is_some}
+use Rattle.std.specs.List.{All, AllZip}
+use Rattle.shred_world.specs.declared.id.ResourceId.{ResourceId}
+use Rattle.shred_world.specs.declared.table.Table.{Table}
+use Rattle.shred_world.specs.Beside.{lent_behind}
+use Rattle.shred_world.specs.Parts.{Pair, DoNotConflict, HasNothingOut, HoldsWritten, Fits, IsHandOf, reads_of, writes_of, written_by}
+use Rattle.shred_world.specs.Shown.{Lent, IsSameSlots}
+use Rattle.shred_world.specs.Slots.{slot_at, among}
+use Rattle.shred_world.specs.Views.{may_read, may_write, view_slot}
+use Rattle.shred_world.proofs.Beside.{same-may_read, same-may_write, same-again}
+use Rattle.shred_world.proofs.Pairs.{zip-length, written-over}
+use Rattle.shred_world.proofs.Parted.{parted-hands, parted-fit}
+use Rattle.shredtest.specs.declared.values.Value.{Value}
+use Rattle.shredtest.proofs.parted_calls.exchange_parted.Goals as goal
+
+pub behind-behind-requires : goal.behind-behind-requires
+behind-behind-requires c =
+    let reads = subst (All (λ p. (q : ResourceId) → IsTrue (among (reads_of p) q) → IsTrue (may_read c.part.new.self q))) (sym c.in-Ok.ensures.pairs)
+    (λ i d below q reads. same-may_read c.args.view.now c.part.new.self c.in-Ok.ensures.loan q ∙ c.requires.reads_within i d below q reads) in
+    let writes = subst (All (λ p. (q : ResourceId) → IsTrue (among (writes_of p) q) → IsTrue (may_write c.part.new.self q))) (sym c.in-Ok.ensures.pairs)
+    (λ i d below q writes. same-may_write c.args.view.now c.part.new.self c.in-Ok.ensures.loan q ∙ c.requires.writes_within i d below q writes) in
+    (omega arith, (reads, writes))
+
+pub exchange_in_hands-exchanged-requires-clause-two : goal.exchange_in_hands-exchanged-requires-clause-two
+exchange_in_hands-exchanged-requires-clause-two c =
+    ap length c.as_mut_slice.ensures.value ∙ sym (zip-length (HoldsWritten c.args.view.now.own.now) c.args.pairs.now c.in-Ok.parts.hands.items c.in-Ok.ensures.hands) ∙ c.requires.two
+
+pub exchange_in_hands-exchanged-requires-clause-parts : goal.exchange_in_hands-exchanged-requires-clause-parts
+exchange_in_hands-exchanged-requires-clause-parts c = ap length (c.behind-behind.ensures.pairs ∙ c.in-Ok.ensures.pairs) ∙ c.requires.two
+
+pub exchange_in_hands-exchanged-requires-clause-hands : goal.exchange_in_hands-exchanged-requires-clause-hands
+exchange_in_hands-exchanged-requires-clause-hands c =
+    let now = c.part.new.self in
+    let given : AllZip (IsHandOf (view_slot now)) c.args.pairs.now c.in-Ok.parts.hands.items =
+    parted-hands c.args.pairs.now c.args.view.now now c.in-Ok.parts.hands.items c.in-Ok.ensures.loan c.in-Ok.ensures.left c.requires.writes_within c.in-Ok.ensures.hands in
+    let over : AllZip (IsHandOf (lent_behind c.behind-behind.result)) c.args.pairs.now c.in-Ok.parts.hands.items =
+    subst (λ (behind : Lent Value). AllZip (IsHandOf behind) c.args.pairs.now c.in-Ok.parts.hands.items) (λ i q. sym (c.behind-behind.ensures.shelf q) i) given in
+    subst (λ (hs : List (Table Value)). AllZip (IsHandOf (lent_behind c.behind-behind.result)) c.behind-behind.result.pairs.now hs) (sym c.as_mut_slice.ensures.value)
+    (subst (λ (ps : List Pair). AllZip (IsHandOf (lent_behind c.behind-behind.result)) ps c.in-Ok.parts.hands.items) (sym (c.behind-behind.ensures.pairs ∙ c.in-Ok.ensures.pairs)) over)
+
+pub join-requires-clause-out : goal.join-requires-clause-out
+join-requires-clause-out c = λ q. c.in-Ok.ensures.out q
+    ∙ ap (λ b. written_by c.args.pairs.now q && b) (sym (c.in-Ok.ensures.loan.slots q))
+    ∙ ap (λ (ps : List Pair). written_by ps q && is_some (slot_at c.part.new.self.own.now q)) (sym c.in-Ok.ensures.pairs)
+
+pub join-requires-clause-apart : goal.join-requires-clause-apart
+join-requires-clause-apart c = subst DoNotConflict (sym c.in-Ok.ensures.pairs) c.requires.apart
+
+pub join-requires-clause-given_back : goal.join-requires-clause-given_back
+join-requires-clause-given_back c =
+    let was = c.in-Ok.parts.hands.items in
+    let now = c.exchange_in_hands-exchanged.new.hands in
+    let slots : AllZip IsSameSlots was now = subst (λ (hs : List (Table Value)). AllZip IsSameSlots hs now) c.as_mut_slice.ensures.value c.exchange_in_hands-exchanged.ensures.slots in
+    subst (All HasNothingOut) (sym (written-over c.in-Ok.parts.hands.len was now (sym c.as_mut_slice.ensures.len ∙ ap length c.as_mut_slice.ensures.value) (sym (zip-length IsSameSlots was now slots))))
+    c.exchange_in_hands-exchanged.ensures.given_back
+
+pub join-requires-clause-fit : goal.join-requires-clause-fit
+join-requires-clause-fit c =
+    let left = c.part.new.self.own.now in
+    let was = c.in-Ok.parts.hands.items in
+    let now = c.exchange_in_hands-exchanged.new.hands in
+    let slots : AllZip IsSameSlots was now = subst (λ (hs : List (Table Value)). AllZip IsSameSlots hs now) c.as_mut_slice.ensures.value c.exchange_in_hands-exchanged.ensures.slots in
+    let fit : AllZip (Fits left) c.args.pairs.now now = parted-fit c.args.pairs.now c.args.view.now.own.now left was now c.in-Ok.ensures.left c.in-Ok.ensures.hands slots in
+    subst (AllZip (Fits left) c.in-Ok.parts.pairs.now) (sym (written-over c.in-Ok.parts.hands.len was now (sym c.as_mut_slice.ensures.len ∙ ap length c.as_mut_slice.ensures.value) (sym (zip-length IsSameSlots was now slots))))
+    (subst (λ (ps : List Pair). AllZip (Fits left) ps now) (sym c.in-Ok.ensures.pairs) fit)
+
+pub returns : goal.returns
+returns c = same-again c.args.view.now c.part.new.self c.join.new.lender c.in-Ok.ensures.loan c.join.ensures.loan c.requires.nothing_out c.join.ensures.nothing_out

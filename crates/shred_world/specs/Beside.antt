@@ -15,6 +15,10 @@ use Rattle.shred_world.specs.Views.{lent_slot}
 abbrev pub pairs_of : {V : Type 0} → Parts V → List Pair
 pairs_of parts = parts.pairs.now
 
+-- the name of the table behind the view that was parted
+abbrev pub lender_of : {V : Type 0} → Parts V → ℕ
+lender_of parts = parts.lender.value.ghost_name
+
 -- the same, beside what lies behind the hands
 abbrev pub pairs_behind : {V : Type 0} → Behind V → List Pair
 pairs_behind behind = behind.pairs.now

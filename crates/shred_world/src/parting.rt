@@ -9,8 +9,8 @@ use crate::id::ResourceId;
 use crate::table::Table;
 use std::alloc::Global;
 
-/// A hand without slots, for `Table::make_room`. It takes no memory. The dispatcher makes such hands; whoever parts a view
-/// is given them.
+/// A hand without slots, for `Table::make_room`. It takes no memory. The dispatcher makes such hands; `View::part` makes
+/// its own.
 pub fn empty_hand<V>(alloc: Global) -> Table<V>
     ensures { (id : ResourceId) → slot_at result id ≡ None }
 {

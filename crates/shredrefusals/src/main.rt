@@ -6,6 +6,7 @@
 
 mod bundles;
 mod entries;
+mod parts;
 
 use std::alloc::Global;
 use std::io::Write;
@@ -43,13 +44,14 @@ impl Ended {
     }
 }
 
-fn cases(alloc: Global) -> [(&'static str, Ended); 5] {
+fn cases(alloc: Global) -> [(&'static str, Ended); 6] {
     [
         ("exec", bundles::exec(alloc)),
         ("tuple", bundles::tuple(alloc)),
         ("lists", bundles::lists(alloc)),
         ("insert", entries::insert(alloc)),
         ("entry", entries::entry(alloc)),
+        ("part", parts::part(alloc)),
     ]
 }
 

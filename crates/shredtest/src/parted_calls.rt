@@ -12,25 +12,27 @@ ghost use Rattle.shredtest.specs.Adding.{HasTurnedOften};
 
 use crate::adding::Adding;
 use crate::values::{Count, Value};
-use shred::{Behind, OutOfMemory, ResourceId, Table, View, World};
+use shred::{Behind, DataError, OutOfMemory, ResourceId, Table, View, World};
 use std::alloc::Global;
 
-// Exchanges the counts that two views may write, if both are held.
-fn exchange(
-    one: &mut View<Value>,
+// The ids of two counts.
+#[derive(Clone, Copy)]
+struct TwoCounts {
     first: ResourceId,
-    two: &mut View<Value>,
     second: ResourceId,
-) -> bool
+}
+
+// Exchanges the counts that two views may write, if both are held.
+fn exchange(one: &mut View<Value>, two: &mut View<Value>, ids: TwoCounts) -> bool
     ensures one { IsSameView one.old one.new }
     ensures two { IsSameView two.old two.new }
     ensures first_table { table_of one.new ≡ table_of one.old }
     ensures second_table { table_of two.new ≡ table_of two.old }
 {
-    let Ok(here) = one.write::<Count>(first) else {
+    let Ok(here) = one.write::<Count>(ids.first) else {
         return false;
     };
-    let Ok(there) = two.write::<Count>(second) else {
+    let Ok(there) = two.write::<Count>(ids.second) else {
         return false;
     };
     let was = here.0;
@@ -43,9 +45,8 @@ fn exchange(
 fn exchange_beside(
     behind: &Behind<Value>,
     one: &mut Table<Value>,
-    first: ResourceId,
     two: &mut Table<Value>,
-    second: ResourceId,
+    ids: TwoCounts,
 ) -> bool
     requires two { length (pairs_behind behind.now) ≡ 2 }
     requires front { IsHandOf (lent_behind behind.now) (pair_behind behind.now 0) one.old }
@@ -57,16 +58,11 @@ fn exchange_beside(
 {
     let mut front = behind.view(0, one);
     let mut back = behind.view(1, two);
-    exchange(&mut front, first, &mut back, second)
+    exchange(&mut front, &mut back, ids)
 }
 
 // The same over the two hands of parts.
-fn exchange_in_hands(
-    behind: &Behind<Value>,
-    hands: &mut [Table<Value>],
-    first: ResourceId,
-    second: ResourceId,
-) -> bool
+fn exchange_in_hands(behind: &Behind<Value>, hands: &mut [Table<Value>], ids: TwoCounts) -> bool
     requires parts { length (pairs_behind behind.now) ≡ 2 }
     requires two { length hands.old ≡ 2 }
     requires hands { AllZip (IsHandOf (lent_behind behind.now)) (pairs_behind behind.now) hands.old }
@@ -74,16 +70,22 @@ fn exchange_in_hands(
     ensures given_back { All HasNothingOut hands.new }
 {
     let (front, back) = hands.split_at_mut(1);
-    exchange_beside(behind, &mut front[0], first, &mut back[0], second)
+    exchange_beside(behind, &mut front[0], &mut back[0], ids)
 }
 
-// Parts the view in two, exchanges two counts over the views of the parts, and joins them.
+// Whether the two counts are out of the view.
+fn are_taken(view: &View<Value>, ids: TwoCounts) -> bool {
+    view.read::<Count>(ids.first).copied() == Err(DataError::Taken(ids.first))
+        && view.read::<Count>(ids.second).copied() == Err(DataError::Taken(ids.second))
+}
+
+// Parts the view in two, exchanges two counts over the views of the parts, and joins them. Meanwhile the two are out of
+// the view, if it has slots for them.
 fn exchange_parted(
     alloc: Global,
     view: &mut View<Value>,
     pairs: &[(&[ResourceId], &[ResourceId])],
-    first: ResourceId,
-    second: ResourceId,
+    ids: TwoCounts,
 ) -> Result<bool, OutOfMemory>
     requires nothing_out { (id : ResourceId) → is_out view.old id ≡ false }
     requires reads_within { All (λ p. (id : ResourceId) → IsTrue (among (reads_of p) id) → IsTrue (may_read view.old id)) pairs.now }
@@ -97,9 +99,10 @@ fn exchange_parted(
         Err(error) => return Err(error),
     };
     let behind = parts.behind(view);
-    let exchanged = exchange_in_hands(&behind, parts.hands.as_mut_slice(), first, second);
+    let exchanged = exchange_in_hands(&behind, parts.hands.as_mut_slice(), ids);
+    let taken = are_taken(view, ids);
     parts.join(view);
-    Ok(exchanged)
+    Ok(exchanged & taken)
 }
 
 /// Exchanges two counts of the world, each written by a part of its own.
@@ -116,7 +119,7 @@ pub fn exchange_over_parts(
     let pairs: [(&[ResourceId], &[ResourceId]); 2] = [(&[], &one), (&[], &two)];
     let both = [first, second];
     let mut view = world.lend(&[], &both);
-    exchange_parted(alloc, &mut view, &pairs, first, second)
+    exchange_parted(alloc, &mut view, &pairs, TwoCounts { first, second })
 }
 
 // Works over the parts of the view that is narrowed to these lists.

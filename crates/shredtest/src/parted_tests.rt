@@ -116,13 +116,16 @@ fn no_parts_leave_all_as_it_was(rt: HostRuntime) -> Result<(), Fail> {
     Ok(())
 }
 
+// Exchanges the counts under numbers 1 and 2.
+fn exchanged(rt: &HostRuntime, world: &mut World<Value>) -> Result<bool, Fail> {
+    let answer = exchange_over_parts(rt.alloc(), world, number(1), number(2));
+    Ok(answer.map_err(|_| "memory")?)
+}
+
 #[test]
 fn views_of_two_parts_are_there_at_the_same_time(rt: HostRuntime) -> Result<(), Fail> {
     let mut world = world_of(&rt, &[(0, 10), (1, 1), (2, 2)])?;
-    let exchanged = exchange_over_parts(rt.alloc(), &mut world, number(1), number(2)).map_err(
-        |_| "memory",
-    )?;
-    assert!(rt; exchanged);
+    assert!(rt; exchanged(&rt, &mut world)?);
     assert_eq!(rt; count_at(&world, 0), Some(10));
     assert_eq!(rt; count_at(&world, 1), Some(2));
     assert_eq!(rt; count_at(&world, 2), Some(1));
@@ -131,11 +134,8 @@ fn views_of_two_parts_are_there_at_the_same_time(rt: HostRuntime) -> Result<(), 
 
 #[test]
 fn a_value_that_the_other_part_lacks_is_not_exchanged(rt: HostRuntime) -> Result<(), Fail> {
-    let mut world = world_of(&rt, &[(1, 1)])?;
-    let exchanged = exchange_over_parts(rt.alloc(), &mut world, number(1), number(2)).map_err(
-        |_| "memory",
-    )?;
-    assert!(rt; !exchanged);
+    let mut world = world_of(&rt, &[(0, 10), (1, 1)])?;
+    assert!(rt; !exchanged(&rt, &mut world)?);
     assert_eq!(rt; count_at(&world, 1), Some(1));
     assert_eq!(rt; count_at(&world, 2), None);
     Ok(())

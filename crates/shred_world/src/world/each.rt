@@ -2,11 +2,11 @@
 ghost use Rattle.std.specs.Prelude.{◌≡◌, ◌<◌, IsTrue, OnErr, OnOk, false, is_some, length};
 ghost use Rattle.std.specs.List.{All, AllZip};
 ghost use Rattle.shred_world.specs.declared.id.ResourceId.{ResourceId};
-ghost use Rattle.shred_world.specs.Beside.{pairs_of, pairs_behind, pair_behind, lent_behind};
+ghost use Rattle.shred_world.specs.Beside.{lender_of, pairs_of, pairs_behind, pair_behind, lent_behind};
 ghost use Rattle.shred_world.specs.Parts.{DoNotConflict, reads_of, writes_of, HasNothingOut, HoldsSameIds, IsHandOf};
 ghost use Rattle.shred_world.specs.Shown.{IsSameSlots};
 ghost use Rattle.shred_world.specs.Slots.{among};
-ghost use Rattle.shred_world.specs.Views.{may_read, may_write, is_out, view_slot, view_held, IsSameView};
+ghost use Rattle.shred_world.specs.Views.{may_read, may_write, is_out, table_of, view_slot, view_held, IsSameView};
 ghost use Rattle.shred_world.specs.Worked.{part_held, KeepsUnwritten, IsWorkedEach, IsWorked, KeepsRest, KeepsHeldIds};
 
 use crate::accessor::OutOfMemory;
@@ -100,10 +100,12 @@ impl<'s, 'a, V: ResourceValue + Drop> View<'s, 'a, V> {
 
     // Works over the hands of parts, and over what lies behind them: what the view shows now.
     fn work_parted<W: ViewWork<V>>(&self, parts: &mut Parts<V>, work: &mut W)
+        requires lender { table_of self.now ≡ lender_of parts.old }
         requires reads_within { All (λ p. (id : ResourceId) → IsTrue (among (reads_of p) id) → IsTrue (may_read self.now id)) (pairs_of parts.old) }
         requires writes_within { All (λ p. (id : ResourceId) → IsTrue (among (writes_of p) id) → IsTrue (may_write self.now id)) (pairs_of parts.old) }
         requires hands { AllZip (IsHandOf (view_slot self.now)) (pairs_of parts.old) parts.old.hands.items }
         ensures worked { IsWorkedEach V.kind_of W.works (view_slot self.now) (pairs_of parts.old) parts.old.hands.items work.old parts.new.hands.items work.new }
+        ensures lender { lender_of parts.new ≡ lender_of parts.old }
         ensures pairs { pairs_of parts.new ≡ pairs_of parts.old }
     {
         let behind = parts.behind(self);

@@ -5,8 +5,8 @@ ghost use Rattle.shred_world.specs.declared.id.ResourceId.{ResourceId};
 ghost use Rattle.shred_world.specs.Parting.{emptied};
 ghost use Rattle.shred_world.specs.Parts.{DoNotConflict, reads_of, writes_of, written_by, HasNothingOut, HasRoom, HoldsWritten, Fits, IsHandOf, IsJoined};
 ghost use Rattle.shred_world.specs.Slots.{slot_at, noted_in, among, or_slot};
-ghost use Rattle.shred_world.specs.Views.{may_read, may_write, is_out, owned_ids, shelf_slot, shelves_of, lent_slot, view_slot, table_in, IsSameLoan};
-ghost use Rattle.shred_world.specs.Beside.{pairs_of, pairs_behind, pair_behind, lent_behind, shelf_behind};
+ghost use Rattle.shred_world.specs.Views.{may_read, may_write, is_out, owned_ids, shelf_slot, shelves_of, table_of, lent_slot, view_slot, table_in, IsSameLoan};
+ghost use Rattle.shred_world.specs.Beside.{pairs_of, lender_of, pairs_behind, pair_behind, lent_behind, shelf_behind};
 ghost use Rattle.shred_world.specs.OwnViews.{IsLent};
 
 use crate::accessor::OutOfMemory;
@@ -16,6 +16,7 @@ use crate::table::Table;
 use crate::world::data::{Shelf, View};
 use crate::world::tuples::joined;
 use std::alloc::Global;
+use std::snapshot::Snapshot;
 
 // The ids that the pairs write.
 fn written_ids(
@@ -138,8 +139,9 @@ pub(crate) fn shelf_before<'b, V>(
 
 /// The parts of a view: for each pair of lists a hand, with the values that the pair writes. They cannot be dropped, and
 /// must be joined.
-pub struct Parts<'p, V> {
+pub struct Parts<'p, 'a, V> {
     pub(crate) pairs: &'p [(&'p [ResourceId], &'p [ResourceId])],
+    pub(crate) lender: Snapshot<&'a mut Table<V>>,
     /// The hands, in the order of the pairs.
     pub hands: Vec<Table<V>>,
 }
@@ -151,12 +153,13 @@ impl<'s, 'a, V: ResourceValue + Drop> View<'s, 'a, V> {
         &mut self,
         alloc: Global,
         pairs: &'p [(&'p [ResourceId], &'p [ResourceId])],
-    ) -> Result<Parts<'p, V>, OutOfMemory>
+    ) -> Result<Parts<'p, 'a, V>, OutOfMemory>
         requires nothing_out { (id : ResourceId) → is_out self.old id ≡ false }
         requires reads_within { All (λ p. (id : ResourceId) → IsTrue (among (reads_of p) id) → IsTrue (may_read self.old id)) pairs.now }
         requires writes_within { All (λ p. (id : ResourceId) → IsTrue (among (writes_of p) id) → IsTrue (may_write self.old id)) pairs.now }
         requires apart { DoNotConflict pairs.now }
         ensures loan { IsSameLoan self.old self.new }
+        ensures lender { IfOk result (λ parts. lender_of parts ≡ table_of self.new) }
         ensures pairs { IfOk result (λ parts. pairs_of parts ≡ pairs.now) }
         ensures hands { IfOk result (λ parts. AllZip (HoldsWritten (table_in self.old)) pairs.now parts.hands.items) }
         ensures nothing_out { IfOk result (λ parts. All HasNothingOut parts.hands.items) }
@@ -175,13 +178,19 @@ impl<'s, 'a, V: ResourceValue + Drop> View<'s, 'a, V> {
         };
         self.own.move_all_out(pairs, hands.as_mut_slice());
         self.own.note_all(written);
-        Ok(Parts { pairs, hands })
+        let lender = Snapshot::of(&self.own);
+        Ok(Parts {
+            pairs,
+            lender,
+            hands,
+        })
     }
 }
 
-impl<'p, V: Drop> Parts<'p, V> {
+impl<'p, 'a, V: Drop> Parts<'p, 'a, V> {
     /// What lies behind the hands, for views of the parts.
     pub fn behind<'b>(&self, lender: &'b View<V>) -> Behind<'p, 'b, V>
+        requires lender { table_of lender.now ≡ lender_of self.now }
         requires reads_within { All (λ p. (id : ResourceId) → IsTrue (among (reads_of p) id) → IsTrue (may_read lender.now id)) (pairs_of self.now) }
         requires writes_within { All (λ p. (id : ResourceId) → IsTrue (among (writes_of p) id) → IsTrue (may_write lender.now id)) (pairs_of self.now) }
         ensures pairs { pairs_behind result ≡ pairs_of self.now }
@@ -195,6 +204,7 @@ impl<'p, V: Drop> Parts<'p, V> {
 
     /// Moves each value back into the slot of its id in the view that was parted, which it left empty.
     pub fn join(self, lender: &mut View<V>)
+        requires lender { table_of lender.old ≡ lender_of self }
         requires out { (id : ResourceId) → is_out lender.old id ≡ (written_by (pairs_of self) id && is_some (slot_at (table_in lender.old) id)) }
         requires given_back { All HasNothingOut self.hands.items }
         requires apart { DoNotConflict (pairs_of self) }
@@ -204,7 +214,11 @@ impl<'p, V: Drop> Parts<'p, V> {
         ensures rest { (q : ResourceId) → written_by (pairs_of self.entry) q ≡ false → slot_at (table_in lender.new) q ≡ slot_at (table_in lender.old) q }
         ensures nothing_out { (q : ResourceId) → is_out lender.new q ≡ false }
     {
-        let Parts { pairs, mut hands } = self;
+        let Parts {
+            pairs,
+            lender: _,
+            mut hands,
+        } = self;
         lender.own.move_all_back(pairs, hands.as_mut_slice());
     }
 }

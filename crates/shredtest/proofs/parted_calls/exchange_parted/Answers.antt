@@ -20,7 +20,7 @@ behind-behind-requires c =
     (λ i d below q reads. same-may_read c.args.view.now c.part.new.self c.in-Ok.ensures.loan q ∙ c.requires.reads_within i d below q reads) in
     let writes = subst (All (λ p. (q : ResourceId) → IsTrue (among (writes_of p) q) → IsTrue (may_write c.part.new.self q))) (sym c.in-Ok.ensures.pairs)
     (λ i d below q writes. same-may_write c.args.view.now c.part.new.self c.in-Ok.ensures.loan q ∙ c.requires.writes_within i d below q writes) in
-    (omega arith, (reads, writes))
+    (omega arith, (sym c.in-Ok.ensures.lender, (reads, writes)))
 
 pub exchange_in_hands-exchanged-requires-clause-two : goal.exchange_in_hands-exchanged-requires-clause-two
 exchange_in_hands-exchanged-requires-clause-two c =
@@ -38,6 +38,9 @@ exchange_in_hands-exchanged-requires-clause-hands c =
     subst (λ (behind : Lent Value). AllZip (IsHandOf behind) c.args.pairs.now c.in-Ok.parts.hands.items) (λ i q. sym (c.behind-behind.ensures.shelf q) i) given in
     subst (λ (hs : List (Table Value)). AllZip (IsHandOf (lent_behind c.behind-behind.result)) c.behind-behind.result.pairs.now hs) (sym c.as_mut_slice.ensures.value)
     (subst (λ (ps : List Pair). AllZip (IsHandOf (lent_behind c.behind-behind.result)) ps c.in-Ok.parts.hands.items) (sym (c.behind-behind.ensures.pairs ∙ c.in-Ok.ensures.pairs)) over)
+
+pub join-requires-clause-lender : goal.join-requires-clause-lender
+join-requires-clause-lender c = sym c.in-Ok.ensures.lender
 
 pub join-requires-clause-out : goal.join-requires-clause-out
 join-requires-clause-out c = λ q. c.in-Ok.ensures.out q

@@ -27,6 +27,12 @@ work_parted-requires-clause-hands g c =
     subst (λ (ps : List Pair). AllZip (IsHandOf (view_slot c.part.new.self)) ps c.in-Ok.parts.hands.items) (sym c.in-Ok.ensures.pairs)
     (parted-hands c.args.pairs.now c.args.self.now c.part.new.self c.in-Ok.parts.hands.items c.in-Ok.ensures.loan c.in-Ok.ensures.left c.requires.writes_within c.in-Ok.ensures.hands)
 
+pub work_parted-requires-clause-lender : goal.work_parted-requires-clause-lender
+work_parted-requires-clause-lender g c = sym c.in-Ok.ensures.lender
+
+pub join-requires-clause-lender : goal.join-requires-clause-lender
+join-requires-clause-lender g c = sym (c.work_parted.ensures.lender ∙ c.in-Ok.ensures.lender)
+
 pub join-requires-clause-out : goal.join-requires-clause-out
 join-requires-clause-out g c = λ q. c.in-Ok.ensures.out q
     ∙ ap (λ (b : Bool). written_by c.args.pairs.now q && b) (sym (c.in-Ok.ensures.loan.slots q))

@@ -11,7 +11,7 @@ use Rattle.shred_world.specs.declared.world.data.View.{View}
 use Rattle.shred_world.specs.Views.{lent_slot, is_out, is_whole, may_read, may_write, IsSameLoan, IsSameView}
 use Rattle.shred_world.specs.Slots.{slot_at, slot_held, held, among, or_slot}
 use Rattle.shred_world.specs.Parting.{emptied}
-use Rattle.shred_world.specs.Parts.{Pair, writes_of, declares, AreBeside, DoNotConflict, written_by, HoldsWritten, HoldsSameIds, IsJoined}
+use Rattle.shred_world.specs.Parts.{Pair, writes_of, declares, AreBeside, DoNotConflict, written_by, HoldsWritten, HoldsSameIds, HoldsIdsOf, IsJoined}
 
 -- from each pair with its hand to what holds of them
 pub zip-map : {A B : Type 0} (Q R : A → B → Type 0) (xs : List A) (ys : List B) → ((i : ℕ) (d : A) (y : B) → i < length xs → Q (get_or xs i d) y → R (get_or xs i d) y) → AllZip Q xs ys → AllZip R xs ys
@@ -21,14 +21,14 @@ zip-map Q R (x ∷ xs) [] f zip = absurd zip
 zip-map Q R (x ∷ xs) (y ∷ ys) f zip = (f 0 x y (omega arith) zip.0, zip-map Q R xs ys (λ i d z h. f (suc i) d z (omega arith)) zip.1)
 
 -- what holds of each pair with its hand, by what holds of the pair with the hand before
-pub zip-through : {A B C : Type 0} (Q : A → B → Type 0) (P : A → B → Type 0) (S : B → C → Type 0) (R : A → C → Type 0) (xs : List A) (ys : List B) (zs : List C)
-    → ((x : A) (y : B) (z : C) → Q x y → P x y → S y z → R x z) → AllZip Q xs ys → AllZip P xs ys → AllZip S ys zs → AllZip R xs zs
-zip-through Q P S R [] [] [] f one two three = tt
-zip-through Q P S R [] [] (z ∷ zs) f one two three = absurd three
-zip-through Q P S R [] (y ∷ ys) zs f one two three = absurd one
-zip-through Q P S R (x ∷ xs) [] zs f one two three = absurd one
-zip-through Q P S R (x ∷ xs) (y ∷ ys) [] f one two three = absurd three
-zip-through Q P S R (x ∷ xs) (y ∷ ys) (z ∷ zs) f one two three = (f x y z one.0 two.0 three.0, zip-through Q P S R xs ys zs f one.1 two.1 three.1)
+pub zip-through : {A B C : Type 0} (Q : A → B → Type 0) (S : B → C → Type 0) (R : A → C → Type 0) (xs : List A) (ys : List B) (zs : List C)
+    → ((x : A) (y : B) (z : C) → Q x y → S y z → R x z) → AllZip Q xs ys → AllZip S ys zs → AllZip R xs zs
+zip-through Q S R [] [] [] f one two = tt
+zip-through Q S R [] [] (z ∷ zs) f one two = absurd two
+zip-through Q S R [] (y ∷ ys) zs f one two = absurd one
+zip-through Q S R (x ∷ xs) [] zs f one two = absurd one
+zip-through Q S R (x ∷ xs) (y ∷ ys) [] f one two = absurd two
+zip-through Q S R (x ∷ xs) (y ∷ ys) (z ∷ zs) f one two = (f x y z one.0 two.0, zip-through Q S R xs ys zs f one.1 two.1)
 
 never : (b : Bool) → (b ≡ true → ⊥) → b ≡ false
 never true n = absurd (n refl)
@@ -49,10 +49,6 @@ written-none (suc i) (p ∷ ps) d q apart h w out =
     let beside = apart 0 (suc i) d (omega arith) (omega arith) in
     or_none (among (writes_of p) q) _ (never (among (writes_of p) q) (λ u. let e = beside.0 q u in cc)) (written-none i ps d q (AllPairs-tail AreBeside p ps apart) (omega arith) w out)
 
-pub second : (a b : Bool) → (a && b) ≡ true → b ≡ true
-second true b h = h
-second false b h = absurd (cc)
-
 module _ {V : Type 0} where
   -- over its hand and what lies behind, a part shows what the view showed
   pub shown-over : (b a o : Bool) (t s h l : Option (Slot V)) → h ≡ cond b t None → s ≡ cond a (emptied t) t → (b ≡ true → cond o None l ≡ None) → (b ≡ false → a ≡ false)
@@ -68,12 +64,6 @@ module _ {V : Type 0} where
   pub fit-over : (b a : Bool) (t s h : Option (Slot V)) → h ≡ cond b t None → s ≡ cond a (emptied t) t → is_some h ≡ (b && is_some s)
   fit-over true a t s h held left = ap is_some held ∙ sym (left-slots a t s left)
   fit-over false a t s h held left = ap is_some held
-
-  -- an emptied hand has room again
-  pub room-again : (b : Bool) (u t h n : Option (Slot V)) → (b ≡ true → u ≡ h) → is_some h ≡ (b && is_some t) → n ≡ emptied h → n ≡ cond b (emptied u) None
-  room-again true u t h n joined fit is = is ∙ ap emptied (sym (joined refl))
-  room-again false u t (Some h) n joined fit is = absurd (cc)
-  room-again false u t None n joined fit is = is
 
 -- behind the same loan's own table the same is shown
 pub same-behind : {V : Type 0} (v w : View V) → IsSameLoan v w → (q : ResourceId) → cond (among w.owned.now q) None (lent_slot w.shelf.now q) ≡ cond (among v.owned.now q) None (lent_slot v.shelf.now q)
@@ -130,3 +120,14 @@ module _ {V : Type 0} (kind : V → Kind) where
     at : (b : Bool) → among (writes_of p) q ≡ b → (written_by ps q ≡ true → is_some (held kind u q) ≡ is_some (held kind t q)) → is_some (held kind u q) ≡ is_some (held kind t q)
     at true e rest = ap (λ (o : Option (Slot V)). is_some (slot_held kind q o)) ((joined.0) q e) ∙ (same.0) q ∙ ap (λ (o : Option (Slot V)). is_some (slot_held kind q o)) ((holds.0) q ∙ ap (λ (b : Bool). cond b (slot_at t q) None) e)
     at false e rest = rest (sym (ap (λ (b : Bool). b || written_by ps q) e) ∙ w)
+
+  -- what holds values under the same ids as a hand did, and is joined, holds them in the table
+  pub ids-joined : (u : Table V) (ps : List Pair) (hs ns : List (Table V)) → AllZip (HoldsSameIds kind) hs ns → AllZip (IsJoined u) ps ns → AllZip (HoldsIdsOf kind u) ps hs
+  ids-joined u [] [] [] same joined = tt
+  ids-joined u [] [] (n ∷ ns) same joined = absurd same
+  ids-joined u [] (h ∷ hs) [] same joined = absurd same
+  ids-joined u [] (h ∷ hs) (n ∷ ns) same joined = absurd joined
+  ids-joined u (p ∷ ps) [] [] same joined = absurd joined
+  ids-joined u (p ∷ ps) [] (n ∷ ns) same joined = absurd same
+  ids-joined u (p ∷ ps) (h ∷ hs) [] same joined = absurd same
+  ids-joined u (p ∷ ps) (h ∷ hs) (n ∷ ns) same joined = ((λ q w. ap (λ (o : Option (Slot V)). is_some (slot_held kind q o)) ((joined.0) q w) ∙ (same.0) q), ids-joined u ps hs ns same.1 joined.1)

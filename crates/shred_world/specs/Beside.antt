@@ -19,7 +19,11 @@ pairs_of parts = parts.pairs.now
 abbrev pub lender_of : {V : Type 0} → Parts V → ℕ
 lender_of parts = parts.lender.value.ghost_name
 
--- the same, beside what lies behind the hands
+-- the hands as they were when the view was parted
+abbrev pub parted_of : {V : Type 0} → Parts V → List (Table V)
+parted_of parts = parts.parted.value.items
+
+-- the pairs by which a view was parted, beside what lies behind its hands
 abbrev pub pairs_behind : {V : Type 0} → Behind V → List Pair
 pairs_behind behind = behind.pairs.now
 

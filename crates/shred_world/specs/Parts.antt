@@ -65,3 +65,7 @@ IsJoined table p hand = (q : ResourceId) → IsTrue (among (writes_of p) q) → 
 -- the hand holds values under the same ids
 abbrev pub HoldsSameIds : {V : Type 0} → (V → Kind) → (old new : Table V) → Type 0
 HoldsSameIds kind old new = (q : ResourceId) → is_some (held kind new q) ≡ is_some (held kind old q)
+
+-- under the ids that the pair writes, the table holds values just where the hand does
+abbrev pub HoldsIdsOf : {V : Type 0} → (V → Kind) → Table V → Pair → Table V → Type 0
+HoldsIdsOf kind table p hand = (q : ResourceId) → IsTrue (among (writes_of p) q) → is_some (held kind table q) ≡ is_some (held kind hand q)

@@ -4,6 +4,7 @@ ghost use Rattle.shredexample.specs.declared.limits.Value.TheVariants.{Counted, 
 
 use shred::{Kind, Resource, ResourceValue};
 
+/// What these worlds hold.
 #[derive(Debug, Drop)]
 pub enum Value {
     Counted(Count),

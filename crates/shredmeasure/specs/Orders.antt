@@ -17,6 +17,7 @@ mode_word Planning = codes "plan"
 abbrev pub Writes : List ℕ → ℕ → Type 0
 Writes word number = IsNumeral 10 (without_leading_plus word) × (digits_value 10 (without_leading_plus word) < 2 ^ 64) × (number ≡ digits_value 10 (without_leading_plus word))
 
+-- whether the byte is a space
 abbrev pub is_space : ℕ → Bool
 is_space byte = byte == 32
 

@@ -1,4 +1,4 @@
-//! Calls of worlds, to be run with each request for memory refused in turn.
+//! Calls of worlds and views, to be run with each request for memory refused in turn.
 //!
 //! Each case prints its name, and `ok` where the answer is that of ample memory, `out of memory` where that is the answer
 //! and all stands as it must, or else `wrong`. The status is 2 where memory was wanting, and else 0.

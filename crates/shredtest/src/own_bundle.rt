@@ -1,5 +1,6 @@
-//! A bundle that is written by hand: the example's.
+//! The example: its dispatch, and its bundle that is written by hand.
 use shred::{DataError, Kind, ResourceId, SystemData, World};
+use shredexample::count_after_dispatch;
 use shredexample::counting::{Counting, count_one_in};
 use shredexample::limits::{Count, Limit, Value};
 use std::test::Fail;
@@ -11,6 +12,12 @@ fn id(kind: u32) -> ResourceId {
 // The count that is held.
 fn count_in(world: &World<Value>) -> Option<i64> {
     world.try_fetch::<Count>().map(|count| count.0)
+}
+
+#[test]
+fn a_dispatch_sets_the_count(rt: HostRuntime) -> Result<(), Fail> {
+    assert_eq!(rt; count_after_dispatch(rt.alloc()), Some(7));
+    Ok(())
 }
 
 #[test]

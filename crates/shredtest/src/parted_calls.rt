@@ -1,14 +1,15 @@
 //! Work over the parts of a view.
-ghost use Rattle.std.specs.Prelude.{◌≡◌, ◌||◌, IsTrue, false, length, OnOk, OnErr};
+ghost use Rattle.std.specs.Prelude.{◌≡◌, ◌||◌, IsTrue, false, is_some, length, OnOk, OnErr};
 ghost use Rattle.std.specs.List.{All, AllZip};
 ghost use Rattle.shred_world.specs.Beside.{pairs_behind, pair_behind, lent_behind};
-ghost use Rattle.shred_world.specs.Parts.{DoNotConflict, HasNothingOut, IsHandOf, reads_of, writes_of};
+ghost use Rattle.shred_world.specs.Parts.{DoNotConflict, HasNothingOut, HoldsSameIds, IsHandOf, reads_of, writes_of};
 ghost use Rattle.shred_world.specs.Shown.{IsSameSlots};
 ghost use Rattle.shred_world.specs.Slots.{among};
 ghost use Rattle.shred_world.specs.declared.id.ResourceId.{ResourceId};
 ghost use Rattle.shred_world.specs.Id.{same_id};
-ghost use Rattle.shred_world.specs.Views.{may_read, may_write, is_out, table_of, IsSameView};
+ghost use Rattle.shred_world.specs.Views.{may_read, may_write, is_out, table_of, view_held, IsSameView};
 ghost use Rattle.shredtest.specs.Adding.{HasTurnedOften};
+ghost use Rattle.shredtest.specs.Values.{kind_of};
 
 use crate::adding::Adding;
 use crate::values::{Count, Value};
@@ -28,6 +29,8 @@ fn exchange(one: &mut View<Value>, two: &mut View<Value>, ids: TwoCounts) -> boo
     ensures two { IsSameView two.old two.new }
     ensures first_table { table_of one.new ≡ table_of one.old }
     ensures second_table { table_of two.new ≡ table_of two.old }
+    ensures first_ids { (id : ResourceId) → is_some (view_held kind_of one.new id) ≡ is_some (view_held kind_of one.old id) }
+    ensures second_ids { (id : ResourceId) → is_some (view_held kind_of two.new id) ≡ is_some (view_held kind_of two.old id) }
 {
     let Ok(here) = one.write::<Count>(ids.first) else {
         return false;
@@ -55,6 +58,8 @@ fn exchange_beside(
     ensures two { IsSameSlots two.old two.new }
     ensures one_given_back { HasNothingOut one.new }
     ensures two_given_back { HasNothingOut two.new }
+    ensures first_ids { HoldsSameIds kind_of one.old one.new }
+    ensures second_ids { HoldsSameIds kind_of two.old two.new }
 {
     let mut front = behind.view(0, one);
     let mut back = behind.view(1, two);
@@ -68,6 +73,7 @@ fn exchange_in_hands(behind: &Behind<Value>, hands: &mut [Table<Value>], ids: Tw
     requires hands { AllZip (IsHandOf (lent_behind behind.now)) (pairs_behind behind.now) hands.old }
     ensures slots { AllZip IsSameSlots hands.old hands.new }
     ensures given_back { All HasNothingOut hands.new }
+    ensures ids { AllZip (HoldsSameIds kind_of) hands.old hands.new }
 {
     let (front, back) = hands.split_at_mut(1);
     exchange_beside(behind, &mut front[0], &mut back[0], ids)

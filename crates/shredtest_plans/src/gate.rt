@@ -1,4 +1,4 @@
-//! Two systems of one stage, each of which waits for the other.
+//! Systems of one stage that wait for each other.
 ghost use Rattle.std.specs.Prelude.{[]};
 ghost use Rattle.shred.specs.declared.system.RunningTime.TheVariants.{Average};
 
@@ -95,6 +95,41 @@ fn two_halves_run_at_once(rt: HostRuntime) -> Result<(), Fail> {
     let mut dispatcher = two_that_meet(rt.alloc(), &first, &second, 10_000_000)?;
     let mut world: World<Value> = World::empty(rt.alloc());
     assert_eq!(rt; dispatcher.max_threads(), 2);
+    assert!(rt; dispatcher.dispatch_par(&rt, &mut world).is_ok());
+    Ok(())
+}
+
+fn waiting<'f>(own: &'f AtomicBool, other: &'f AtomicBool) -> Meets<'f> {
+    Meets {
+        own,
+        other,
+        turns: 10_000_000,
+    }
+}
+
+// Four systems, of which the first and the last wait for each other. The others wait for nothing.
+fn four_whose_first_and_last_meet<'f>(
+    alloc: Global,
+    first: &'f AtomicBool,
+    last: &'f AtomicBool,
+    none: &'f AtomicBool,
+) -> Result<Dispatcher<Value, Meets<'f>>, OutOfMemory> {
+    let mut builder = StagesBuilder::new(alloc);
+    builder.insert(&[], SystemId(0), waiting(first, last))?;
+    builder.insert(&[], SystemId(1), waiting(none, none))?;
+    builder.insert(&[], SystemId(2), waiting(none, none))?;
+    builder.insert(&[], SystemId(3), waiting(last, first))?;
+    Ok(new_dispatcher(builder.build()))
+}
+
+#[test]
+fn halves_of_a_stage_of_four_run_at_once(rt: HostRuntime) -> Result<(), Fail> {
+    let first = AtomicBool::new(false);
+    let last = AtomicBool::new(false);
+    let none = AtomicBool::new(false);
+    let mut dispatcher = four_whose_first_and_last_meet(rt.alloc(), &first, &last, &none)?;
+    let mut world: World<Value> = World::empty(rt.alloc());
+    assert_eq!(rt; dispatcher.max_threads(), 4);
     assert!(rt; dispatcher.dispatch_par(&rt, &mut world).is_ok());
     Ok(())
 }

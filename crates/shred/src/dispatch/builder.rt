@@ -55,7 +55,7 @@ impl<V: ResourceValue, S: System<V>> DispatcherBuilder<V, S> {
         }
     }
 
-    /// `new`.
+    /// An empty plan without names, as of `new`.
     pub fn default(alloc: Global) -> Self
         ensures { IsNewBuilt (built result) }
     {

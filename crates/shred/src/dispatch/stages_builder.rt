@@ -61,7 +61,7 @@ impl<V: ResourceValue, S: System<V>> StagesBuilder<V, S> {
         }
     }
 
-    /// `new`.
+    /// An empty plan, as of `new`.
     pub fn default(alloc: Global) -> Self
         ensures plan { planned result ≡ [] }
         ensures barrier { barrier_of result ≡ 0 }
@@ -118,7 +118,7 @@ impl<V: ResourceValue, S: System<V>> StagesBuilder<V, S> {
         self.barrier = self.stages.len();
     }
 
-    /// The ids that the systems read, in order, each once.
+    /// The ids that the systems read, in order, each once. `OutOfMemory` where memory is refused.
     pub fn fetch_all_reads(&self) -> Result<Vec<ResourceId>, OutOfMemory>
         ensures in_order { IfOk result (λ ids. AllPairs IsBefore ids.items) }
         ensures same { IfOk result (λ ids. (i : ResourceId) → Contains ids.items i ↔ Contains (plan_reads (planned self.now)) i) }
@@ -126,7 +126,7 @@ impl<V: ResourceValue, S: System<V>> StagesBuilder<V, S> {
         self.fetch_all(Side::Reads)
     }
 
-    /// The ids that the systems write, in order, each once.
+    /// The ids that the systems write, in order, each once. `OutOfMemory` where memory is refused.
     pub fn fetch_all_writes(&self) -> Result<Vec<ResourceId>, OutOfMemory>
         ensures in_order { IfOk result (λ ids. AllPairs IsBefore ids.items) }
         ensures same { IfOk result (λ ids. (i : ResourceId) → Contains ids.items i ↔ Contains (plan_writes (planned self.now)) i) }

@@ -167,7 +167,8 @@ impl<'s, 'a, V: ResourceValue> View<'s, 'a, V> {
         Ok(())
     }
 
-    /// The resource that is held under an id which is declared to be read or written.
+    /// The resource that is held under an id which is declared to be read or written. The first that fits of `WrongKind`,
+    /// `Undeclared`, `Taken`, `Missing`.
     pub fn read<R: Resource<V>>(&self, id: ResourceId) -> Result<&R, DataError>
         ensures refused { result_err result ≡ refusal R.KIND id (may_read self.now id) (is_out self.now id) (is_some (view_held V.kind_of self.now id)) }
         ensures shown { IfOk result (λ r. view_held V.kind_of self.now id ≡ Some (R.wrapped r.now)) }
@@ -184,7 +185,8 @@ impl<'s, 'a, V: ResourceValue> View<'s, 'a, V> {
         }
     }
 
-    /// The resource that is held under an id which is declared to be written, to write.
+    /// The resource that is held under an id which is declared to be written, to write. The tests
+    /// of `read`, with `Undeclared` where the id is not declared to be written.
     pub fn write<R: Resource<V>>(&mut self, id: ResourceId) -> Result<&mut R, DataError>
         ensures refused { result_err result ≡ refusal R.KIND id (may_write self.old id) (is_out self.old id) (is_some (view_held V.kind_of self.old id)) }
         ensures shown { IfOk result (λ r. view_held V.kind_of self.old id ≡ Some (R.wrapped r.now)) }

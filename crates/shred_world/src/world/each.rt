@@ -2,7 +2,7 @@
 ghost use Rattle.std.specs.Prelude.{◌≡◌, ◌<◌, IsTrue, OnErr, OnOk, false, is_some, length};
 ghost use Rattle.std.specs.List.{All, AllZip};
 ghost use Rattle.shred_world.specs.declared.id.ResourceId.{ResourceId};
-ghost use Rattle.shred_world.specs.Beside.{lender_of, pairs_of, pairs_behind, pair_behind, lent_behind};
+ghost use Rattle.shred_world.specs.Beside.{lender_of, parted_of, pairs_of, pairs_behind, pair_behind, lent_behind};
 ghost use Rattle.shred_world.specs.Parts.{DoNotConflict, reads_of, writes_of, HasNothingOut, HoldsSameIds, IsHandOf};
 ghost use Rattle.shred_world.specs.Shown.{IsSameSlots};
 ghost use Rattle.shred_world.specs.Slots.{among};
@@ -106,6 +106,7 @@ impl<'s, 'a, V: ResourceValue + Drop> View<'s, 'a, V> {
         requires hands { AllZip (IsHandOf (view_slot self.now)) (pairs_of parts.old) parts.old.hands.items }
         ensures worked { IsWorkedEach V.kind_of W.works (view_slot self.now) (pairs_of parts.old) parts.old.hands.items work.old parts.new.hands.items work.new }
         ensures lender { lender_of parts.new ≡ lender_of parts.old }
+        ensures parted { parted_of parts.new ≡ parted_of parts.old }
         ensures pairs { pairs_of parts.new ≡ pairs_of parts.old }
     {
         let behind = parts.behind(self);

@@ -31,7 +31,8 @@ impl<'a, V: ResourceValue, R: Resource<V>> Entry<'a, V, R> {
         }
     }
 
-    /// The resource that is held, or else this one, which is then held.
+    /// The resource that is held, or else this one, which is then held. `OutOfMemory`, only where none was held; the world
+    /// is then as before.
     pub fn or_insert(self, resource: R) -> Result<FetchMut<'a, R>, WorldError>
     where
         V: Drop,
@@ -44,7 +45,7 @@ impl<'a, V: ResourceValue, R: Resource<V>> Entry<'a, V, R> {
     }
 
     /// The resource that is held, or else the one that the closure gives, which is then held. The closure is called only
-    /// where none is held, and after room is made.
+    /// where none is held, and after room is made. `OutOfMemory` as of `or_insert`.
     pub fn or_insert_with<F: FnOnce() -> R>(self, make: F) -> Result<FetchMut<'a, R>, WorldError>
     where
         V: Drop,

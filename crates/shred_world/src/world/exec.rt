@@ -14,7 +14,7 @@ use crate::world::data::{DataError, View};
 use crate::world::{World, WorldError};
 
 impl<V: ResourceValue> World<V> {
-    /// Sets the world up for the bundle.
+    /// Sets the world up for the bundle. It is refused as the bundle's own setup is.
     pub fn setup<'s, D: SystemData<'s, V>>(&mut self) -> Result<(), WorldError>
     where
         V: 's,

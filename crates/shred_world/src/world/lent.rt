@@ -67,7 +67,8 @@ impl<V: ResourceValue, D> Lent<'_, V, D> {
 impl<V: ResourceValue> World<V> {
     ghost use Rattle.shred_world.specs.LentBundles.{lender, lent_bundle, lent_grant};
 
-    /// Takes a bundle on the world, where each id may be read and written. Nothing is set up.
+    /// Takes a bundle on the world, where each id may be read and written. Nothing is set up. It is refused as
+    /// `View::system_data` is, and the world then holds what it held.
     pub fn system_data<'s, D: SystemData<'s, V>>(&mut self) -> Result<Lent<'_, V, D>, DataError>
     where
         V: 's,

@@ -62,7 +62,7 @@ pub struct World<V> {
     table: Table<V>,
 }
 
-/// `World`.
+/// Another name of `World`.
 pub type Resources<V> = World<V>;
 
 // Refuses an id of another kind than the resource's.
@@ -97,7 +97,7 @@ impl<V: ResourceValue> World<V> {
         }
     }
 
-    /// `empty`.
+    /// A world that holds nothing, as of `empty`.
     pub fn default(alloc: Global) -> Self
         ensures { (id : ResourceId) → world_held V.kind_of result id ≡ None }
     {
@@ -118,7 +118,8 @@ impl<V: ResourceValue> World<V> {
         self.has_value_raw(ResourceId::new::<V, R>())
     }
 
-    /// Holds the resource, in the place of the one that was held.
+    /// Holds the resource, in the place of the one that was held. `OutOfMemory`, only where none was; the world is then
+    /// as before.
     pub fn insert<R: Resource<V>>(&mut self, resource: R) -> Result<(), WorldError>
     where
         V: Drop,
@@ -130,7 +131,8 @@ impl<V: ResourceValue> World<V> {
         self.insert_by_id(ResourceId::new::<V, R>(), resource)
     }
 
-    /// Holds the resource under the id, in the place of what was held there.
+    /// Holds the resource under the id, in the place of what was held there. `WrongKind` where the id is of another kind,
+    /// tested first; `OutOfMemory`, only where nothing was held. After a refusal the world is as before.
     pub fn insert_by_id<R: Resource<V>>(
         &mut self,
         id: ResourceId,
@@ -189,7 +191,8 @@ impl<V: ResourceValue> World<V> {
         self.take(ResourceId::new::<V, R>())
     }
 
-    /// The resource that was held under the id, if one was, which leaves the world.
+    /// The resource that was held under the id, if one was, which leaves the world. `WrongKind` where the id is of another
+    /// kind; the world is then as before.
     pub fn remove_by_id<R: Resource<V>>(&mut self, id: ResourceId) -> Result<Option<R>, WorldError>
     where
         V: Drop,
@@ -216,7 +219,8 @@ impl<V: ResourceValue> World<V> {
         slot.into_resource()
     }
 
-    /// Puts the value in the place of the one that is held under the id, and gives back the old one.
+    /// Puts the value in the place of the one that is held under the id, and gives back the old one. `WrongKind` where
+    /// the value is not of the id's kind, tested first; `Missing` where nothing is held. A refusal hands the value back.
     pub fn replace_raw(&mut self, id: ResourceId, value: V) -> Result<V, ReplaceError<V>>
         ensures ok { IfOk result (λ old. (V.kind_of value ≡ kind_of id) × (world_held V.kind_of self.old id ≡ Some old)) }
         ensures replaced { OnOk result ((q : ResourceId) → world_held V.kind_of self.new q ≡ with_at (world_held V.kind_of self.old) id (Some value) q) }
@@ -241,7 +245,7 @@ impl<V: ResourceValue> World<V> {
         }
     }
 
-    /// The resource that is held.
+    /// The resource that is held. `Missing` where none is.
     pub fn fetch<R: Resource<V>>(&self) -> Result<Fetch<'_, R>, WorldError>
         ensures shown { IfOk result (λ f. world_held V.kind_of self.now (id_of R.KIND 0) ≡ Some (R.wrapped (fetched f))) }
         ensures missing { IfErr result (λ e. (e ≡ WorldError.Missing (id_of R.KIND 0)) × (world_held V.kind_of self.now (id_of R.KIND 0) ≡ None)) }
@@ -262,7 +266,7 @@ impl<V: ResourceValue> World<V> {
         }
     }
 
-    /// The resource that is held under the id, if one is.
+    /// The resource that is held under the id, if one is. `WrongKind` where the id is of another kind.
     pub fn try_fetch_by_id<R: Resource<V>>(
         &self,
         id: ResourceId,
@@ -313,7 +317,7 @@ impl<V: ResourceValue> World<V> {
         self.get_mut::<R>()
     }
 
-    /// The resource that is held, to write.
+    /// The resource that is held, to write. `Missing` where none is.
     pub fn fetch_mut<R: Resource<V>>(&mut self) -> Result<FetchMut<'_, R>, WorldError>
         ensures shown { IfOk result (λ r. world_held V.kind_of self.old (id_of R.KIND 0) ≡ Some (R.wrapped r.now)) }
         ensures missing { IfErr result (λ e. (e ≡ WorldError.Missing (id_of R.KIND 0)) × (world_held V.kind_of self.old (id_of R.KIND 0) ≡ None)) }
@@ -325,7 +329,8 @@ impl<V: ResourceValue> World<V> {
         Ok(resource)
     }
 
-    /// The resource that is held under the id, to write.
+    /// The resource that is held under the id, to write. `WrongKind` where the id is of another kind, tested first;
+    /// `Missing` where nothing is held.
     pub fn try_fetch_mut_by_id<R: Resource<V>>(
         &mut self,
         id: ResourceId,

@@ -3,10 +3,10 @@ ghost use Rattle.std.specs.Prelude.{◌≡◌, ◌<◌, ◌&&◌, IsTrue, false,
 ghost use Rattle.std.specs.List.{All, AllZip};
 ghost use Rattle.shred_world.specs.declared.id.ResourceId.{ResourceId};
 ghost use Rattle.shred_world.specs.Parting.{emptied};
-ghost use Rattle.shred_world.specs.Parts.{DoNotConflict, reads_of, writes_of, written_by, HasNothingOut, HasRoom, HoldsWritten, Fits, IsHandOf, IsJoined};
+ghost use Rattle.shred_world.specs.Parts.{DoNotConflict, reads_of, writes_of, written_by, HasNothingOut, HasRoom, HoldsWritten, HoldsSameIds, HoldsIdsOf, Fits, IsHandOf, IsJoined};
 ghost use Rattle.shred_world.specs.Slots.{slot_at, noted_in, among, or_slot};
 ghost use Rattle.shred_world.specs.Views.{may_read, may_write, is_out, owned_ids, shelf_slot, shelves_of, table_of, lent_slot, view_slot, table_in, IsSameLoan};
-ghost use Rattle.shred_world.specs.Beside.{pairs_of, lender_of, pairs_behind, pair_behind, lent_behind, shelf_behind};
+ghost use Rattle.shred_world.specs.Beside.{pairs_of, lender_of, parted_of, pairs_behind, pair_behind, lent_behind, shelf_behind, ShowsDeclared};
 ghost use Rattle.shred_world.specs.OwnViews.{IsLent};
 
 use crate::accessor::OutOfMemory;
@@ -142,13 +142,14 @@ pub(crate) fn shelf_before<'b, V>(
 pub struct Parts<'p, 'a, V> {
     pub(crate) pairs: &'p [(&'p [ResourceId], &'p [ResourceId])],
     pub(crate) lender: Snapshot<&'a mut Table<V>>,
+    pub(crate) parted: Snapshot<Vec<Table<V>>>,
     /// The hands, in the order of the pairs.
     pub hands: Vec<Table<V>>,
 }
 
 impl<'s, 'a, V: ResourceValue + Drop> View<'s, 'a, V> {
-    /// Moves the values of the ids that each pair writes into a hand of the pair. The slots that they leave stay, and
-    /// these ids are out until `Parts::join` moves the values back. If memory is refused, nothing was moved.
+    /// Moves the values of the ids that each pair writes into a hand of the pair. The slots that they leave stay, and the
+    /// ids of these slots are out until `Parts::join` moves the values back. If memory is refused, nothing was moved.
     pub fn part<'p>(
         &mut self,
         alloc: Global,
@@ -162,7 +163,11 @@ impl<'s, 'a, V: ResourceValue + Drop> View<'s, 'a, V> {
         ensures lender { IfOk result (λ parts. lender_of parts ≡ table_of self.new) }
         ensures pairs { IfOk result (λ parts. pairs_of parts ≡ pairs.now) }
         ensures hands { IfOk result (λ parts. AllZip (HoldsWritten (table_in self.old)) pairs.now parts.hands.items) }
+        ensures parted { IfOk result (λ parts. parted_of parts ≡ parts.hands.items) }
         ensures nothing_out { IfOk result (λ parts. All HasNothingOut parts.hands.items) }
+        ensures of_pairs { IfOk result (λ parts. AllZip (IsHandOf (view_slot self.new)) pairs.now parts.hands.items) }
+        ensures fit { IfOk result (λ parts. AllZip (Fits (table_in self.new)) pairs.now parts.hands.items) }
+        ensures shown { IfOk result (λ parts. AllZip (ShowsDeclared (view_slot self.new) (view_slot self.old)) pairs.now parts.hands.items) }
         ensures left { OnOk result ((q : ResourceId) → slot_at (table_in self.new) q ≡ cond (written_by pairs.now q) (emptied (slot_at (table_in self.old) q)) (slot_at (table_in self.old) q)) }
         ensures out { OnOk result ((q : ResourceId) → is_out self.new q ≡ (written_by pairs.now q && is_some (slot_at (table_in self.old) q))) }
         ensures refused { OnErr result ((q : ResourceId) → view_slot self.new q ≡ view_slot self.old q) }
@@ -178,16 +183,16 @@ impl<'s, 'a, V: ResourceValue + Drop> View<'s, 'a, V> {
         };
         self.own.move_all_out(pairs, hands.as_mut_slice());
         self.own.note_all(written);
-        let lender = Snapshot::of(&self.own);
         Ok(Parts {
             pairs,
-            lender,
+            lender: Snapshot::of(&self.own),
+            parted: Snapshot::of(&hands),
             hands,
         })
     }
 }
 
-impl<'p, 'a, V: Drop> Parts<'p, 'a, V> {
+impl<'p, 'a, V: ResourceValue + Drop> Parts<'p, 'a, V> {
     /// What lies behind the hands, for views of the parts.
     pub fn behind<'b>(&self, lender: &'b View<V>) -> Behind<'p, 'b, V>
         requires lender { table_of lender.now ≡ lender_of self.now }
@@ -209,14 +214,17 @@ impl<'p, 'a, V: Drop> Parts<'p, 'a, V> {
         requires given_back { All HasNothingOut self.hands.items }
         requires apart { DoNotConflict (pairs_of self) }
         requires fit { AllZip (Fits (table_in lender.old)) (pairs_of self) self.hands.items }
+        requires kept { AllZip (HoldsSameIds V.kind_of) (parted_of self) self.hands.items }
         ensures loan { IsSameLoan lender.old lender.new }
         ensures joined { AllZip (IsJoined (table_in lender.new)) (pairs_of self.entry) self.entry.hands.items }
+        ensures ids { AllZip (HoldsIdsOf V.kind_of (table_in lender.new)) (pairs_of self.entry) (parted_of self.entry) }
         ensures rest { (q : ResourceId) → written_by (pairs_of self.entry) q ≡ false → slot_at (table_in lender.new) q ≡ slot_at (table_in lender.old) q }
         ensures nothing_out { (q : ResourceId) → is_out lender.new q ≡ false }
     {
         let Parts {
             pairs,
             lender: _,
+            parted: _,
             mut hands,
         } = self;
         lender.own.move_all_back(pairs, hands.as_mut_slice());

@@ -3,14 +3,15 @@ use Rattle.std.specs.Prelude.{is_some}
 use Rattle.std.specs.List.{All, AllZip}
 use Rattle.shred_world.specs.declared.id.ResourceId.{ResourceId}
 use Rattle.shred_world.specs.declared.table.Table.{Table}
-use Rattle.shred_world.specs.Beside.{lent_behind}
-use Rattle.shred_world.specs.Parts.{Pair, DoNotConflict, HasNothingOut, HoldsWritten, Fits, IsHandOf, reads_of, writes_of, written_by}
+use Rattle.shred_world.specs.Beside.{lent_behind, parted_of}
+use Rattle.shred_world.specs.Parts.{Pair, DoNotConflict, HasNothingOut, HoldsSameIds, HoldsWritten, Fits, IsHandOf, reads_of, writes_of, written_by}
 use Rattle.shred_world.specs.Shown.{Lent, IsSameSlots}
 use Rattle.shred_world.specs.Slots.{slot_at, among}
-use Rattle.shred_world.specs.Views.{may_read, may_write, view_slot}
+use Rattle.shred_world.specs.Views.{may_read, may_write}
 use Rattle.shred_world.proofs.Beside.{same-may_read, same-may_write, same-again}
 use Rattle.shred_world.proofs.Pairs.{zip-length, written-over}
-use Rattle.shred_world.proofs.Parted.{parted-hands, parted-fit}
+use Rattle.shred_world.proofs.Parted.{fit-again}
+use Rattle.shredtest.specs.Values.{kind_of}
 use Rattle.shredtest.specs.declared.values.Value.{Value}
 use Rattle.shredtest.proofs.parted_calls.exchange_parted.Goals as goal
 
@@ -31,11 +32,8 @@ exchange_in_hands-exchanged-requires-clause-parts c = ap length (c.behind-behind
 
 pub exchange_in_hands-exchanged-requires-clause-hands : goal.exchange_in_hands-exchanged-requires-clause-hands
 exchange_in_hands-exchanged-requires-clause-hands c =
-    let now = c.part.new.self in
-    let given : AllZip (IsHandOf (view_slot now)) c.args.pairs.now c.in-Ok.parts.hands.items =
-    parted-hands c.args.pairs.now c.args.view.now now c.in-Ok.parts.hands.items c.in-Ok.ensures.loan c.in-Ok.ensures.left c.requires.writes_within c.in-Ok.ensures.hands in
     let over : AllZip (IsHandOf (lent_behind c.behind-behind.result)) c.args.pairs.now c.in-Ok.parts.hands.items =
-    subst (λ (behind : Lent Value). AllZip (IsHandOf behind) c.args.pairs.now c.in-Ok.parts.hands.items) (λ i q. sym (c.behind-behind.ensures.shelf q) i) given in
+    subst (λ (behind : Lent Value). AllZip (IsHandOf behind) c.args.pairs.now c.in-Ok.parts.hands.items) (λ i q. sym (c.behind-behind.ensures.shelf q) i) c.in-Ok.ensures.of_pairs in
     subst (λ (hs : List (Table Value)). AllZip (IsHandOf (lent_behind c.behind-behind.result)) c.behind-behind.result.pairs.now hs) (sym c.as_mut_slice.ensures.value)
     (subst (λ (ps : List Pair). AllZip (IsHandOf (lent_behind c.behind-behind.result)) ps c.in-Ok.parts.hands.items) (sym (c.behind-behind.ensures.pairs ∙ c.in-Ok.ensures.pairs)) over)
 
@@ -64,9 +62,17 @@ join-requires-clause-fit c =
     let was = c.in-Ok.parts.hands.items in
     let now = c.exchange_in_hands-exchanged.new.hands in
     let slots : AllZip IsSameSlots was now = subst (λ (hs : List (Table Value)). AllZip IsSameSlots hs now) c.as_mut_slice.ensures.value c.exchange_in_hands-exchanged.ensures.slots in
-    let fit : AllZip (Fits left) c.args.pairs.now now = parted-fit c.args.pairs.now c.args.view.now.own.now left was now c.in-Ok.ensures.left c.in-Ok.ensures.hands slots in
+    let fit : AllZip (Fits left) c.args.pairs.now now = fit-again c.args.pairs.now left was now c.in-Ok.ensures.fit slots in
     subst (AllZip (Fits left) c.in-Ok.parts.pairs.now) (sym (written-over c.in-Ok.parts.hands.len was now (sym c.as_mut_slice.ensures.len ∙ ap length c.as_mut_slice.ensures.value) (sym (zip-length IsSameSlots was now slots))))
     (subst (λ (ps : List Pair). AllZip (Fits left) ps now) (sym c.in-Ok.ensures.pairs) fit)
+
+pub join-requires-clause-kept : goal.join-requires-clause-kept
+join-requires-clause-kept c =
+    let was = c.in-Ok.parts.hands.items in
+    let now = c.exchange_in_hands-exchanged.new.hands in
+    let ids : AllZip (HoldsSameIds kind_of) was now = subst (λ (hs : List (Table Value)). AllZip (HoldsSameIds kind_of) hs now) c.as_mut_slice.ensures.value c.exchange_in_hands-exchanged.ensures.ids in
+    subst (AllZip (HoldsSameIds kind_of) (parted_of c.in-Ok.parts)) (sym (written-over c.in-Ok.parts.hands.len was now (sym c.as_mut_slice.ensures.len ∙ ap length c.as_mut_slice.ensures.value) (sym (zip-length (HoldsSameIds kind_of) was now ids))))
+    (subst (λ (hs : List (Table Value)). AllZip (HoldsSameIds kind_of) hs now) (sym c.in-Ok.ensures.parted) ids)
 
 pub returns : goal.returns
 returns c = same-again c.args.view.now c.part.new.self c.join.new.lender c.in-Ok.ensures.loan c.join.ensures.loan c.requires.nothing_out c.join.ensures.nothing_out

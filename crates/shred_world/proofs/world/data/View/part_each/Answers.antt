@@ -1,13 +1,14 @@
-use Rattle.std.proofs.Common.{◌≡◌, ◌&&◌, IsTrue, Bool, true, false, None, List, cond, refl, sym, subst, ◌∙◌, ap, get_or}
+use Rattle.std.proofs.Common.{◌≡◌, ◌&&◌, IsTrue, Bool, true, false, List, refl, sym, subst, ◌∙◌, ap}
 use Rattle.std.specs.Prelude.{is_some}
 use Rattle.std.specs.List.{All, AllZip}
 use Rattle.shred_world.specs.declared.id.ResourceId.{ResourceId}
-use Rattle.shred_world.specs.Parts.{Pair, DoNotConflict, reads_of, writes_of, written_by, HoldsWritten, Fits, IsHandOf, IsJoined}
+use Rattle.shred_world.specs.declared.table.Table.{Table}
+use Rattle.shred_world.specs.Parts.{Pair, DoNotConflict, reads_of, writes_of, written_by, HoldsSameIds, Fits, IsHandOf, IsJoined}
 use Rattle.shred_world.specs.Slots.{slot_at, slot_held, among, or_slot}
-use Rattle.shred_world.specs.Views.{lent_slot, may_read, may_write, view_slot}
+use Rattle.shred_world.specs.Views.{may_read, may_write, view_slot}
 use Rattle.shred_world.specs.Worked.{IsWorkedEach}
-use Rattle.shred_world.proofs.Beside.{zip-map, written-none, shown-over, held-over, held-joined, same-behind, same-may_read, same-may_write, same-again}
-use Rattle.shred_world.proofs.Parted.{parted-hands, parted-fit}
+use Rattle.shred_world.proofs.Beside.{held-over, held-joined, same-behind, same-may_read, same-may_write, same-again}
+use Rattle.shred_world.proofs.Parted.{fit-again}
 use Rattle.shred_world.proofs.Refusals.{hidden}
 use Rattle.shred_world.proofs.Worked.{worked-apart, each-slots, each-ids, each-given_back}
 use Rattle.shred_world.proofs.world.data.View.part_each.Goals as goal
@@ -25,7 +26,7 @@ work_parted-requires-clause-writes_within g c =
 pub work_parted-requires-clause-hands : goal.work_parted-requires-clause-hands
 work_parted-requires-clause-hands g c =
     subst (λ (ps : List Pair). AllZip (IsHandOf (view_slot c.part.new.self)) ps c.in-Ok.parts.hands.items) (sym c.in-Ok.ensures.pairs)
-    (parted-hands c.args.pairs.now c.args.self.now c.part.new.self c.in-Ok.parts.hands.items c.in-Ok.ensures.loan c.in-Ok.ensures.left c.requires.writes_within c.in-Ok.ensures.hands)
+    c.in-Ok.ensures.of_pairs
 
 pub work_parted-requires-clause-lender : goal.work_parted-requires-clause-lender
 work_parted-requires-clause-lender g c = sym c.in-Ok.ensures.lender
@@ -50,8 +51,15 @@ join-requires-clause-fit g c =
     let hands = c.in-Ok.parts.hands.items in
     let left = c.work_parted.new.parts.hands.items in
     subst (λ (ps : List Pair). AllZip (Fits c.part.new.self.own.now) ps left) (sym (c.work_parted.ensures.pairs ∙ c.in-Ok.ensures.pairs))
-    (parted-fit c.args.pairs.now c.args.self.now.own.now c.part.new.self.own.now hands left c.in-Ok.ensures.left c.in-Ok.ensures.hands
+    (fit-again c.args.pairs.now c.part.new.self.own.now hands left c.in-Ok.ensures.fit
     (each-slots g.V.ResourceValue.kind_of g.W.ViewWork.works (view_slot c.part.new.self) c.in-Ok.parts.pairs.now hands c.args.work.now left c.work_parted.new.work c.work_parted.ensures.worked))
+
+pub join-requires-clause-kept : goal.join-requires-clause-kept
+join-requires-clause-kept g c =
+    let kind = g.V.ResourceValue.kind_of in
+    let left = c.work_parted.new.parts.hands.items in
+    subst (λ (was : List (Table g.row.V.Denot)). AllZip (HoldsSameIds kind) was left) (sym (c.work_parted.ensures.parted ∙ c.in-Ok.ensures.parted))
+    (each-ids kind g.W.ViewWork.works (view_slot c.part.new.self) c.in-Ok.parts.pairs.now c.in-Ok.parts.hands.items c.args.work.now left c.work_parted.new.work c.work_parted.ensures.worked)
 
 pub returns-clause-same : goal.returns-clause-same
 returns-clause-same g c = same-again c.args.self.now c.part.new.self c.join.new.lender c.in-Ok.ensures.loan c.join.ensures.loan c.requires.nothing_out c.join.ensures.nothing_out
@@ -67,11 +75,7 @@ returns-clause-worked g c =
     let hands = c.in-Ok.parts.hands.items in
     let left = c.work_parted.new.parts.hands.items in
     worked-apart kind works (view_slot now) (view_slot was) (view_slot new) new.own.now pairs hands c.args.work.now left c.work_parted.new.work
-    (zip-map (HoldsWritten was.own.now) _ pairs hands
-    (λ i d h below holds q declared. shown-over (among (writes_of (get_or pairs i d)) q) (written_by pairs q) (among now.owned.now q) (slot_at was.own.now q) (slot_at now.own.now q) (slot_at h q) (lent_slot now.shelf.now q)
-    (holds q) (c.in-Ok.ensures.left q) (λ w. same-behind was now c.in-Ok.ensures.loan q ∙ hidden was q (c.requires.writes_within i d below q w)) (λ out. written-none i pairs d q c.requires.apart below declared out)
-    ∙ ap (or_slot (slot_at was.own.now q)) (same-behind was now c.in-Ok.ensures.loan q))
-    c.in-Ok.ensures.hands)
+    c.in-Ok.ensures.shown
     (subst (λ (ps : List Pair). AllZip (IsJoined new.own.now) ps left) (c.work_parted.ensures.pairs ∙ c.in-Ok.ensures.pairs) c.join.ensures.joined)
     (λ i d below q w. ap (or_slot (slot_at new.own.now q)) (same-behind now new c.join.ensures.loan q ∙ same-behind was now c.in-Ok.ensures.loan q ∙ hidden was q (c.requires.writes_within i d below q w)))
     (subst (λ (ps : List Pair). IsWorkedEach kind works (view_slot now) ps hands c.args.work.now left c.work_parted.new.work) c.in-Ok.ensures.pairs c.work_parted.ensures.worked)

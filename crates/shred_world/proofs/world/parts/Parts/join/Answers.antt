@@ -1,0 +1,11 @@
+use Rattle.std.proofs.Common.{List, subst}
+use Rattle.std.specs.List.{AllZip}
+use Rattle.shred_world.specs.declared.table.Table.{Table}
+use Rattle.shred_world.specs.Parts.{IsJoined}
+use Rattle.shred_world.proofs.Beside.{ids-joined}
+use Rattle.shred_world.proofs.world.parts.Parts.join.Goals as goal
+
+pub returns-clause-ids : goal.returns-clause-ids
+returns-clause-ids g c =
+    ids-joined g.V.ResourceValue.kind_of c.move_all_back.new.self c.args.self.pairs.now c.args.self.parted.value.items c.args.self.hands.items c.requires.kept
+    (subst (λ (hs : List (Table g.row.V.Denot)). AllZip (IsJoined c.move_all_back.new.self) c.args.self.pairs.now hs) c.as_mut_slice.ensures.value c.move_all_back.ensures.joined)

@@ -81,7 +81,8 @@ pub trait System<V: ResourceValue> {
 
     ghost disposes: { Self → Held V → Outcome Self.Error → Held V → Type 0 };
 
-    /// One step, over a view of just the ids that the system declares, with none of them out.
+    /// One step, over a view of just the ids that the system declares, with none of them out. It gives back what it took,
+    /// keeps every id, and changes nothing but what the view may write. A `Fault` ends its group; what was written stays.
     fn run(&mut self, view: &mut View<V>) -> Result<(), Fault<Self::Error>>
         requires lent { IsLent view.old (reads self.old) (writes self.old) }
         ensures step { step self.old (declared_held V.kind_of view.old) result self.new (declared_held V.kind_of view.new) }

@@ -8,7 +8,7 @@ use Rattle.shred_world.specs.declared.id.Kind.{Kind}
 use Rattle.shred_world.specs.declared.table.Slot.{Slot}
 use Rattle.shred_world.specs.declared.table.Table.{Table}
 use Rattle.shred_world.specs.declared.world.data.View.{View}
-use Rattle.shred_world.specs.Views.{lent_slot, is_out, is_whole, may_read, may_write, IsSameLoan, IsSameView}
+use Rattle.shred_world.specs.Views.{lent_slot, view_held, is_out, IsSameLoan, IsSameView}
 use Rattle.shred_world.specs.Slots.{slot_at, slot_held, held, among, or_slot}
 use Rattle.shred_world.specs.Parting.{emptied}
 use Rattle.shred_world.specs.Parts.{Pair, writes_of, declares, AreBeside, DoNotConflict, written_by, HoldsWritten, HoldsSameIds, HoldsIdsOf, IsJoined}
@@ -69,17 +69,6 @@ module _ {V : Type 0} where
 pub same-behind : {V : Type 0} (v w : View V) → IsSameLoan v w → (q : ResourceId) → cond (among w.owned.now q) None (lent_slot w.shelf.now q) ≡ cond (among v.owned.now q) None (lent_slot v.shelf.now q)
 same-behind v w same q = ap (λ (ids : List ResourceId). cond (among ids q) None (lent_slot w.shelf.now q)) same.owned ∙ ap (cond (among v.owned.now q) None) (same.shelf q)
 
--- the same may be written
-pub same-may_write : {V : Type 0} (v w : View V) → IsSameLoan v w → (q : ResourceId) → may_write w q ≡ may_write v q
-same-may_write v w same q =
-    ap (λ (whole : Bool). whole || (among w.writes.now q && among w.owned.now q)) same.whole
-    ∙ ap (λ (ids : List ResourceId). is_whole v || (among ids q && among w.owned.now q)) same.writes
-    ∙ ap (λ (ids : List ResourceId). is_whole v || (among v.writes.now q && among ids q)) same.owned
-
--- the same may be read
-pub same-may_read : {V : Type 0} (v w : View V) → IsSameLoan v w → (q : ResourceId) → may_read w q ≡ may_read v q
-same-may_read v w same q = ap (λ (ids : List ResourceId). among ids q || may_write w q) same.reads ∙ ap (λ (b : Bool). among v.reads.now q || b) (same-may_write v w same q)
-
 -- a loan that stayed twice, with nothing out at first and in the end, is the same view
 pub same-again : {V : Type 0} (u v w : View V) → IsSameLoan u v → IsSameLoan v w → ((q : ResourceId) → is_out u q ≡ false) → ((q : ResourceId) → is_out w q ≡ false) → IsSameView u w
 same-again u v w one two before after = record {
@@ -110,15 +99,13 @@ module _ {V : Type 0} (kind : V → Kind) where
   held-over q (Some s) None f same held = absurd (cc)
   held-over q None (Some t) f same held = absurd (cc)
 
-  -- a value that was moved out is there again once the hands are joined, where the hands hold what they held
-  pub held-joined : (t u : Table V) (ps : List Pair) (hs ns : List (Table V)) (q : ResourceId) → AllZip (HoldsWritten t) ps hs → AllZip (HoldsSameIds kind) hs ns → AllZip (IsJoined u) ps ns
-      → written_by ps q ≡ true → is_some (held kind u q) ≡ is_some (held kind t q)
-  held-joined t u [] hs ns q holds same joined w = absurd (cc)
-  held-joined t u (p ∷ ps) [] ns q holds same joined w = absurd holds
-  held-joined t u (p ∷ ps) (h ∷ hs) [] q holds same joined w = absurd joined
-  held-joined t u (p ∷ ps) (h ∷ hs) (n ∷ ns) q holds same joined w = at (among (writes_of p) q) refl (held-joined t u ps hs ns q holds.1 same.1 joined.1) where
+  -- under an id that was moved out a value is held again, where one was, once the table holds values where the hands did
+  pub held-again : (t u : Table V) (ps : List Pair) (hs : List (Table V)) (q : ResourceId) → AllZip (HoldsWritten t) ps hs → AllZip (HoldsIdsOf kind u) ps hs → written_by ps q ≡ true → is_some (held kind u q) ≡ is_some (held kind t q)
+  held-again t u [] hs q holds ids w = absurd (cc)
+  held-again t u (p ∷ ps) [] q holds ids w = absurd holds
+  held-again t u (p ∷ ps) (h ∷ hs) q holds ids w = at (among (writes_of p) q) refl (held-again t u ps hs q holds.1 ids.1) where
     at : (b : Bool) → among (writes_of p) q ≡ b → (written_by ps q ≡ true → is_some (held kind u q) ≡ is_some (held kind t q)) → is_some (held kind u q) ≡ is_some (held kind t q)
-    at true e rest = ap (λ (o : Option (Slot V)). is_some (slot_held kind q o)) ((joined.0) q e) ∙ (same.0) q ∙ ap (λ (o : Option (Slot V)). is_some (slot_held kind q o)) ((holds.0) q ∙ ap (λ (b : Bool). cond b (slot_at t q) None) e)
+    at true e rest = (ids.0) q e ∙ ap (λ (o : Option (Slot V)). is_some (slot_held kind q o)) ((holds.0) q ∙ ap (λ (b : Bool). cond b (slot_at t q) None) e)
     at false e rest = rest (sym (ap (λ (b : Bool). b || written_by ps q) e) ∙ w)
 
   -- what holds values under the same ids as a hand did, and is joined, holds them in the table
@@ -131,3 +118,15 @@ module _ {V : Type 0} (kind : V → Kind) where
   ids-joined u (p ∷ ps) [] (n ∷ ns) same joined = absurd same
   ids-joined u (p ∷ ps) (h ∷ hs) [] same joined = absurd same
   ids-joined u (p ∷ ps) (h ∷ hs) (n ∷ ns) same joined = ((λ q w. ap (λ (o : Option (Slot V)). is_some (slot_held kind q o)) ((joined.0) q w) ∙ (same.0) q), ids-joined u ps hs ns same.1 joined.1)
+
+  -- A view that was parted and joined holds values under the same ids, where its table does under those that the pairs write.
+  pub held-kept : (u v w : View V) (ps : List Pair) (hs : List (Table V)) → IsSameLoan u v → IsSameLoan v w → AllZip (HoldsWritten u.own.now) ps hs → AllZip (HoldsIdsOf kind w.own.now) ps hs
+      → ((q : ResourceId) → slot_at v.own.now q ≡ cond (written_by ps q) (emptied (slot_at u.own.now q)) (slot_at u.own.now q))
+      → ((q : ResourceId) → written_by ps q ≡ false → slot_at w.own.now q ≡ slot_at v.own.now q)
+      → (q : ResourceId) → is_some (view_held kind w q) ≡ is_some (view_held kind u q)
+  held-kept u v w ps hs one two holds ids left rest q =
+      ap (λ (o : Option (Slot V)). is_some (slot_held kind q (or_slot (slot_at w.own.now q) o))) (same-behind v w two q ∙ same-behind u v one q)
+      ∙ held-over q (slot_at w.own.now q) (slot_at u.own.now q) _ (two.slots q ∙ one.slots q) (at (written_by ps q) refl) where
+        at : (b : Bool) → written_by ps q ≡ b → is_some (held kind w.own.now q) ≡ is_some (held kind u.own.now q)
+        at true e = held-again u.own.now w.own.now ps hs q holds ids e
+        at false e = ap (λ (o : Option (Slot V)). is_some (slot_held kind q o)) (rest q e ∙ left q ∙ ap (λ (b : Bool). cond b (emptied (slot_at u.own.now q)) (slot_at u.own.now q)) e)

@@ -5,7 +5,7 @@ use Rattle.shred_world.specs.declared.table.Slot.{Slot}
 use Rattle.shred_world.specs.declared.table.Table.{Table}
 use Rattle.shred_world.specs.declared.world.data.Shelf.{Shelf}
 use Rattle.shred_world.specs.declared.world.parts.Behind.{Behind}
-use Rattle.shred_world.specs.declared.world.parts.Parts.{Parts}
+use Rattle.shred_world.specs.declared.world.parted.Parts.{Parts}
 use Rattle.shred_world.specs.Parts.{Pair, writes_of, declares}
 use Rattle.shred_world.specs.Shown.{Lent}
 use Rattle.shred_world.specs.Slots.{slot_at, among, or_slot}

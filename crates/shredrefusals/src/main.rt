@@ -1,7 +1,8 @@
 //! Calls of worlds and views, to be run with each request for memory refused in turn.
 //!
 //! Each case prints its name, and `ok` where the answer is that of ample memory, `out of memory` where that is the answer
-//! and all stands as it must, or else `wrong`. The status is 2 where memory was wanting, and else 0.
+//! and all stands as it must, or else `wrong`. The status is 3 where an answer is wrong, 2 where memory was wanting, and
+//! else 0.
 #![tactic(auto)]
 
 mod bundles;
@@ -35,6 +36,14 @@ impl Ended {
         }
     }
 
+    fn status(self) -> u8 {
+        match self {
+            Ended::Ample => 0,
+            Ended::OutOfMemory => 2,
+            Ended::Wrong => 3,
+        }
+    }
+
     fn text(self) -> &'static str {
         match self {
             Ended::Ample => "ok",
@@ -58,9 +67,7 @@ fn cases(alloc: Global) -> [(&'static str, Ended); 6] {
 fn main(rt: HostRuntime) -> ExitCode {
     let mut status = 0;
     for (name, ended) in cases(rt.alloc()) {
-        if ended == Ended::OutOfMemory {
-            status = 2;
-        }
+        status = status.max(ended.status());
         let text = ended.text();
         if writeln!(&mut rt.stdout(), "{name} {text}").is_err() {
             return ExitCode::from(1);

@@ -21,7 +21,7 @@ pub struct Adding {
 }
 
 // Adds to the count under the id, where the view lets it be written.
-fn add(view: &mut View<Value>, id: ResourceId, amount: i64) -> bool
+pub(crate) fn add(view: &mut View<Value>, id: ResourceId, amount: i64) -> bool
     ensures view { IsSameView view.old view.new }
     ensures frame { (q : ResourceId) → may_write view.old q ≡ false → view_held kind_of view.new q ≡ view_held kind_of view.old q }
     ensures ids { (q : ResourceId) → is_some (view_held kind_of view.new q) ≡ is_some (view_held kind_of view.old q) }

@@ -17,7 +17,11 @@ mod own_bundle;
 #[cfg(test)]
 mod parted_calls;
 #[cfg(test)]
+mod parted_in_two;
+#[cfg(test)]
 mod parted_tests;
+#[cfg(test)]
+mod parted_threads;
 #[cfg(test)]
 mod shared_reads;
 #[cfg(test)]

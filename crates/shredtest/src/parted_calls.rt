@@ -1,9 +1,7 @@
 //! Work over the parts of a view.
-ghost use Rattle.std.specs.Prelude.{◌≡◌, ◌||◌, IsTrue, false, is_some, length, OnOk, OnErr};
-ghost use Rattle.std.specs.List.{All, AllZip};
-ghost use Rattle.shred_world.specs.Beside.{pairs_behind, pair_behind, lent_behind};
-ghost use Rattle.shred_world.specs.Parts.{DoNotConflict, HasNothingOut, HoldsSameIds, IsHandOf, reads_of, writes_of};
-ghost use Rattle.shred_world.specs.Shown.{IsSameSlots};
+ghost use Rattle.std.specs.Prelude.{◌≡◌, ◌||◌, IsTrue, false, is_some, length, OnOk, OnErr, ⊤};
+ghost use Rattle.std.specs.List.{All};
+ghost use Rattle.shred_world.specs.Parts.{DoNotConflict, reads_of, writes_of};
 ghost use Rattle.shred_world.specs.Slots.{among};
 ghost use Rattle.shred_world.specs.declared.id.ResourceId.{ResourceId};
 ghost use Rattle.shred_world.specs.Id.{same_id};
@@ -12,16 +10,10 @@ ghost use Rattle.shredtest.specs.Adding.{HasTurnedOften};
 ghost use Rattle.shredtest.specs.Values.{kind_of};
 
 use crate::adding::Adding;
+use crate::parted_in_two::{OverTwo, TwoCounts, TwoOut, over_parts};
 use crate::values::{Count, Value};
-use shred::{Behind, DataError, OutOfMemory, ResourceId, Table, View, World};
+use shred::{Behind, OutOfMemory, ResourceId, Table, View, World};
 use std::alloc::Global;
-
-// The ids of two counts.
-#[derive(Clone, Copy)]
-struct TwoCounts {
-    first: ResourceId,
-    second: ResourceId,
-}
 
 // Exchanges the counts that two views may write, if both are held.
 fn exchange(one: &mut View<Value>, two: &mut View<Value>, ids: TwoCounts) -> bool
@@ -44,71 +36,28 @@ fn exchange(one: &mut View<Value>, two: &mut View<Value>, ids: TwoCounts) -> boo
     true
 }
 
-// The same over the views of the first two parts, which are there at the same time.
-fn exchange_beside(
-    behind: &Behind<Value>,
-    one: &mut Table<Value>,
-    two: &mut Table<Value>,
-    ids: TwoCounts,
-) -> bool
-    requires two { length (pairs_behind behind.now) ≡ 2 }
-    requires front { IsHandOf (lent_behind behind.now) (pair_behind behind.now 0) one.old }
-    requires back { IsHandOf (lent_behind behind.now) (pair_behind behind.now 1) two.old }
-    ensures one { IsSameSlots one.old one.new }
-    ensures two { IsSameSlots two.old two.new }
-    ensures one_given_back { HasNothingOut one.new }
-    ensures two_given_back { HasNothingOut two.new }
-    ensures first_ids { HoldsSameIds kind_of one.old one.new }
-    ensures second_ids { HoldsSameIds kind_of two.old two.new }
-{
-    let mut front = behind.view(0, one);
-    let mut back = behind.view(1, two);
-    exchange(&mut front, &mut back, ids)
+// The same over the views of two parts, which are there at the same time.
+#[derive(Drop)]
+struct Exchanging {
+    counts: TwoCounts,
+    took_place: bool,
 }
 
-// The same over the two hands of parts.
-fn exchange_in_hands(behind: &Behind<Value>, hands: &mut [Table<Value>], ids: TwoCounts) -> bool
-    requires parts { length (pairs_behind behind.now) ≡ 2 }
-    requires two { length hands.old ≡ 2 }
-    requires hands { AllZip (IsHandOf (lent_behind behind.now)) (pairs_behind behind.now) hands.old }
-    ensures slots { AllZip IsSameSlots hands.old hands.new }
-    ensures given_back { All HasNothingOut hands.new }
-    ensures ids { AllZip (HoldsSameIds kind_of) hands.old hands.new }
-{
-    let (front, back) = hands.split_at_mut(1);
-    exchange_beside(behind, &mut front[0], &mut back[0], ids)
+impl OverTwo for Exchanging {
+    ghost asks = { ⊤ };
+
+    fn run(&mut self, behind: &Behind<Value>, one: &mut Table<Value>, two: &mut Table<Value>) {
+        let mut front = behind.view(0, one);
+        let mut back = behind.view(1, two);
+        self.took_place = exchange(&mut front, &mut back, self.counts);
+    }
 }
 
-// Whether the two counts are out of the view.
-fn are_taken(view: &View<Value>, ids: TwoCounts) -> bool {
-    view.read::<Count>(ids.first).copied() == Err(DataError::Taken(ids.first))
-        && view.read::<Count>(ids.second).copied() == Err(DataError::Taken(ids.second))
-}
-
-// Parts the view in two, exchanges two counts over the views of the parts, and joins them. Meanwhile the two are out of
-// the view, if it has slots for them.
-fn exchange_parted(
-    alloc: Global,
-    view: &mut View<Value>,
-    pairs: &[(&[ResourceId], &[ResourceId])],
-    ids: TwoCounts,
-) -> Result<bool, OutOfMemory>
-    requires nothing_out { (id : ResourceId) → is_out view.old id ≡ false }
-    requires reads_within { All (λ p. (id : ResourceId) → IsTrue (among (reads_of p) id) → IsTrue (may_read view.old id)) pairs.now }
-    requires writes_within { All (λ p. (id : ResourceId) → IsTrue (among (writes_of p) id) → IsTrue (may_write view.old id)) pairs.now }
-    requires apart { DoNotConflict pairs.now }
-    requires two { length pairs.now ≡ 2 }
-    ensures { IsSameView view.old view.new }
-{
-    let mut parts = match view.part(alloc, pairs) {
-        Ok(parts) => parts,
-        Err(error) => return Err(error),
-    };
-    let behind = parts.behind(view);
-    let exchanged = exchange_in_hands(&behind, parts.hands.as_mut_slice(), ids);
-    let taken = are_taken(view, ids);
-    parts.join(view);
-    Ok(exchanged & taken)
+/// What was seen of an exchange: whether it took place, and which counts were out of the view that was parted.
+#[derive(Clone, Copy)]
+pub struct Exchanged {
+    pub took_place: bool,
+    pub out: TwoOut,
 }
 
 /// Exchanges two counts of the world, each written by a part of its own.
@@ -117,7 +66,7 @@ pub fn exchange_over_parts(
     world: &mut World<Value>,
     first: ResourceId,
     second: ResourceId,
-) -> Result<bool, OutOfMemory>
+) -> Result<Exchanged, OutOfMemory>
     requires { same_id first second ≡ false }
 {
     let one = [first];
@@ -125,7 +74,18 @@ pub fn exchange_over_parts(
     let pairs: [(&[ResourceId], &[ResourceId]); 2] = [(&[], &one), (&[], &two)];
     let both = [first, second];
     let mut view = world.lend(&[], &both);
-    exchange_parted(alloc, &mut view, &pairs, TwoCounts { first, second })
+    let counts = TwoCounts { first, second };
+    let mut exchanging = Exchanging {
+        counts,
+        took_place: false,
+    };
+    match over_parts(alloc, &mut view, &pairs, counts, &mut exchanging) {
+        Ok(out) => Ok(Exchanged {
+            took_place: exchanging.took_place,
+            out,
+        }),
+        Err(error) => Err(error),
+    }
 }
 
 // Works over the parts of the view that is narrowed to these lists.

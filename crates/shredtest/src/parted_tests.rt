@@ -4,7 +4,8 @@ ghost use Rattle.shred_world.specs.Id.{id_of};
 ghost use Rattle.shredtest.specs.Values.{count_kind};
 
 use crate::adding::Adding;
-use crate::parted_calls::{exchange_over_parts, work_over_none, work_over_three};
+use crate::parted_calls::{Exchanged, exchange_over_parts, work_over_none, work_over_three};
+use crate::parted_threads::add_on_threads;
 use crate::values::{Count, Value};
 use shred::{Kind, ResourceId, World};
 use std::test::Fail;
@@ -117,7 +118,7 @@ fn no_parts_leave_all_as_it_was(rt: HostRuntime) -> Result<(), Fail> {
 }
 
 // Exchanges the counts under numbers 1 and 2.
-fn exchanged(rt: &HostRuntime, world: &mut World<Value>) -> Result<bool, Fail> {
+fn exchange_one_and_two(rt: &HostRuntime, world: &mut World<Value>) -> Result<Exchanged, Fail> {
     let answer = exchange_over_parts(rt.alloc(), world, number(1), number(2));
     Ok(answer.map_err(|_| "memory")?)
 }
@@ -125,7 +126,9 @@ fn exchanged(rt: &HostRuntime, world: &mut World<Value>) -> Result<bool, Fail> {
 #[test]
 fn views_of_two_parts_are_there_at_the_same_time(rt: HostRuntime) -> Result<(), Fail> {
     let mut world = world_of(&rt, &[(0, 10), (1, 1), (2, 2)])?;
-    assert!(rt; exchanged(&rt, &mut world)?);
+    let exchange = exchange_one_and_two(&rt, &mut world)?;
+    assert!(rt; exchange.took_place);
+    assert!(rt; exchange.out.first && exchange.out.second);
     assert_eq!(rt; count_at(&world, 0), Some(10));
     assert_eq!(rt; count_at(&world, 1), Some(2));
     assert_eq!(rt; count_at(&world, 2), Some(1));
@@ -135,8 +138,22 @@ fn views_of_two_parts_are_there_at_the_same_time(rt: HostRuntime) -> Result<(), 
 #[test]
 fn a_value_that_the_other_part_lacks_is_not_exchanged(rt: HostRuntime) -> Result<(), Fail> {
     let mut world = world_of(&rt, &[(0, 10), (1, 1)])?;
-    assert!(rt; !exchanged(&rt, &mut world)?);
+    let exchange = exchange_one_and_two(&rt, &mut world)?;
+    assert!(rt; !exchange.took_place);
+    assert!(rt; exchange.out.first && !exchange.out.second);
     assert_eq!(rt; count_at(&world, 1), Some(1));
     assert_eq!(rt; count_at(&world, 2), None);
+    Ok(())
+}
+
+#[test]
+fn views_of_two_parts_are_used_on_two_threads(rt: HostRuntime) -> Result<(), Fail> {
+    let mut world = world_of(&rt, &[(0, 10), (1, 20), (2, 30)])?;
+    let out = add_on_threads(&rt, rt.alloc(), &mut world, number(0), number(1));
+    let out = out.map_err(|_| "memory")?;
+    assert!(rt; out.first && out.second);
+    assert_eq!(rt; count_at(&world, 0), Some(11));
+    assert_eq!(rt; count_at(&world, 1), Some(21));
+    assert_eq!(rt; count_at(&world, 2), Some(30));
     Ok(())
 }

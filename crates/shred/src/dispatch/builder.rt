@@ -82,8 +82,9 @@ impl<V: ResourceValue, S: System<V>> DispatcherBuilder<V, S> {
         builder
     }
 
-    /// Puts the plan's text and a line feed into the sink. Where a system has no name, nothing is put, and the answer names
-    /// the first such id in the plan's order. The printed names are the known ones. It takes no memory.
+    /// Puts the plan's text and a line feed into the sink. Where a system has no name, nothing is put, and the answer is
+    /// `Unnamed` with the first such id in the plan's order. Where the sink fails, it is `Write`, and a beginning of the
+    /// text was put. The printed names are the known ones. It takes no memory.
     pub fn print_par_seq<W: PlanSink>(&self, sink: &mut W) -> Result<(), PrintError>
         ensures printed { let plan = (built self.now).plan in let pairs = builder_pairs self.now in
             IsPrinted W.told W.failures sink.old sink.new (first_unnamed pairs (plan_ids plan)) (plan_text pairs plan ++ line_feed) result }

@@ -204,8 +204,8 @@ impl<V: ResourceValue + Drop, S: System<V, Error = E>, E: Drop> Stage<V, S> {
     ghost use Rattle.shred.specs.StagePlan.{stage_plan};
 
     /// Runs every group, one after the other, each up to its first system that is not Done, on the caller's thread. The
-    /// memory that the stage needs is taken before any group begins; where it is refused, the answer is `Memory`, and
-    /// nothing has run.
+    /// answer is that of the first group, in order, that is not Done. The memory that the stage needs is taken before any
+    /// group begins; where it is refused, the answer is `Memory`, and nothing has run.
     pub fn execute_seq(&mut self, world: &mut World<V>) -> Result<(), StageFault<E>>
         ensures ran { LeavesAsOneThread (λ list. StageTurn V.kind_of S.step (stage_plan self.old) list result) (setting_of (stage_states self.old) (world_held V.kind_of world.old)) (setting_of (stage_states self.new) (world_held V.kind_of world.new)) }
         ensures plan { stage_plan self.new ≡ stage_plan self.old }
@@ -234,8 +234,10 @@ where
     ghost use Rattle.shred.specs.StagePlan.{stage_plan};
 
     /// Runs every group, each up to its first system that is not Done, beside each other in two halves on two threads. A
-    /// half whose thread cannot be started runs on the caller's thread. The memory that the stage needs is taken before
-    /// any group begins; where it is refused, the answer is `Memory`, and nothing has run.
+    /// half whose thread cannot be started runs on the caller's thread, and so does a stage of one group. The answer is
+    /// that of the first group, in order, that is not Done, whichever refused first in time. The memory that the stage
+    /// needs, but that of a thread's start, is taken before any group begins; where it is refused, the answer is
+    /// `Memory`, and nothing has run.
     pub fn execute<R: Threads + Sync>(
         &mut self,
         rt: &R,

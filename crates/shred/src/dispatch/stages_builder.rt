@@ -82,7 +82,8 @@ impl<V: ResourceValue, S: System<V>> StagesBuilder<V, S> {
     }
 
     /// Gives the system its place in the plan, in the barrier's stage or a later one. Each dependency that the plan has
-    /// stands in an earlier stage, or earlier in the same group. Where memory is refused, the system is dropped.
+    /// stands in an earlier stage, or earlier in the same group. Where memory is refused, the plan is as it was, and the
+    /// system is dropped.
     pub fn insert(
         &mut self,
         dependencies: &[SystemId],
@@ -135,7 +136,8 @@ impl<V: ResourceValue, S: System<V>> StagesBuilder<V, S> {
     }
 
     /// Puts the plan's text into the sink, with the least name, by its bytes, that stands for each id. Where an id has no
-    /// name, nothing is put, and the answer names the first such id in the plan's order. It takes no memory.
+    /// name, nothing is put, and the answer is `Unnamed` with the first such id in the plan's order. Where the sink fails,
+    /// it is `Write`, and a beginning of the text was put. It takes no memory.
     pub fn write_par_seq<W: PlanSink>(
         &self,
         sink: &mut W,

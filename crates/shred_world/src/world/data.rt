@@ -62,7 +62,7 @@ impl<'s, V> Shelf<'s, V> {
     }
 }
 
-/// The declared ids of one system, each with its value where the world holds it.
+/// What is lent of a world: ids that may be read or written, each with its value where one is held.
 #[derive(Drop)]
 pub struct View<'s, 'a, V> {
     reads: &'s [ResourceId],
@@ -229,9 +229,7 @@ impl<'s, 'a, V: ResourceValue> View<'s, 'a, V> {
             own: &mut *self.own,
         }
     }
-}
 
-impl<'s, 'a, V: ResourceValue> View<'s, 'a, V> {
     // The view of all that a table holds, to read and to write.
     pub(crate) fn whole(own: &'a mut Table<V>) -> Self
         ensures name { result.own.ghost_name ≡ own.entry.ghost_name }

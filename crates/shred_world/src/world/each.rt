@@ -14,7 +14,8 @@ use crate::id::ResourceId;
 use crate::resource::ResourceValue;
 use crate::table::Table;
 use crate::world::data::View;
-use crate::world::parts::{Behind, Parts};
+use crate::world::parted::Parts;
+use crate::world::parts::Behind;
 use std::alloc::Global;
 
 /// What is done over the view of one part.
@@ -101,8 +102,6 @@ impl<'s, 'a, V: ResourceValue + Drop> View<'s, 'a, V> {
     // Works over the hands of parts, and over what lies behind them: what the view shows now.
     fn work_parted<W: ViewWork<V>>(&self, parts: &mut Parts<V>, work: &mut W)
         requires lender { table_of self.now ≡ lender_of parts.old }
-        requires reads_within { All (λ p. (id : ResourceId) → IsTrue (among (reads_of p) id) → IsTrue (may_read self.now id)) (pairs_of parts.old) }
-        requires writes_within { All (λ p. (id : ResourceId) → IsTrue (among (writes_of p) id) → IsTrue (may_write self.now id)) (pairs_of parts.old) }
         requires hands { AllZip (IsHandOf (view_slot self.now)) (pairs_of parts.old) parts.old.hands.items }
         ensures worked { IsWorkedEach V.kind_of W.works (view_slot self.now) (pairs_of parts.old) parts.old.hands.items work.old parts.new.hands.items work.new }
         ensures lender { lender_of parts.new ≡ lender_of parts.old }

@@ -26,6 +26,7 @@ mod exec;
 pub mod fetch;
 pub mod handing;
 pub mod lent;
+pub mod parted;
 pub mod parts;
 pub mod read;
 pub mod setup;

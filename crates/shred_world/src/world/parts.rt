@@ -14,6 +14,7 @@ use crate::id::ResourceId;
 use crate::resource::ResourceValue;
 use crate::table::Table;
 use crate::world::data::{Shelf, View};
+use crate::world::parted::Parts;
 use crate::world::tuples::joined;
 use std::alloc::Global;
 use std::snapshot::Snapshot;
@@ -137,16 +138,6 @@ pub(crate) fn shelf_before<'b, V>(
     }
 }
 
-/// The parts of a view: for each pair of lists a hand, with the values that the pair writes. They cannot be dropped, and
-/// must be joined.
-pub struct Parts<'p, 'a, V> {
-    pub(crate) pairs: &'p [(&'p [ResourceId], &'p [ResourceId])],
-    pub(crate) lender: Snapshot<&'a mut Table<V>>,
-    pub(crate) parted: Snapshot<Vec<Table<V>>>,
-    /// The hands, in the order of the pairs.
-    pub hands: Vec<Table<V>>,
-}
-
 impl<'s, 'a, V: ResourceValue + Drop> View<'s, 'a, V> {
     /// Moves the values of the ids that each pair writes into a hand of the pair. The slots that they leave stay, and the
     /// ids of these slots are out until `Parts::join` moves the values back. If memory is refused, nothing was moved.
@@ -195,9 +186,7 @@ impl<'s, 'a, V: ResourceValue + Drop> View<'s, 'a, V> {
 impl<'p, 'a, V: ResourceValue + Drop> Parts<'p, 'a, V> {
     /// What lies behind the hands, for views of the parts.
     pub fn behind<'b>(&self, lender: &'b View<V>) -> Behind<'p, 'b, V>
-        requires lender { table_of lender.now ≡ lender_of self.now }
-        requires reads_within { All (λ p. (id : ResourceId) → IsTrue (among (reads_of p) id) → IsTrue (may_read lender.now id)) (pairs_of self.now) }
-        requires writes_within { All (λ p. (id : ResourceId) → IsTrue (among (writes_of p) id) → IsTrue (may_write lender.now id)) (pairs_of self.now) }
+        requires { table_of lender.now ≡ lender_of self.now }
         ensures pairs { pairs_behind result ≡ pairs_of self.now }
         ensures shelf { (q : ResourceId) → lent_behind result q ≡ view_slot lender.now q }
     {
@@ -212,7 +201,6 @@ impl<'p, 'a, V: ResourceValue + Drop> Parts<'p, 'a, V> {
         requires lender { table_of lender.old ≡ lender_of self }
         requires out { (id : ResourceId) → is_out lender.old id ≡ (written_by (pairs_of self) id && is_some (slot_at (table_in lender.old) id)) }
         requires given_back { All HasNothingOut self.hands.items }
-        requires apart { DoNotConflict (pairs_of self) }
         requires fit { AllZip (Fits (table_in lender.old)) (pairs_of self) self.hands.items }
         requires kept { AllZip (HoldsSameIds V.kind_of) (parted_of self) self.hands.items }
         ensures loan { IsSameLoan lender.old lender.new }

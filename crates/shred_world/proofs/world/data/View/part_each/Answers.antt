@@ -1,27 +1,16 @@
-use Rattle.std.proofs.Common.{◌≡◌, ◌&&◌, IsTrue, Bool, true, false, List, refl, sym, subst, ◌∙◌, ap}
+use Rattle.std.proofs.Common.{◌&&◌, Bool, List, sym, subst, ◌∙◌, ap}
 use Rattle.std.specs.Prelude.{is_some}
-use Rattle.std.specs.List.{All, AllZip}
-use Rattle.shred_world.specs.declared.id.ResourceId.{ResourceId}
+use Rattle.std.specs.List.{AllZip}
 use Rattle.shred_world.specs.declared.table.Table.{Table}
-use Rattle.shred_world.specs.Parts.{Pair, DoNotConflict, reads_of, writes_of, written_by, HoldsSameIds, Fits, IsHandOf, IsJoined}
-use Rattle.shred_world.specs.Slots.{slot_at, slot_held, among, or_slot}
-use Rattle.shred_world.specs.Views.{may_read, may_write, view_slot}
+use Rattle.shred_world.specs.Parts.{Pair, written_by, HoldsSameIds, HoldsIdsOf, Fits, IsHandOf, IsJoined}
+use Rattle.shred_world.specs.Slots.{slot_at, or_slot}
+use Rattle.shred_world.specs.Views.{view_slot}
 use Rattle.shred_world.specs.Worked.{IsWorkedEach}
-use Rattle.shred_world.proofs.Beside.{held-over, held-joined, same-behind, same-may_read, same-may_write, same-again}
+use Rattle.shred_world.proofs.Beside.{held-kept, same-behind, same-again}
 use Rattle.shred_world.proofs.Parted.{fit-again}
 use Rattle.shred_world.proofs.Refusals.{hidden}
 use Rattle.shred_world.proofs.Worked.{worked-apart, each-slots, each-ids, each-given_back}
 use Rattle.shred_world.proofs.world.data.View.part_each.Goals as goal
-
-pub work_parted-requires-clause-reads_within : goal.work_parted-requires-clause-reads_within
-work_parted-requires-clause-reads_within g c =
-    subst (All (λ p. (q : ResourceId) → IsTrue (among (reads_of p) q) → IsTrue (may_read c.part.new.self q))) (sym c.in-Ok.ensures.pairs)
-    (λ i d below q reads. same-may_read c.args.self.now c.part.new.self c.in-Ok.ensures.loan q ∙ c.requires.reads_within i d below q reads)
-
-pub work_parted-requires-clause-writes_within : goal.work_parted-requires-clause-writes_within
-work_parted-requires-clause-writes_within g c =
-    subst (All (λ p. (q : ResourceId) → IsTrue (among (writes_of p) q) → IsTrue (may_write c.part.new.self q))) (sym c.in-Ok.ensures.pairs)
-    (λ i d below q writes. same-may_write c.args.self.now c.part.new.self c.in-Ok.ensures.loan q ∙ c.requires.writes_within i d below q writes)
 
 pub work_parted-requires-clause-hands : goal.work_parted-requires-clause-hands
 work_parted-requires-clause-hands g c =
@@ -38,9 +27,6 @@ pub join-requires-clause-out : goal.join-requires-clause-out
 join-requires-clause-out g c = λ q. c.in-Ok.ensures.out q
     ∙ ap (λ (b : Bool). written_by c.args.pairs.now q && b) (sym (c.in-Ok.ensures.loan.slots q))
     ∙ ap (λ (ps : List Pair). written_by ps q && is_some (slot_at c.part.new.self.own.now q)) (sym (c.work_parted.ensures.pairs ∙ c.in-Ok.ensures.pairs))
-
-pub join-requires-clause-apart : goal.join-requires-clause-apart
-join-requires-clause-apart g c = subst DoNotConflict (sym (c.work_parted.ensures.pairs ∙ c.in-Ok.ensures.pairs)) c.requires.apart
 
 pub join-requires-clause-given_back : goal.join-requires-clause-given_back
 join-requires-clause-given_back g c =
@@ -81,22 +67,13 @@ returns-clause-worked g c =
     (subst (λ (ps : List Pair). IsWorkedEach kind works (view_slot now) ps hands c.args.work.now left c.work_parted.new.work) c.in-Ok.ensures.pairs c.work_parted.ensures.worked)
 
 pub returns-clause-ids : goal.returns-clause-ids
-returns-clause-ids g c = λ q.
+returns-clause-ids g c =
     let kind = g.V.ResourceValue.kind_of in
-    let pairs = c.args.pairs.now in
-    let was = c.args.self.now in
     let now = c.part.new.self in
     let new = c.join.new.lender in
     let hands = c.in-Ok.parts.hands.items in
-    let left = c.work_parted.new.parts.hands.items in
     let same = c.work_parted.ensures.pairs ∙ c.in-Ok.ensures.pairs in
-    let slots : is_some (slot_at new.own.now q) ≡ is_some (slot_at was.own.now q) = c.join.ensures.loan.slots q ∙ c.in-Ok.ensures.loan.slots q in
-    let ids = subst (λ (ps : List Pair). AllZip (IsJoined new.own.now) ps left) same c.join.ensures.joined in
-    let at : (b : Bool) → written_by pairs q ≡ b → is_some (slot_held kind q (slot_at new.own.now q)) ≡ is_some (slot_held kind q (slot_at was.own.now q)) = λ b.
-    elim b as (λ b. written_by pairs q ≡ b → is_some (slot_held kind q (slot_at new.own.now q)) ≡ is_some (slot_held kind q (slot_at was.own.now q))) [
-      | true ↦ λ w. held-joined kind was.own.now new.own.now pairs hands left q c.in-Ok.ensures.hands
-          (each-ids kind g.W.ViewWork.works (view_slot now) c.in-Ok.parts.pairs.now hands c.args.work.now left c.work_parted.new.work c.work_parted.ensures.worked) ids w
-      | false ↦ λ w. ap (λ o. is_some (slot_held kind q o)) (c.join.ensures.rest q (ap (λ (ps : List Pair). written_by ps q) same ∙ w) ∙ c.in-Ok.ensures.left q ∙ rw w refl)
-    ] in
-    ap (λ o. is_some (slot_held kind q (or_slot (slot_at new.own.now q) o))) (same-behind now new c.join.ensures.loan q ∙ same-behind was now c.in-Ok.ensures.loan q)
-    ∙ held-over kind q (slot_at new.own.now q) (slot_at was.own.now q) _ slots (at (written_by pairs q) refl)
+    let ids = subst (λ (ps : List Pair). AllZip (HoldsIdsOf kind new.own.now) ps hands) same
+    (subst (λ (was : List (Table g.row.V.Denot)). AllZip (HoldsIdsOf kind new.own.now) c.work_parted.new.parts.pairs.now was) (c.work_parted.ensures.parted ∙ c.in-Ok.ensures.parted) c.join.ensures.ids) in
+    held-kept kind c.args.self.now now new c.args.pairs.now hands c.in-Ok.ensures.loan c.join.ensures.loan c.in-Ok.ensures.hands ids c.in-Ok.ensures.left
+    (λ q out. c.join.ensures.rest q (ap (λ (ps : List Pair). written_by ps q) same ∙ out))

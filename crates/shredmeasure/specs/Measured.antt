@@ -12,7 +12,7 @@ use Rattle.shredmeasure.specs.Random.{AreDrawnOften}
 abbrev pub HasCountEach : ℕ → ℕ → Held Value → Type 0
 HasCountEach systems times held = (number : ℕ) → 0 < number → number ≤ systems → held (count_id number) ≡ Some (count_of (int_wrap w64 (pos times)))
 
--- Where systems are dispatched, their number times that of the dispatches, wrapped to 64 bits with sign; where plans are built, the number of stages of so many random plans, at most the greatest number of 64 bits with sign.
+-- Where systems are dispatched, their number times that of the dispatches, wrapped to 64 bits with sign; where plans are built, the number of stages of so many random plans, wrapped to 64 bits and then at most the greatest number of 64 bits with sign.
 abbrev pub IsMeasured : Mode → ℕ → ℕ → ℤ → Type 0
 IsMeasured (Dispatching place) systems times sum = sum ≡ int_wrap w64 (pos (systems * times))
 IsMeasured Planning systems times sum = (stages : ℕ) × (left : ℕ) × AreDrawnOften systems times systems stages left × (sum ≡ pos (min stages (2 ^ 63 - 1)))

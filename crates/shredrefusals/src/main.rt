@@ -1,8 +1,8 @@
 //! Calls of worlds and views, to be run with each request for memory refused in turn.
 //!
 //! Each case prints its name, and `ok` where the answer is that of ample memory, `out of memory` where that is the answer
-//! and all stands as it must, or else `wrong`. The status is 3 where an answer is wrong, 2 where memory was wanting, and
-//! else 0.
+//! and all stands as it must, or else `wrong`. The status is 1 where a line cannot be printed, 3 where an answer is wrong,
+//! 2 where memory was wanting, and else 0.
 #![tactic(auto)]
 
 mod bundles;

@@ -2,4 +2,4 @@ pub mod KeptIds
 pub mod GivenBack
 pub mod Turned
 pub mod SameViews
-mod Exchanged
+mod BothHands

@@ -44,7 +44,7 @@ struct Exchanging {
 }
 
 impl OverTwo for Exchanging {
-    ghost asks = { ⊤ };
+    ghost needs = { ⊤ };
 
     fn run(&mut self, behind: &Behind<Value>, one: &mut Table<Value>, two: &mut Table<Value>) {
         let mut front = behind.view(0, one);

@@ -16,10 +16,10 @@ use std::alloc::Global;
 
 /// What is done over the hands of two parts. It gives back what it took out of them, and they hold the same ids after.
 pub trait OverTwo {
-    ghost asks: { Type 0 };
+    ghost needs: { Type 0 };
 
     fn run(&mut self, behind: &Behind<Value>, one: &mut Table<Value>, two: &mut Table<Value>)
-        requires asks { asks }
+        requires needs { needs }
         requires parts { length (pairs_behind behind.now) ≡ 2 }
         requires front { IsHandOf (lent_behind behind.now) (pair_behind behind.now 0) one.old }
         requires back { IsHandOf (lent_behind behind.now) (pair_behind behind.now 1) two.old }
@@ -47,7 +47,7 @@ pub struct TwoOut {
 
 // Works over two hands.
 fn over_hands<W: OverTwo>(behind: &Behind<Value>, hands: &mut [Table<Value>], work: &mut W)
-    requires asks { W.asks }
+    requires needs { W.needs }
     requires parts { length (pairs_behind behind.now) ≡ 2 }
     requires two { length hands.old ≡ 2 }
     requires hands { AllZip (IsHandOf (lent_behind behind.now)) (pairs_behind behind.now) hands.old }
@@ -72,7 +72,7 @@ pub fn over_parts<W: OverTwo>(
     counts: TwoCounts,
     work: &mut W,
 ) -> Result<TwoOut, OutOfMemory>
-    requires asks { W.asks }
+    requires needs { W.needs }
     requires nothing_out { (id : ResourceId) → is_out view.old id ≡ false }
     requires reads_within { All (λ p. (id : ResourceId) → IsTrue (among (reads_of p) id) → IsTrue (may_read view.old id)) pairs.now }
     requires writes_within { All (λ p. (id : ResourceId) → IsTrue (among (writes_of p) id) → IsTrue (may_write view.old id)) pairs.now }

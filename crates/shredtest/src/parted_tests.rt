@@ -5,7 +5,7 @@ ghost use Rattle.shredtest.specs.Values.{count_kind};
 
 use crate::adding::Adding;
 use crate::parted_calls::{Exchanged, exchange_over_parts, work_over_none, work_over_three};
-use crate::parted_threads::add_on_threads;
+use crate::parted_threads::add_beside;
 use crate::values::{Count, Value};
 use shred::{Kind, ResourceId, World};
 use std::test::Fail;
@@ -147,10 +147,9 @@ fn a_value_that_the_other_part_lacks_is_not_exchanged(rt: HostRuntime) -> Result
 }
 
 #[test]
-fn views_of_two_parts_are_used_on_two_threads(rt: HostRuntime) -> Result<(), Fail> {
+fn two_parts_are_worked_over_in_the_halves_of_a_fork(rt: HostRuntime) -> Result<(), Fail> {
     let mut world = world_of(&rt, &[(0, 10), (1, 20), (2, 30)])?;
-    let out = add_on_threads(&rt, rt.alloc(), &mut world, number(0), number(1));
-    let out = out.map_err(|_| "memory")?;
+    let out = add_beside(&rt, rt.alloc(), &mut world).map_err(|_| "memory")?;
     assert!(rt; out.first && out.second);
     assert_eq!(rt; count_at(&world, 0), Some(11));
     assert_eq!(rt; count_at(&world, 1), Some(21));

@@ -184,7 +184,7 @@ impl<'s, 'a, V: ResourceValue + Drop> View<'s, 'a, V> {
 }
 
 impl<'p, 'a, V: ResourceValue + Drop> Parts<'p, 'a, V> {
-    /// What lies behind the hands, for views of the parts.
+    /// What lies behind the hands, for views of the parts. The lender is the view that was parted.
     pub fn behind<'b>(&self, lender: &'b View<V>) -> Behind<'p, 'b, V>
         requires { table_of lender.now ≡ lender_of self.now }
         ensures pairs { pairs_behind result ≡ pairs_of self.now }

@@ -6,7 +6,7 @@ use Rattle.shred_world.specs.Parts.{Pair, HasNothingOut, HoldsSameIds, IsHandOf}
 use Rattle.shred_world.specs.Shown.{IsSameSlots}
 use Rattle.shredtest.specs.Values.{kind_of}
 use Rattle.shredtest.specs.declared.values.Value.{Value}
-use Rattle.shredtest.proofs.Exchanged.{both-given, both-related, both-hold}
+use Rattle.shredtest.proofs.BothHands.{both-given, both-related, both-hold}
 use Rattle.shredtest.proofs.parted_in_two.over_hands.Goals as goal
 
 abbrev none : Pair

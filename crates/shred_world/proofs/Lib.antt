@@ -13,4 +13,5 @@ pub mod Beside
 pub mod Worked
 pub mod Grants
 pub mod Bundles
+pub mod Both
 pub mod Whole

@@ -23,6 +23,28 @@ pub(crate) fn joined(
     }
 }
 
+// The ids that the bundle reads, behind these.
+fn with_reads_of<'s, V: ResourceValue, A: SystemData<'s, V>>(
+    ids: Vec<ResourceId>,
+    alloc: Global,
+) -> Result<Vec<ResourceId>, OutOfMemory>
+    ensures { IfOk result (λ joined. joined.items ≡ ids.items ++ A.read_ids) }
+{
+    let more = A::reads(alloc)?;
+    joined(ids, more.as_slice())
+}
+
+// The ids that the bundle writes, behind these.
+fn with_writes_of<'s, V: ResourceValue, A: SystemData<'s, V>>(
+    ids: Vec<ResourceId>,
+    alloc: Global,
+) -> Result<Vec<ResourceId>, OutOfMemory>
+    ensures { IfOk result (λ joined. joined.items ≡ ids.items ++ A.written_ids) }
+{
+    let more = A::writes(alloc)?;
+    joined(ids, more.as_slice())
+}
+
 impl<'s, V: ResourceValue, A: SystemData<'s, V>> SystemData<'s, V> for (A,) {
     ghost read_ids = { A.read_ids };
 
@@ -103,25 +125,13 @@ impl<'s, V: ResourceValue, A: SystemData<'s, V>, B: SystemData<'s, V>> SystemDat
     }
 
     fn reads(alloc: Global) -> Result<Vec<ResourceId>, OutOfMemory> {
-        let ids = match A::reads(alloc) {
-            Ok(ids) => ids,
-            Err(error) => return Err(error),
-        };
-        match B::reads(alloc) {
-            Ok(more) => joined(ids, more.as_slice()),
-            Err(error) => Err(error),
-        }
+        let ids = A::reads(alloc)?;
+        with_reads_of::<V, B>(ids, alloc)
     }
 
     fn writes(alloc: Global) -> Result<Vec<ResourceId>, OutOfMemory> {
-        let ids = match A::writes(alloc) {
-            Ok(ids) => ids,
-            Err(error) => return Err(error),
-        };
-        match B::writes(alloc) {
-            Ok(more) => joined(ids, more.as_slice()),
-            Err(error) => Err(error),
-        }
+        let ids = A::writes(alloc)?;
+        with_writes_of::<V, B>(ids, alloc)
     }
 }
 
@@ -145,27 +155,43 @@ impl<
     ghost moved = { λ bundle. (A.moved bundle.0 ++ B.moved bundle.1) ++ C.moved bundle.2 };
 
     fn setup(world: &mut World<V>) -> Result<(), WorldError> {
-        <((A, B), C)>::setup(world)
+        if let Err(error) = <(A, B)>::setup(world) {
+            return Err(error);
+        }
+        C::setup(world)
     }
 
     fn fetch(view: &mut View<'s, '_, V>) -> Result<Self, DataError> {
-        match <((A, B), C)>::fetch(view) {
-            Ok(((a, b), c)) => Ok((a, b, c)),
-            Err(error) => Err(error),
+        let first = match <(A, B)>::fetch(view) {
+            Ok(first) => first,
+            Err(error) => return Err(error),
+        };
+        match C::fetch(view) {
+            Ok(c) => {
+                let (a, b) = first;
+                Ok((a, b, c))
+            }
+            Err(error) => {
+                first.give_back(view);
+                Err(error)
+            }
         }
     }
 
     fn give_back(self, view: &mut View<'s, '_, V>) {
         let (a, b, c) = self;
-        ((a, b), c).give_back(view);
+        c.give_back(view);
+        (a, b).give_back(view);
     }
 
     fn reads(alloc: Global) -> Result<Vec<ResourceId>, OutOfMemory> {
-        <((A, B), C)>::reads(alloc)
+        let ids = <(A, B)>::reads(alloc)?;
+        with_reads_of::<V, C>(ids, alloc)
     }
 
     fn writes(alloc: Global) -> Result<Vec<ResourceId>, OutOfMemory> {
-        <((A, B), C)>::writes(alloc)
+        let ids = <(A, B)>::writes(alloc)?;
+        with_writes_of::<V, C>(ids, alloc)
     }
 }
 
@@ -190,27 +216,43 @@ impl<
     ghost moved = { λ bundle. ((A.moved bundle.0 ++ B.moved bundle.1) ++ C.moved bundle.2) ++ D.moved bundle.3 };
 
     fn setup(world: &mut World<V>) -> Result<(), WorldError> {
-        <((A, B, C), D)>::setup(world)
+        if let Err(error) = <(A, B, C)>::setup(world) {
+            return Err(error);
+        }
+        D::setup(world)
     }
 
     fn fetch(view: &mut View<'s, '_, V>) -> Result<Self, DataError> {
-        match <((A, B, C), D)>::fetch(view) {
-            Ok(((a, b, c), d)) => Ok((a, b, c, d)),
-            Err(error) => Err(error),
+        let first = match <(A, B, C)>::fetch(view) {
+            Ok(first) => first,
+            Err(error) => return Err(error),
+        };
+        match D::fetch(view) {
+            Ok(d) => {
+                let (a, b, c) = first;
+                Ok((a, b, c, d))
+            }
+            Err(error) => {
+                first.give_back(view);
+                Err(error)
+            }
         }
     }
 
     fn give_back(self, view: &mut View<'s, '_, V>) {
         let (a, b, c, d) = self;
-        ((a, b, c), d).give_back(view);
+        d.give_back(view);
+        (a, b, c).give_back(view);
     }
 
     fn reads(alloc: Global) -> Result<Vec<ResourceId>, OutOfMemory> {
-        <((A, B, C), D)>::reads(alloc)
+        let ids = <(A, B, C)>::reads(alloc)?;
+        with_reads_of::<V, D>(ids, alloc)
     }
 
     fn writes(alloc: Global) -> Result<Vec<ResourceId>, OutOfMemory> {
-        <((A, B, C), D)>::writes(alloc)
+        let ids = <(A, B, C)>::writes(alloc)?;
+        with_writes_of::<V, D>(ids, alloc)
     }
 }
 
@@ -236,27 +278,43 @@ impl<
     ghost moved = { λ bundle. (((A.moved bundle.0 ++ B.moved bundle.1) ++ C.moved bundle.2) ++ D.moved bundle.3) ++ E.moved bundle.4 };
 
     fn setup(world: &mut World<V>) -> Result<(), WorldError> {
-        <((A, B, C, D), E)>::setup(world)
+        if let Err(error) = <(A, B, C, D)>::setup(world) {
+            return Err(error);
+        }
+        E::setup(world)
     }
 
     fn fetch(view: &mut View<'s, '_, V>) -> Result<Self, DataError> {
-        match <((A, B, C, D), E)>::fetch(view) {
-            Ok(((a, b, c, d), e)) => Ok((a, b, c, d, e)),
-            Err(error) => Err(error),
+        let first = match <(A, B, C, D)>::fetch(view) {
+            Ok(first) => first,
+            Err(error) => return Err(error),
+        };
+        match E::fetch(view) {
+            Ok(e) => {
+                let (a, b, c, d) = first;
+                Ok((a, b, c, d, e))
+            }
+            Err(error) => {
+                first.give_back(view);
+                Err(error)
+            }
         }
     }
 
     fn give_back(self, view: &mut View<'s, '_, V>) {
         let (a, b, c, d, e) = self;
-        ((a, b, c, d), e).give_back(view);
+        e.give_back(view);
+        (a, b, c, d).give_back(view);
     }
 
     fn reads(alloc: Global) -> Result<Vec<ResourceId>, OutOfMemory> {
-        <((A, B, C, D), E)>::reads(alloc)
+        let ids = <(A, B, C, D)>::reads(alloc)?;
+        with_reads_of::<V, E>(ids, alloc)
     }
 
     fn writes(alloc: Global) -> Result<Vec<ResourceId>, OutOfMemory> {
-        <((A, B, C, D), E)>::writes(alloc)
+        let ids = <(A, B, C, D)>::writes(alloc)?;
+        with_writes_of::<V, E>(ids, alloc)
     }
 }
 
@@ -283,27 +341,43 @@ impl<
     ghost moved = { λ bundle. ((((A.moved bundle.0 ++ B.moved bundle.1) ++ C.moved bundle.2) ++ D.moved bundle.3) ++ E.moved bundle.4) ++ F.moved bundle.5 };
 
     fn setup(world: &mut World<V>) -> Result<(), WorldError> {
-        <((A, B, C, D, E), F)>::setup(world)
+        if let Err(error) = <(A, B, C, D, E)>::setup(world) {
+            return Err(error);
+        }
+        F::setup(world)
     }
 
     fn fetch(view: &mut View<'s, '_, V>) -> Result<Self, DataError> {
-        match <((A, B, C, D, E), F)>::fetch(view) {
-            Ok(((a, b, c, d, e), f)) => Ok((a, b, c, d, e, f)),
-            Err(error) => Err(error),
+        let first = match <(A, B, C, D, E)>::fetch(view) {
+            Ok(first) => first,
+            Err(error) => return Err(error),
+        };
+        match F::fetch(view) {
+            Ok(f) => {
+                let (a, b, c, d, e) = first;
+                Ok((a, b, c, d, e, f))
+            }
+            Err(error) => {
+                first.give_back(view);
+                Err(error)
+            }
         }
     }
 
     fn give_back(self, view: &mut View<'s, '_, V>) {
         let (a, b, c, d, e, f) = self;
-        ((a, b, c, d, e), f).give_back(view);
+        f.give_back(view);
+        (a, b, c, d, e).give_back(view);
     }
 
     fn reads(alloc: Global) -> Result<Vec<ResourceId>, OutOfMemory> {
-        <((A, B, C, D, E), F)>::reads(alloc)
+        let ids = <(A, B, C, D, E)>::reads(alloc)?;
+        with_reads_of::<V, F>(ids, alloc)
     }
 
     fn writes(alloc: Global) -> Result<Vec<ResourceId>, OutOfMemory> {
-        <((A, B, C, D, E), F)>::writes(alloc)
+        let ids = <(A, B, C, D, E)>::writes(alloc)?;
+        with_writes_of::<V, F>(ids, alloc)
     }
 }
 
@@ -331,27 +405,43 @@ impl<
     ghost moved = { λ bundle. (((((A.moved bundle.0 ++ B.moved bundle.1) ++ C.moved bundle.2) ++ D.moved bundle.3) ++ E.moved bundle.4) ++ F.moved bundle.5) ++ G.moved bundle.6 };
 
     fn setup(world: &mut World<V>) -> Result<(), WorldError> {
-        <((A, B, C, D, E, F), G)>::setup(world)
+        if let Err(error) = <(A, B, C, D, E, F)>::setup(world) {
+            return Err(error);
+        }
+        G::setup(world)
     }
 
     fn fetch(view: &mut View<'s, '_, V>) -> Result<Self, DataError> {
-        match <((A, B, C, D, E, F), G)>::fetch(view) {
-            Ok(((a, b, c, d, e, f), g)) => Ok((a, b, c, d, e, f, g)),
-            Err(error) => Err(error),
+        let first = match <(A, B, C, D, E, F)>::fetch(view) {
+            Ok(first) => first,
+            Err(error) => return Err(error),
+        };
+        match G::fetch(view) {
+            Ok(g) => {
+                let (a, b, c, d, e, f) = first;
+                Ok((a, b, c, d, e, f, g))
+            }
+            Err(error) => {
+                first.give_back(view);
+                Err(error)
+            }
         }
     }
 
     fn give_back(self, view: &mut View<'s, '_, V>) {
         let (a, b, c, d, e, f, g) = self;
-        ((a, b, c, d, e, f), g).give_back(view);
+        g.give_back(view);
+        (a, b, c, d, e, f).give_back(view);
     }
 
     fn reads(alloc: Global) -> Result<Vec<ResourceId>, OutOfMemory> {
-        <((A, B, C, D, E, F), G)>::reads(alloc)
+        let ids = <(A, B, C, D, E, F)>::reads(alloc)?;
+        with_reads_of::<V, G>(ids, alloc)
     }
 
     fn writes(alloc: Global) -> Result<Vec<ResourceId>, OutOfMemory> {
-        <((A, B, C, D, E, F), G)>::writes(alloc)
+        let ids = <(A, B, C, D, E, F)>::writes(alloc)?;
+        with_writes_of::<V, G>(ids, alloc)
     }
 }
 
@@ -380,26 +470,42 @@ impl<
     ghost moved = { λ bundle. ((((((A.moved bundle.0 ++ B.moved bundle.1) ++ C.moved bundle.2) ++ D.moved bundle.3) ++ E.moved bundle.4) ++ F.moved bundle.5) ++ G.moved bundle.6) ++ H.moved bundle.7 };
 
     fn setup(world: &mut World<V>) -> Result<(), WorldError> {
-        <((A, B, C, D, E, F, G), H)>::setup(world)
+        if let Err(error) = <(A, B, C, D, E, F, G)>::setup(world) {
+            return Err(error);
+        }
+        H::setup(world)
     }
 
     fn fetch(view: &mut View<'s, '_, V>) -> Result<Self, DataError> {
-        match <((A, B, C, D, E, F, G), H)>::fetch(view) {
-            Ok(((a, b, c, d, e, f, g), h)) => Ok((a, b, c, d, e, f, g, h)),
-            Err(error) => Err(error),
+        let first = match <(A, B, C, D, E, F, G)>::fetch(view) {
+            Ok(first) => first,
+            Err(error) => return Err(error),
+        };
+        match H::fetch(view) {
+            Ok(h) => {
+                let (a, b, c, d, e, f, g) = first;
+                Ok((a, b, c, d, e, f, g, h))
+            }
+            Err(error) => {
+                first.give_back(view);
+                Err(error)
+            }
         }
     }
 
     fn give_back(self, view: &mut View<'s, '_, V>) {
         let (a, b, c, d, e, f, g, h) = self;
-        ((a, b, c, d, e, f, g), h).give_back(view);
+        h.give_back(view);
+        (a, b, c, d, e, f, g).give_back(view);
     }
 
     fn reads(alloc: Global) -> Result<Vec<ResourceId>, OutOfMemory> {
-        <((A, B, C, D, E, F, G), H)>::reads(alloc)
+        let ids = <(A, B, C, D, E, F, G)>::reads(alloc)?;
+        with_reads_of::<V, H>(ids, alloc)
     }
 
     fn writes(alloc: Global) -> Result<Vec<ResourceId>, OutOfMemory> {
-        <((A, B, C, D, E, F, G), H)>::writes(alloc)
+        let ids = <(A, B, C, D, E, F, G)>::writes(alloc)?;
+        with_writes_of::<V, H>(ids, alloc)
     }
 }

@@ -1,9 +1,8 @@
-use Rattle.std.proofs.Common.{inl, subst}
 use Rattle.shred_world.specs.Worlds.{world_held}
+use Rattle.shred_world.proofs.Both.{setup_both}
 use Rattle.shred_world.proofs.world.tuples.Tuple2SystemData.setup.Goals as goal
 
 pub returns : goal.returns
 returns g c =
-    let before = world_held g.V.ResourceValue.kind_of c.args.world.now in
-    let middle = world_held g.V.ResourceValue.kind_of c.setup.new.world in
-    inl (middle, subst (λ answer. g.A.SystemData.sets_up before answer middle) c.in_default.is c.setup.ensures, c.setup-2.ensures)
+    let kind = g.V.ResourceValue.kind_of in
+    setup_both g.A.SystemData.sets_up g.B.SystemData.sets_up (world_held kind c.args.world.now) (world_held kind c.setup.new.world) _ _ _ c.in_default.is c.setup.ensures c.setup-2.ensures

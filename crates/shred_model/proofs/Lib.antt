@@ -16,11 +16,3 @@ pub mod Within
 pub mod Beside
 pub mod Apart
 pub mod BesideAsOne
-pub mod Stands
-pub mod Interleaving
-pub mod UpToFaultFree
-pub mod EachFree
-pub mod Inside
-pub mod Determined
-pub mod KeptOrders
-pub mod WithOwn

@@ -29,16 +29,6 @@ tell_agents (m ∷ a) (n ∷ b) = elim (tell_numbers m n) [
   | inr ne ↦ inr (λ g. ne cc)
 ]
 
--- told by what names each thing
-pub Tells-by : {X Y : Type 0} (name : X → Y) → ((x y : X) → name x ≡ name y → x ≡ y) → Tells Y → Tells X
-Tells-by name same tells x y = elim (tells (name x) (name y)) [ inl e ↦ inl (same x y e) | inr ne ↦ inr (λ e. ne (ap name e)) ]
-
-pub Tells-pair : {X Y : Type 0} → Tells X → Tells Y → Tells (X × Y)
-Tells-pair tells tells' (a, b) (c, d) = elim (tells a c) [
-  | inl e ↦ elim (tells' b d) [ inl f ↦ inl (λ i. (e i, f i)) | inr ne ↦ inr (λ g. ne (ap (λ (p : _ × _). p.1) g)) ]
-  | inr ne ↦ inr (λ g. ne (ap (λ (p : _ × _). p.0) g))
-]
-
 -- the first where what was told holds, and else the second
 pub choose : {P X : Type 0} → Decided P → X → X → X
 choose (inl p) x y = x

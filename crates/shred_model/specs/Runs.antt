@@ -1,7 +1,7 @@
 -- Which lists of records are runs of a list of elements, where it is known which are runs of one.
 use Rattle.std.specs.Prelude.{◌≡◌, ℕ, suc, List, [], ◌∷◌, ◌++◌, map, Result, Ok, Err, MatchResult}
 use Rattle.shred_model.specs.Record.{Record, Agent, under}
-use Rattle.shred_model.specs.Replay.{Setting, AreAlike, Replays}
+use Rattle.shred_model.specs.Replay.{Setting, Replays}
 
 -- how a run ended: Done, or with a fault
 abbrev pub Answer : Type 0 → Type 0
@@ -31,7 +31,3 @@ pub record Ran {A I V S O F : Type 0} (Run : List (Record A I V S O) → Answer 
   pub list : List (Record A I V S O)
   pub run : Run list answer
   pub replays : Replays x list y
-
--- two runs from like settings have the same answer and lead to like settings
-abbrev pub IsDetermined : {A I V S O F : Type 0} → (List (Record A I V S O) → Answer F → Type 0) → Type 0
-IsDetermined {A} {I} {V} {S} {O} {F} Run = (x x' : Setting A I V S) (a a' : Answer F) (y y' : Setting A I V S) → AreAlike x x' → Ran Run x a y → Ran Run x' a' y' → (a ≡ a') × AreAlike y y'

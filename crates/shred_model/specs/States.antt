@@ -8,11 +8,6 @@ abbrev pub own_state : {S : Type 0} → S → Agent → Option S
 own_state s [] = Some s
 own_state s (n ∷ a) = None
 
--- this state of the agent itself, and those of the agents inside it
-abbrev pub with_own : {S : Type 0} → S → (Agent → Option S) → Agent → Option S
-with_own s states [] = Some s
-with_own s states (n ∷ a) = states (n ∷ a)
-
 -- the state of the agent at path n ∷ a is that of a in the n-th element, if there is one
 abbrev pub listed_states : {Y S : Type 0} → (Y → Agent → Option S) → List Y → Agent → Option S
 listed_states states ys [] = None

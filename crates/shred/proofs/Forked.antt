@@ -1,10 +1,12 @@
 -- Groups whose written values were moved into their hands, that ran, and whose values were moved back.
-use Rattle.std.proofs.Common.{◌≡◌, ℕ, zero, suc, ◌<◌, Bool, true, false, ◌&&◌, Option, Some, None, cond, List, [], ◌∷◌, length, map, get_or, Contains, refl, sym, ◌∙◌, ap, subst, inl, inr, arith, IsTrue}
-use Rattle.std.specs.Prelude.{is_some}
-use Rattle.std.specs.List.{All, AllZip}
+use Rattle.std.proofs.Common.{◌≡◌, ℕ, zero, suc, ◌<◌, Bool, true, false, ◌&&◌, Option, Some, None, cond, List, [], ◌∷◌, length, map, get_or, Contains, refl, sym, ◌∙◌, ap, subst, inl, inr, arith, IsTrue, append-nil}
+use Rattle.std.specs.Prelude.{is_some, ◌==◌}
+use Rattle.std.specs.List.{All, AllZip, flat_map}
+use Rattle.std.proofs.lemmas.Bool.Decides.{nat_tests}
 use Rattle.std.proofs.lemmas.List.{length-map, get_or-map}
 use Rattle.shred_model.specs.Access.{Conflicts}
 use Rattle.shred_model.specs.Beside.{AreApart}
+use Rattle.shred_model.specs.Plan as model
 use Rattle.shred_model.specs.Plan.{group_access}
 use Rattle.shred_world.specs.declared.id.Kind.{Kind}
 use Rattle.shred_world.specs.declared.id.ResourceId.{ResourceId}
@@ -16,7 +18,7 @@ use Rattle.shred_world.specs.Slots.{slot_at, slot_held, held, among, or_slot}
 use Rattle.shred_world.proofs.Ids.{among-true, among-contains}
 use Rattle.shred_world.proofs.Moves.{emptied-twice}
 use Rattle.shred_world.proofs.Pairs.{zip-get}
-use Rattle.shred.specs.Hands.{KeepsRoom, IsSameButHand, WriteApart, HoldsWritten, Fits, IsBack, IsMovedOut, HasEntryRoom, HasRooms}
+use Rattle.shred.specs.Hands.{KeepsRoom, IsSameButHand, WriteApart, HoldsWritten, Fits, IsBack, IsMovedOut, is_single, HasRoomIn, HasRooms, HasPlace}
 use Rattle.shred.specs.Lanes.{IsReady}
 use Rattle.shred.specs.OwnLists.{IsOwnEntry, IsOwnGroup}
 use Rattle.shred.specs.PlanOf.{entry_plan, group_plan, groups_plan}
@@ -53,6 +55,17 @@ module _ {V S : Type 0} where
   pub entry-writes : (x : Group V S) → KeepsRoom x → (k : ℕ) (d : Entry V S) → k < length x.entries.items → (q : ResourceId) → among (get_or x.entries.items k d).writes.items q ≡ true → among x.written.items q ≡ true
   entry-writes x room k d below q there =
       written_by_group x room k (entry_plan d) (rw (length-map x.entries.items entry_plan) below) q (rw (get_or-map entry_plan x.entries.items k d (entry_plan d) below) there)
+
+  single_writes : (entries : List (Entry V S)) (k : ℕ) (d : Entry V S) → k < length entries → (length entries == 1) ≡ true → (q : ResourceId)
+      → among (flat_map (λ (e : model.Entry ResourceId). e.access.writes) (map entry_plan entries)) q ≡ among (get_or entries k d).writes.items q
+  single_writes [] k d below one q = absurd (omega arith)
+  single_writes (e ∷ []) zero d below one q = ap (λ ids. among ids q) (append-nil e.writes.items)
+  single_writes (e ∷ []) (suc k) d below one q = absurd (omega arith)
+  single_writes (e ∷ f ∷ rest) k d below one q = absurd (grind (arith, nat_tests))
+
+  -- what the only entry of a group writes is what the group writes
+  pub single-writes : (x : Group V S) → KeepsRoom x → (k : ℕ) (d : Entry V S) → k < length x.entries.items → is_single x ≡ true → (q : ResourceId) → among (get_or x.entries.items k d).writes.items q ≡ among x.written.items q
+  single-writes x room k d below one q = sym (ap (λ ids. among ids q) room.same_writes ∙ single_writes x.entries.items k d below one q)
 
   -- what a group writes, its access writes
   pub access_writes : (x : Group V S) → KeepsRoom x → (q : ResourceId) → among x.written.items q ≡ true → Contains (group_access (group_plan x)).writes q
@@ -105,14 +118,18 @@ module _ {V : Type 0} (before after : Table V) (taken : ResourceId → Bool) (le
   -- a group whose values were moved out is ready to run
   pub is-ready : {S : Type 0} (reads writes : S → List ResourceId) (x y : Group V S) → KeepsRoom x → IsOwnGroup reads writes x → HasRooms before x → IsMovedOut before x y → IsReady reads writes (slot_at after) y
   is-ready {S} reads writes x y room own rooms moved = record {
-    rooms = subst (λ (items : List (Entry V S)). All (HasEntryRoom y.hand) items) (ap (λ entries. entries.items) (sym moved.0.entries)) (λ k d below q.
-        let e = get_or x.entries.items k d in
-        rooms k d below q ∙ in_hand y moved.1 q (among e.writes.items q) (λ there. same-written x y moved.0 q ∙ entry-writes x room k d below q there));
+    places = subst (λ (items : List (Entry V S)). All (HasPlace (length items == 1) y.hand) items) (ap (λ entries. entries.items) (sym moved.0.entries)) (λ k d below. at k d below (is_single x) refl (rooms k d below));
     own_lists = subst (λ (items : List (Entry V S)). All (IsOwnEntry reads writes) items) (ap (λ entries. entries.items) (sym moved.0.entries)) own;
     own_slots = subst (λ plan. All (λ e. HasOwnSlots e.access.writes (slot_at after) y.hand) plan) (sym (same-plan x y moved.0)) (λ k d below q there none.
         let here : among y.written.items q ≡ true = same-written x y moved.0 q ∙ written_by_group x room k d below q there in
         none-left q (sym (ap (λ (b : Bool). cond b (slot_at before q) None) here) ∙ sym (moved.1 q) ∙ none));
-  }
+  } where
+    at : (k : ℕ) (d : Entry V S) → k < length x.entries.items → (single : Bool) → is_single x ≡ single → HasRoomIn single before (get_or x.entries.items k d) → HasPlace single y.hand (get_or x.entries.items k d)
+    at k d below true one any = λ q out.
+        moved.1 q ∙ ap (λ (b : Bool). cond b (slot_at before q) None) (same-written x y moved.0 q ∙ sym (single-writes x room k d below one q) ∙ out)
+    at k d below false several rooms = λ q.
+        let e = get_or x.entries.items k d in
+        rooms q ∙ in_hand y moved.1 q (among e.writes.items q) (λ there. same-written x y moved.0 q ∙ entry-writes x room k d below q there)
 
   -- after the run, its hand has the slots that it had
   pub fits-after : {S : Type 0} (x y z : Group V S) → IsMovedOut before x y → IsSameSlots y.hand z.hand → z.written ≡ y.written → Fits after z

@@ -1,4 +1,3 @@
-pub mod Alone
 pub mod Added
 pub mod Apart
 pub mod Appended
@@ -41,3 +40,4 @@ pub mod Viewed
 pub mod ReadyTurns
 pub mod Rooms
 pub mod Spare
+pub mod TakenTurns

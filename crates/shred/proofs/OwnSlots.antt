@@ -3,14 +3,13 @@ use Rattle.std.proofs.Common.{◌≡◌, ℕ, ◌<◌, List, length, map, get_or
 use Rattle.std.specs.Prelude.{is_some}
 use Rattle.std.specs.List.{All}
 use Rattle.std.proofs.lemmas.List.{length-map, get_or-map}
-use Rattle.std.proofs.lemmas.List.Elements.{All-weaker}
 use Rattle.shred_model.specs.Plan as model
 use Rattle.shred_world.specs.declared.id.ResourceId.{ResourceId}
 use Rattle.shred_world.specs.declared.table.Slot.{Slot}
 use Rattle.shred_world.specs.declared.table.Table.{Table}
 use Rattle.shred_world.specs.Shown.{Lent, HasOwnSlots, IsSameSlots}
 use Rattle.shred_world.specs.Slots.{slot_at}
-use Rattle.shred.specs.OwnSlots.{HasGroupSlots, HasStageSlots}
+use Rattle.shred.specs.OwnSlots.{HasGroupSlots}
 
 none_before : {V : Type 0} (old new : Option (Slot V)) → is_some new ≡ is_some old → new ≡ None → old ≡ None
 none_before None new same none = refl
@@ -31,10 +30,3 @@ pub own_slots-here : {V X : Type 0} (view : X → model.Entry ResourceId) (lent 
     → HasGroupSlots lent old (map view before) → HasOwnSlots (view (get_or now i x)).access.writes lent new
 own_slots-here view lent old new now before i x below same slots has =
     own_slots-kept lent old new slots (view (get_or now i x)).access.writes (planned_here view (λ e. HasOwnSlots e.access.writes lent old) now before i x below same has)
-
--- a group's written slots, after other groups ran
-pub group_slots-here : {V X : Type 0} (view : X → model.Group ResourceId) (lent : Lent V) (old new : Table V) (now before : List X) (i : ℕ) (x : X) → i < length now → map view now ≡ map view before → IsSameSlots old new
-    → HasStageSlots lent old (map view before) → HasGroupSlots lent new (view (get_or now i x))
-group_slots-here view lent old new now before i x below same slots has =
-    All-weaker (λ e. HasOwnSlots e.access.writes lent old) (λ e. HasOwnSlots e.access.writes lent new) (λ e. own_slots-kept lent old new slots e.access.writes) (view (get_or now i x))
-    (planned_here view (HasGroupSlots lent old) now before i x below same has)

@@ -1,16 +1,20 @@
--- The room in entries' hands, as it is made and as entries run.
-use Rattle.std.proofs.Common.{◌≡◌, ℕ, zero, suc, List, [], ◌∷◌, map, set, refl, ap, arith}
+-- The room in entries' hands and their places, as they are made and as entries run.
+use Rattle.std.proofs.Common.{◌≡◌, ℕ, zero, suc, Bool, true, false, Option, Some, None, List, [], ◌∷◌, map, set, subst, refl, ap, arith}
+use Rattle.std.specs.Prelude.{is_some, ◌==◌}
 use Rattle.std.specs.List.{All, AllZip}
 use Rattle.std.proofs.lemmas.List.Elements.{All-set, All-weaker}
 use Rattle.shred_model.specs.Record.{Agent}
 use Rattle.shred_model.specs.States.{listed_states, own_state}
 use Rattle.shred_world.specs.declared.id.ResourceId.{ResourceId}
 use Rattle.shred_world.specs.declared.table.Table.{Table}
+use Rattle.shred_world.specs.declared.table.Slot.{Slot}
 use Rattle.shred_world.specs.Shown.{IsSameSlots}
+use Rattle.shred_world.specs.Slots.{slot_at}
+use Rattle.shred_world.proofs.Pairs.{zip-length}
 use Rattle.shred.specs.declared.dispatch.entry.Entry.{Entry}
 use Rattle.shred.specs.declared.dispatch.entry.Group.{Group}
 use Rattle.shred.specs.Entries.{entry_states, group_states}
-use Rattle.shred.specs.Hands.{KeepsRoom, HasEntryRoom, HasRooms, HasSpareSlots, HasSpareEntries, IsSameEntry, HasMadeRoom, HasMadeRooms, HasLeftSpare, HasLeftSpares}
+use Rattle.shred.specs.Hands.{KeepsRoom, is_single, HasRoomIn, HasRooms, HasPlace, HasSpareSlots, HasSpareEntries, IsSameEntry, HasMadeRoom, HasMadeRooms, HasLeftSpare, HasLeftSpares}
 use Rattle.shred.specs.OwnLists.{IsOwnEntry, IsOwnGroup}
 use Rattle.shred.specs.PlanOf.{entry_plan, group_plan, groups_plan, group_numbers, numbers_of}
 use Rattle.shred.proofs.Hands.{room-kept}
@@ -18,16 +22,20 @@ use Rattle.shred.proofs.Spare as hand
 use Rattle.shred.proofs.Zips.{zip-all, zip-weaker, zip-map}
 use Rattle.shred.proofs.ForkedRuns.{zip-states}
 
-module _ {V S : Type 0} (old new : Table V) (same : IsSameSlots old new) where
-  -- one entry's hand has room again, and the others' have it still
-  pub rooms-set : (entries : List (Entry V S)) (i : ℕ) (entry : Entry V S) → HasEntryRoom new entry → All (HasEntryRoom old) entries → All (HasEntryRoom new) (set entries i entry)
-  rooms-set entries i entry here all =
-      All-set (HasEntryRoom new) entries i entry here (All-weaker (HasEntryRoom old) (HasEntryRoom new) (λ e. hand.room-kept old new same e.writes.items e.hand) entries all)
+no_slot : {V : Type 0} (a b : Option (Slot V)) → is_some b ≡ is_some a → a ≡ None → b ≡ None
+no_slot None None e none = refl
+no_slot None (Some t) e none = absurd (cc)
+no_slot (Some s) b e none = absurd (cc)
 
-  pub group_rooms-set : (groups : List (Group V S)) (i : ℕ) (group : Group V S) → HasRooms new group → All (HasRooms old) groups → All (HasRooms new) (set groups i group)
-  group_rooms-set groups i group here all =
-      All-set (HasRooms new) groups i group here
-      (All-weaker (HasRooms old) (HasRooms new) (λ g. All-weaker (HasEntryRoom old) (HasEntryRoom new) (λ e. hand.room-kept old new same e.writes.items e.hand) g.entries.items) groups all)
+module _ {V S : Type 0} (old new : Table V) (same : IsSameSlots old new) where
+  -- an entry keeps its place while no slot comes or goes
+  pub place-kept : (single : Bool) (entry : Entry V S) → HasPlace single old entry → HasPlace single new entry
+  place-kept true entry only = λ id out. no_slot (slot_at old id) (slot_at new id) (same id) (only id out)
+  place-kept false entry room = hand.room-kept old new same entry.writes.items entry.hand room
+
+  -- one entry has its place again, and the others have theirs still
+  pub places-set : (single : Bool) (entries : List (Entry V S)) (i : ℕ) (entry : Entry V S) → HasPlace single new entry → All (HasPlace single old) entries → All (HasPlace single new) (set entries i entry)
+  places-set single entries i entry here all = All-set (HasPlace single new) entries i entry here (All-weaker (HasPlace single old) (HasPlace single new) (place-kept single) entries all)
 
 module _ {V S : Type 0} where
   pub entry-unchanged : (entry : Entry V S) → IsSameEntry entry entry
@@ -40,14 +48,27 @@ module _ {V S : Type 0} where
   pub group-unchanged : (group : Group V S) → HasSpareEntries group → HasLeftSpares group group
   group-unchanged group spare = record { ids = refl; written = refl; hand = refl; entries = spare-unchanged group.entries.items spare }
 
-  pub entry-left : (table : Table V) (old new : Entry V S) → HasMadeRoom table old new → HasLeftSpare old new
-  entry-left table old new made = (made.0, hand.spare-of_room table new.writes.items new.hand made.1)
+  pub entry-left : (single : Bool) (table : Table V) (old new : Entry V S) → HasMadeRoom single table old new → HasLeftSpare old new
+  entry-left true table old new made = made
+  entry-left false table old new made = (made.0, hand.spare-of_room table new.writes.items new.hand made.1)
 
   pub group-left : (table : Table V) (old new : Group V S) → HasMadeRooms table old new → HasLeftSpares old new
-  group-left table old new made = record { ids = made.ids; written = made.written; hand = made.hand; entries = zip-weaker (HasMadeRoom table) HasLeftSpare (entry-left table) old.entries.items new.entries.items made.entries }
+  group-left table old new made = record {
+    ids = made.ids;
+    written = made.written;
+    hand = made.hand;
+    entries = zip-weaker (HasMadeRoom (is_single old) table) HasLeftSpare (entry-left (is_single old) table) old.entries.items new.entries.items made.entries;
+  }
+
+  room-made : (single : Bool) (table : Table V) (old new : Entry V S) → HasMadeRoom single table old new → HasRoomIn single table new
+  room-made true table old new made = tt
+  room-made false table old new made = made.1
 
   pub rooms-made : (table : Table V) (old new : Group V S) → HasMadeRooms table old new → HasRooms table new
-  rooms-made table old new made = zip-all (HasMadeRoom table) (λ e. Unit {0}) (HasEntryRoom table) (λ a b m any. m.1) old.entries.items new.entries.items made.entries (λ k d below. tt)
+  rooms-made table old new made =
+      let Made = HasMadeRoom (is_single old) table in
+      subst (λ (n : ℕ). All (HasRoomIn (n == 1) table) new.entries.items) (zip-length Made old.entries.items new.entries.items made.entries)
+      (zip-all Made (λ e. Unit {0}) (HasRoomIn (is_single old) table) (λ a b m any. room-made (is_single old) table a b m) old.entries.items new.entries.items made.entries (λ k d below. tt))
 
   entries-states : (xs ys : List (Entry V S)) → AllZip HasLeftSpare xs ys → (p : Agent) → listed_states entry_states ys p ≡ listed_states entry_states xs p
   entries-states xs ys zip [] = refl

@@ -1,11 +1,12 @@
 -- The slots that groups and entries keep for the values that they write.
-use Rattle.std.specs.Prelude.{◌≡◌, Bool, false, ◌&&◌, IsTrue, None, List, cond, is_some, AllPairs}
+use Rattle.std.specs.Prelude.{◌≡◌, Bool, true, false, ◌&&◌, ◌==◌, IsTrue, None, List, length, cond, is_some, AllPairs}
 use Rattle.std.specs.List.{list_any, All, AllZip}
 use Rattle.shred_model.specs.Plan as model
 use Rattle.shred_world.specs.declared.id.ResourceId.{ResourceId}
 use Rattle.shred_world.specs.declared.table.Table.{Table}
 use Rattle.shred_world.specs.Parting.{IsRoom, IsSpare}
 use Rattle.shred_world.specs.Slots.{slot_at, among}
+use Rattle.shred.specs.OwnSlots.{HasOnlySlots}
 use Rattle.shred.specs.PlanOf.{entry_plan, group_plan}
 use Rattle.shred.specs.declared.dispatch.entry.Entry.{Entry}
 use Rattle.shred.specs.declared.dispatch.entry.Group.{Group}
@@ -71,9 +72,27 @@ module _ {V S : Type 0} where
   abbrev pub HasEntryRoom : Table V → Entry V S → Type 0
   HasEntryRoom table entry = IsRoom table entry.writes.items entry.hand
 
+  -- whether the group has one entry
+  abbrev pub is_single : Group V S → Bool
+  is_single group = length group.entries.items == 1
+
+  -- An entry that is not its group's only one has room in its hand.
+  abbrev pub HasRoomIn : Bool → Table V → Entry V S → Type 0
+  HasRoomIn true table entry = Unit {0}
+  HasRoomIn false table entry = HasEntryRoom table entry
+
   -- so it is of each entry of the group
   abbrev pub HasRooms : Table V → Group V S → Type 0
-  HasRooms table group = All (HasEntryRoom table) group.entries.items
+  HasRooms table group = All (HasRoomIn (is_single group) table) group.entries.items
+
+  -- An entry that is its group's only one runs over a table that has no slots but those that it writes; any other has room in its hand.
+  abbrev pub HasPlace : Bool → Table V → Entry V S → Type 0
+  HasPlace true table entry = HasOnlySlots entry.writes.items table
+  HasPlace false table entry = HasEntryRoom table entry
+
+  -- so it is of each entry of the group
+  abbrev pub HasPlaces : Table V → Group V S → Type 0
+  HasPlaces table group = All (HasPlace (is_single group) table) group.entries.items
 
   -- the entry is the same, but for its hand
   pub record IsSameEntry (old new : Entry V S) : Type 0 where
@@ -93,17 +112,18 @@ module _ {V S : Type 0} where
   abbrev pub HasSpareEntries : Group V S → Type 0
   HasSpareEntries group = All HasSpareSlots group.entries.items
 
-  -- the entry is the same but for its hand, which has room
-  abbrev pub HasMadeRoom : Table V → Entry V S → Entry V S → Type 0
-  HasMadeRoom table old new = IsSameEntry old new × HasEntryRoom table new
-
   -- the entry is the same but for its hand, which is spare
   abbrev pub HasLeftSpare : Entry V S → Entry V S → Type 0
   HasLeftSpare old new = IsSameEntry old new × HasSpareSlots new
 
-  -- the group is the same but for its entries' hands, which have room
+  -- the entry is the same but for its hand, which has room unless it is its group's only one
+  abbrev pub HasMadeRoom : Bool → Table V → Entry V S → Entry V S → Type 0
+  HasMadeRoom true table old new = HasLeftSpare old new
+  HasMadeRoom false table old new = IsSameEntry old new × HasEntryRoom table new
+
+  -- the group is the same but for its entries' hands, which have room where there are several
   abbrev pub HasMadeRooms : Table V → Group V S → Group V S → Type 0
-  HasMadeRooms table = IsSameButEntries (HasMadeRoom table)
+  HasMadeRooms table old new = IsSameButEntries (HasMadeRoom (is_single old) table) old new
 
   -- the group is the same but for its entries' hands, which are spare
   abbrev pub HasLeftSpares : Group V S → Group V S → Type 0

@@ -9,17 +9,17 @@ use Rattle.shred_world.specs.Shown.{Lent, shown, IsSameSlots}
 use Rattle.shred.specs.declared.dispatch.entry.Group.{Group}
 use Rattle.shred.specs.declared.dispatch.run.StageFault.{StageFault}
 use Rattle.shred.specs.Entries.{GroupRun, group_states}
-use Rattle.shred.specs.Hands.{HasRooms}
+use Rattle.shred.specs.Hands.{HasPlaces}
 use Rattle.shred.specs.OwnLists.{IsOwnGroup}
 use Rattle.shred.specs.OwnSlots.{HasGroupSlots}
 use Rattle.shred.specs.PlanOf.{group_plan}
 use Rattle.shred.specs.Steps.{Step}
 
--- The group's kept lists are its systems', its table has the slots that it writes, and its entries' hands have room.
+-- The group's kept lists are its systems', its table has the slots that it writes, and its entries have their places.
 pub record IsReady {V S : Type 0} (reads writes : S → List ResourceId) (lent : Lent V) (group : Group V S) : Type 0 where
   pub own_lists : IsOwnGroup reads writes group
   pub own_slots : HasGroupSlots lent group.hand (group_plan group)
-  pub rooms : HasRooms group.hand group
+  pub places : HasPlaces group.hand group
 
 -- The group ran over what its table shows; all beside its systems and the values in its table stayed.
 pub record GroupWent {V S E : Type 0} (kind : V → Kind) (step : Step V S E) (reads writes : S → List ResourceId) (lent : Lent V) (old : Group V S) (answer : Answer (StageFault E)) (new : Group V S) : Type 0 where

@@ -1,4 +1,5 @@
 pub mod Time
+pub mod Turns
 pub mod Faults
 pub mod PlanOf
 pub mod StagePlan

@@ -107,12 +107,3 @@ module _ {X Y I V S O F P : Type 0} (tell_ids : Tells I) (Run : X → List (Reco
       nowhere : (es fs : List Y) (at : Agent) → ((j : ℕ) (b : Agent) → at ≡ j ∷ b → 0 ≤ j → ⊥) → listed_states states fs at ≡ listed_states states es at
       nowhere es fs [] never = refl
       nowhere es fs (j ∷ b) never = absurd (never j b refl (omega arith))
-
-  -- The same, where the values are m once the parts are taken, and what no element writes stays at both ends.
-  pub parted_as_one_thread : (ys : List Y) (ps : List P) (a : Answer F) (zs : List Y) (qs : List P) (v m w : I → Option V)
-      → RanBeside Run view states seen ys ps a zs qs → AreApart access (map view ys) → PartsShow access seen (map view ys) ps v → ((i : I) → (SomeWrites access (map view ys) i → ⊥) → m i ≡ v i)
-      → PartsPut access seen (map view zs) qs w → ((i : I) → (SomeWrites access (map view zs) i → ⊥) → w i ≡ m i)
-      → LeavesAsOneThread (λ list. RunsEach (λ k. Run) 0 (map view ys) list a) (setting_of (listed_states states ys) v) (setting_of (listed_states states zs) w)
-  parted_as_one_thread ys ps a zs qs v m w ran apart show taken put out =
-      let planned : map view zs ≡ map view ys = RanBeside-view Run view states seen ys ps a zs qs ran in
-      beside_as_one_thread ys ps a zs qs v w ran apart show put (λ i o. out i (λ some. o (subst (λ (l : List X). SomeWrites access l i) planned some)) ∙ taken i o)

@@ -11,7 +11,7 @@ pub mod Lift
 pub mod Places
 pub mod Element
 pub mod UpToFault
-pub mod Each
+pub mod FirstFault
 pub mod Within
 pub mod Beside
 pub mod Apart

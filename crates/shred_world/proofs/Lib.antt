@@ -6,7 +6,6 @@ pub mod Views
 pub mod Refusals
 pub mod HeldKinds
 pub mod Moves
-pub mod Shown
 pub mod Pairs
 pub mod Parted
 pub mod Beside

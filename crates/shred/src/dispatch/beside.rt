@@ -1,26 +1,21 @@
-//! Groups that run beside each other, each over the values that it writes.
-ghost use Rattle.std.specs.Prelude.{◌≡◌, ◌∷◌, [], All, map};
-ghost use Rattle.std.specs.Option.{option_map};
+//! A stage's turn: what each group writes is moved into its hand, the groups run, and all goes back.
+ghost use Rattle.std.specs.Prelude.{◌≡◌, ◌∷◌, [], All, IfErr, Err, OnOk};
 ghost use Rattle.shred_model.specs.Beside.{AllWent, AreApart};
 ghost use Rattle.shred_model.specs.Plan.{group_access};
-ghost use Rattle.shred_model.specs.Runs.{Ran};
-ghost use Rattle.shred_model.specs.States.{setting_of, listed_states};
 ghost use Rattle.shred_world.specs.Slots.{slot_at, held};
-ghost use Rattle.shred_world.specs.declared.id.ResourceId.{ResourceId};
 ghost use Rattle.shred_world.specs.Views.{lent_slot};
-ghost use Rattle.shred.specs.Entries.{group_states};
-ghost use Rattle.shred.specs.Hands.{KeepsRoom, HasRooms};
+ghost use Rattle.shred.specs.Hands.{KeepsRoom};
 ghost use Rattle.shred.specs.Lanes.{IsReady, GroupWent};
 ghost use Rattle.shred.specs.OwnLists.{IsOwnGroup};
-ghost use Rattle.shred.specs.PlanOf.{groups_plan, group_numbers};
-ghost use Rattle.shred.specs.Plans.{StageTurn};
+ghost use Rattle.shred.specs.PlanOf.{groups_plan};
+ghost use Rattle.shred.specs.Turns.{IsBegun, TookTurn};
 
 use crate::dispatch::entry::Group;
-use crate::dispatch::fork::{Lane, run_lanes};
+use crate::dispatch::fork::{Lane, run_each, run_lanes};
 use crate::dispatch::hands::{make_entry_rooms, make_rooms, move_all_back, move_all_out};
 use crate::dispatch::run::{StageFault, run_entries};
 use crate::system::System;
-use shred_world::{OutOfMemory, ResourceId, ResourceValue, Shelf, Table};
+use shred_world::{OutOfMemory, ResourceValue, Shelf, Table};
 use std::thread::Threads;
 
 impl<'s, V: ResourceValue + Drop, S: System<V, Error = E>, E: Drop> Lane<[Shelf<'s, V>; 1], E>
@@ -30,8 +25,42 @@ impl<'s, V: ResourceValue + Drop, S: System<V, Error = E>, E: Drop> Lane<[Shelf<
     ghost went = { λ shelf old answer new. GroupWent V.kind_of S.step S.reads S.writes (lent_slot shelf) old answer new };
 
     fn run(&mut self, shelf: &[Shelf<'s, V>; 1]) -> Result<(), StageFault<E>> {
-        run_entries(self.entries.as_mut_slice(), shelf, &mut self.hand)
+        let single = self.entries.len() == 1;
+        run_entries(self.entries.as_mut_slice(), single, shelf, &mut self.hand)
     }
+}
+
+// Makes room in the hands, and moves what each group writes into its hand.
+fn begin<V: ResourceValue + Drop, S: System<V, Error = E>, E: Drop>(
+    groups: &mut [Group<V, S>],
+    table: &mut Table<V>,
+) -> Result<(), StageFault<E>>
+    requires own_lists { All (IsOwnGroup S.reads S.writes) groups.old }
+    requires room { All KeepsRoom groups.old }
+    requires apart { AreApart group_access (groups_plan groups.old) }
+    ensures begun { OnOk result (IsBegun S.reads S.writes table.old groups.old table.new groups.new) }
+    ensures refused { IfErr result (λ fault. TookTurn V.kind_of S.step S.reads S.writes groups.old (held V.kind_of table.old) (Err fault) groups.new (held V.kind_of table.new)) }
+{
+    if let Err(OutOfMemory) = make_entry_rooms(groups, table) {
+        return Err(StageFault::Memory);
+    }
+    if let Err(OutOfMemory) = make_rooms(groups, table) {
+        return Err(StageFault::Memory);
+    }
+    move_all_out(groups, table);
+    Ok(())
+}
+
+// The groups, one after the other over the table, which nobody writes.
+fn run_in_order<V: ResourceValue + Drop, S: System<V, Error = E>, E: Drop>(
+    table: &Table<V>,
+    groups: &mut [Group<V, S>],
+) -> Result<(), StageFault<E>>
+    requires { All (IsReady S.reads S.writes (slot_at table.now)) groups.old }
+    ensures { AllWent (GroupWent V.kind_of S.step S.reads S.writes (slot_at table.now)) groups.old result groups.new }
+{
+    let shelf = [Shelf::Last(table)];
+    run_each(&shelf, groups)
 }
 
 // The groups, beside each other over the table, which nobody writes.
@@ -50,8 +79,26 @@ where
     run_lanes(rt, &shelf, groups, workers)
 }
 
-// The groups, beside each other on threads. What a group writes is moved into its hand before, and back after.
-fn run_forked<
+// The turn of the groups, one after the other on the caller's thread.
+fn turn_in_order<V: ResourceValue + Drop, S: System<V, Error = E>, E: Drop>(
+    groups: &mut [Group<V, S>],
+    table: &mut Table<V>,
+) -> Result<(), StageFault<E>>
+    requires own_lists { All (IsOwnGroup S.reads S.writes) groups.old }
+    requires room { All KeepsRoom groups.old }
+    requires apart { AreApart group_access (groups_plan groups.old) }
+    ensures { TookTurn V.kind_of S.step S.reads S.writes groups.old (held V.kind_of table.old) result groups.new (held V.kind_of table.new) }
+{
+    if let Err(fault) = begin(groups, table) {
+        return Err(fault);
+    }
+    let answer = run_in_order(table, groups);
+    move_all_back(groups, table);
+    answer
+}
+
+// The turn of the groups, beside each other on threads.
+fn turn_beside<
     R: Threads + Sync,
     V: ResourceValue + Drop + Send + Sync,
     S: System<V, Error = E> + Send,
@@ -66,56 +113,32 @@ where
     S::Accessor: Send,
     requires own_lists { All (IsOwnGroup S.reads S.writes) groups.old }
     requires room { All KeepsRoom groups.old }
-    requires rooms { All (HasRooms table.old) groups.old }
     requires apart { AreApart group_access (groups_plan groups.old) }
-    ensures ran { Ran (StageTurn V.kind_of S.step (groups_plan groups.old)) (setting_of (listed_states group_states groups.old) (held V.kind_of table.old)) result (setting_of (listed_states group_states groups.new) (held V.kind_of table.new)) }
-    ensures plan { groups_plan groups.new ≡ groups_plan groups.old }
-    ensures own_lists { All (IsOwnGroup S.reads S.writes) groups.new }
-    ensures ids { map group_numbers groups.new ≡ map group_numbers groups.old }
-    ensures room { All KeepsRoom groups.new }
-    ensures kinds { (id : ResourceId) → option_map V.kind_of (held V.kind_of table.new id) ≡ option_map V.kind_of (held V.kind_of table.old id) }
+    ensures { TookTurn V.kind_of S.step S.reads S.writes groups.old (held V.kind_of table.old) result groups.new (held V.kind_of table.new) }
 {
-    if let Err(OutOfMemory) = make_rooms(groups, table) {
-        return Err(StageFault::Memory);
+    if let Err(fault) = begin(groups, table) {
+        return Err(fault);
     }
-    move_all_out(groups, table);
     let answer = run_beside(rt, table, groups, workers);
     move_all_back(groups, table);
     answer
 }
 
-// The same, where there is room for what the entries write; else nothing is run.
-fn fork_turn<
-    R: Threads + Sync,
-    V: ResourceValue + Drop + Send + Sync,
-    S: System<V, Error = E> + Send,
-    E: Drop + Send,
->(
-    rt: &R,
-    groups: &mut [Group<V, S>],
+// The same, of the groups of a stage.
+pub(crate) fn take_turn<V: ResourceValue + Drop, S: System<V, Error = E>, E: Drop>(
+    groups: &mut Vec<Group<V, S>>,
     table: &mut Table<V>,
-    workers: usize,
 ) -> Result<(), StageFault<E>>
-where
-    S::Accessor: Send,
-    requires own_lists { All (IsOwnGroup S.reads S.writes) groups.old }
-    requires room { All KeepsRoom groups.old }
-    requires apart { AreApart group_access (groups_plan groups.old) }
-    ensures ran { Ran (StageTurn V.kind_of S.step (groups_plan groups.old)) (setting_of (listed_states group_states groups.old) (held V.kind_of table.old)) result (setting_of (listed_states group_states groups.new) (held V.kind_of table.new)) }
-    ensures plan { groups_plan groups.new ≡ groups_plan groups.old }
-    ensures own_lists { All (IsOwnGroup S.reads S.writes) groups.new }
-    ensures ids { map group_numbers groups.new ≡ map group_numbers groups.old }
-    ensures room { All KeepsRoom groups.new }
-    ensures kinds { (id : ResourceId) → option_map V.kind_of (held V.kind_of table.new id) ≡ option_map V.kind_of (held V.kind_of table.old id) }
+    requires own_lists { All (IsOwnGroup S.reads S.writes) groups.old.items }
+    requires room { All KeepsRoom groups.old.items }
+    requires apart { AreApart group_access (groups_plan groups.old.items) }
+    ensures { TookTurn V.kind_of S.step S.reads S.writes groups.old.items (held V.kind_of table.old) result groups.new.items (held V.kind_of table.new) }
 {
-    if let Err(OutOfMemory) = make_entry_rooms(groups, table) {
-        return Err(StageFault::Memory);
-    }
-    run_forked(rt, groups, table, workers)
+    turn_in_order(groups.as_mut_slice(), table)
 }
 
-// The same, of the groups of a stage.
-pub(crate) fn fork_stage<
+// The same, on threads.
+pub(crate) fn take_turn_beside<
     R: Threads + Sync,
     V: ResourceValue + Drop + Send + Sync,
     S: System<V, Error = E> + Send,
@@ -131,12 +154,7 @@ where
     requires own_lists { All (IsOwnGroup S.reads S.writes) groups.old.items }
     requires room { All KeepsRoom groups.old.items }
     requires apart { AreApart group_access (groups_plan groups.old.items) }
-    ensures ran { Ran (StageTurn V.kind_of S.step (groups_plan groups.old.items)) (setting_of (listed_states group_states groups.old.items) (held V.kind_of table.old)) result (setting_of (listed_states group_states groups.new.items) (held V.kind_of table.new)) }
-    ensures plan { groups_plan groups.new.items ≡ groups_plan groups.old.items }
-    ensures own_lists { All (IsOwnGroup S.reads S.writes) groups.new.items }
-    ensures ids { map group_numbers groups.new.items ≡ map group_numbers groups.old.items }
-    ensures room { All KeepsRoom groups.new.items }
-    ensures kinds { (id : ResourceId) → option_map V.kind_of (held V.kind_of table.new id) ≡ option_map V.kind_of (held V.kind_of table.old id) }
+    ensures { TookTurn V.kind_of S.step S.reads S.writes groups.old.items (held V.kind_of table.old) result groups.new.items (held V.kind_of table.new) }
 {
-    fork_turn(rt, groups.as_mut_slice(), table, workers)
+    turn_beside(rt, groups.as_mut_slice(), table, workers)
 }

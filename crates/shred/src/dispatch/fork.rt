@@ -19,6 +19,22 @@ pub(crate) trait Lane<K, E> {
         ensures { went shared.now self.old result self.new };
 }
 
+// Runs every lane, one after the other, and answers the first answer that is not Done.
+pub(crate) fn run_each<K, E: Drop, L: Lane<K, E>>(
+    shared: &K,
+    lanes: &mut [L],
+) -> Result<(), StageFault<E>>
+    requires { All (L.fits shared.now) lanes.old }
+    ensures { AllWent (L.went shared.now) lanes.old result lanes.new }
+{
+    let mut answer = Ok(());
+    for lane in lanes.iter_mut() {
+        let ended = lane.run(shared);
+        answer = first(answer, ended);
+    }
+    answer
+}
+
 // Runs every lane, in halves on up to `workers` threads, and answers the first answer, in order, that is not Done.
 pub(crate) fn run_lanes<R: Threads + Sync, K: Sync, E: Drop + Send, L: Lane<K, E> + Send>(
     rt: &R,
@@ -29,19 +45,11 @@ pub(crate) fn run_lanes<R: Threads + Sync, K: Sync, E: Drop + Send, L: Lane<K, E
     requires { All (L.fits shared.now) lanes.old }
     ensures { AllWent (L.went shared.now) lanes.old result lanes.new }
 {
-    if lanes.len() == 0 {
-        return Ok(());
-    }
-    if lanes.len() == 1 {
-        return lanes[0].run(shared);
+    if workers <= 1 || lanes.len() <= 1 {
+        return run_each(shared, lanes);
     }
     let middle = lanes.len() / 2;
     let (front, back) = lanes.split_at_mut(middle);
-    if workers <= 1 {
-        let a = run_lanes(rt, shared, front, 1);
-        let b = run_lanes(rt, shared, back, 1);
-        return first(a, b);
-    }
     let half = workers / 2;
     let rest = workers - half;
     let (a, b) = join_mut(

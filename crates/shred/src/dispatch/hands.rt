@@ -1,10 +1,10 @@
 //! Making room for what groups and entries write, and moving it into the groups' hands and back.
-ghost use Rattle.std.specs.Prelude.{◌≡◌, IsTrue, false, cond, All, OnOk, OnErr};
+ghost use Rattle.std.specs.Prelude.{◌≡◌, IsTrue, false, true, cond, All, OnOk, OnErr};
 ghost use Rattle.std.specs.List.{AllZip};
 ghost use Rattle.shred_world.specs.Parting.{emptied};
 ghost use Rattle.shred_world.specs.Slots.{slot_at, among};
 ghost use Rattle.shred_world.specs.declared.id.ResourceId.{ResourceId};
-ghost use Rattle.shred.specs.Hands.{HasSpareHand, IsSameButHand, WriteApart, some_writes, HasRoom, HoldsWritten, Fits, IsBack, IsMadeRoom, IsMovedOut, IsLeftSpare, HasSpareSlots, HasSpareEntries, HasMadeRoom, HasMadeRooms, HasLeftSpare, HasLeftSpares};
+ghost use Rattle.shred.specs.Hands.{HasSpareHand, IsSameButHand, WriteApart, some_writes, HasRoom, HoldsWritten, Fits, IsBack, IsMadeRoom, IsMovedOut, IsLeftSpare, HasSpareSlots, HasSpareEntries, IsSameButEntries, HasMadeRoom, HasMadeRooms, HasLeftSpare, HasLeftSpares};
 
 use crate::dispatch::entry::{Entry, Group};
 use shred_world::{OutOfMemory, Table};
@@ -13,7 +13,7 @@ impl<V: Drop, S> Entry<V, S> {
     // Makes room for what the entry writes.
     fn make_room(&mut self, table: &Table<V>) -> Result<(), OutOfMemory>
         requires { HasSpareSlots self.old }
-        ensures ok { OnOk result (HasMadeRoom table.now self.old self.new) }
+        ensures ok { OnOk result (HasMadeRoom false table.now self.old self.new) }
         ensures err { OnErr result (HasLeftSpare self.old self.new) }
     {
         table.make_room(self.writes.as_slice(), &mut self.hand)
@@ -26,7 +26,7 @@ fn make_rooms_of<V: Drop, S>(
     table: &Table<V>,
 ) -> Result<(), OutOfMemory>
     requires { All HasSpareSlots entries.old }
-    ensures ok { OnOk result (AllZip (HasMadeRoom table.now) entries.old entries.new) }
+    ensures ok { OnOk result (AllZip (HasMadeRoom false table.now) entries.old entries.new) }
     ensures err { OnErr result (AllZip HasLeftSpare entries.old entries.new) }
 {
     for entry in entries.iter_mut() {
@@ -38,10 +38,22 @@ fn make_rooms_of<V: Drop, S>(
 }
 
 impl<V: Drop, S> Group<V, S> {
-    // Makes room in its entries' hands.
+    // Makes room in its entries' hands, where there are several.
     fn make_entry_room(&mut self, table: &Table<V>) -> Result<(), OutOfMemory>
         requires { HasSpareEntries self.old }
         ensures ok { OnOk result (HasMadeRooms table.now self.old self.new) }
+        ensures err { OnErr result (HasLeftSpares self.old self.new) }
+    {
+        if self.entries.len() == 1 {
+            return Ok(());
+        }
+        self.make_each_entry_room(table)
+    }
+
+    // Makes room in each of its entries' hands.
+    fn make_each_entry_room(&mut self, table: &Table<V>) -> Result<(), OutOfMemory>
+        requires { HasSpareEntries self.old }
+        ensures ok { OnOk result (IsSameButEntries (HasMadeRoom false table.now) self.old self.new) }
         ensures err { OnErr result (HasLeftSpares self.old self.new) }
     {
         make_rooms_of(self.entries.as_mut_slice(), table)

@@ -3,23 +3,21 @@ ghost use Rattle.std.specs.Prelude.{◌≡◌, false, map, All};
 ghost use Rattle.std.specs.Option.{option_map};
 ghost use Rattle.shred_model.specs.Runs.{Ran, first_fault};
 ghost use Rattle.shred_model.specs.States.{setting_of, listed_states};
-ghost use Rattle.shred.specs.Entries.{EntryRun, GroupRun, StageRun, entry_states, group_states};
+ghost use Rattle.shred.specs.Entries.{EntryRun, GroupRun, entry_states};
 ghost use Rattle.shred.specs.Kept.{AreOwnLists};
-ghost use Rattle.shred.specs.Hands.{KeepsRoom, HasEntryRoom, HasRooms};
-ghost use Rattle.shred.specs.OwnLists.{IsOwnEntry, IsOwnGroup};
-ghost use Rattle.shred.specs.OwnSlots.{lent_before, HasOnlySlots, HasGroupSlots, HasStageSlots};
-ghost use Rattle.shred.specs.PlanOf.{access_of, entry_plan, group_plan, group_numbers, groups_plan};
-ghost use Rattle.shred.specs.Plans.{StageTurn};
+ghost use Rattle.shred.specs.Hands.{HasEntryRoom, HasPlace};
+ghost use Rattle.shred.specs.OwnLists.{IsOwnEntry};
+ghost use Rattle.shred.specs.OwnSlots.{lent_before, HasOnlySlots, HasGroupSlots};
+ghost use Rattle.shred.specs.PlanOf.{access_of, entry_plan};
 ghost use Rattle.shred.specs.Steps.{declared_of};
 ghost use Rattle.shred_world.specs.declared.id.ResourceId.{ResourceId};
 ghost use Rattle.shred_world.specs.Shown.{shown, HasOwnSlots, IsSameSlots};
 ghost use Rattle.shred_world.specs.Slots.{among};
 ghost use Rattle.shred_world.specs.Views.{lent_slot, shelf_slot};
 
-use crate::dispatch::entry::{Entry, Group, SystemId};
-use crate::dispatch::hands::make_entry_rooms;
+use crate::dispatch::entry::{Entry, SystemId};
 use crate::system::{Fault, System};
-use shred_world::{OutOfMemory, ResourceId, ResourceValue, Shelf, Table, View};
+use shred_world::{ResourceId, ResourceValue, Shelf, Table, View};
 use std::fmt::Display;
 use thiserror::Error;
 
@@ -117,22 +115,74 @@ fn step<V: ResourceValue + Drop, S: System<V>>(
     outcome
 }
 
-pub(crate) fn run_entry<V: ResourceValue + Drop, S: System<V>>(
+// The same, over a table that has the slots that the entry writes, and no others.
+fn step_single<V: ResourceValue, S: System<V>>(
     entry: &mut Entry<V, S>,
+    shelf: &[Shelf<V>],
+    own: &mut Table<V>,
+) -> Result<(), Fault<S::Error>>
+    requires own_lists { IsOwnEntry S.reads S.writes entry.old }
+    requires own_slots { HasOwnSlots entry.old.writes.items (lent_slot shelf.now) own.old }
+    requires only_own { HasOnlySlots entry.old.writes.items own.old }
+    ensures step { S.step entry.old.system (declared_of (access_of entry.old) (shown V.kind_of (lent_slot shelf.now) own.old)) result entry.new.system (declared_of (access_of entry.old) (shown V.kind_of (lent_slot shelf.now) own.new)) }
+    ensures kinds { (id : ResourceId) → option_map V.kind_of (shown V.kind_of (lent_slot shelf.now) own.new id) ≡ option_map V.kind_of (shown V.kind_of (lent_slot shelf.now) own.old id) }
+    ensures slots { IsSameSlots own.old own.new }
+    ensures frame { (id : ResourceId) → among entry.old.writes.items id ≡ false → shown V.kind_of (lent_slot shelf.now) own.new id ≡ shown V.kind_of (lent_slot shelf.now) own.old id }
+    ensures plan { entry_plan entry.new ≡ entry_plan entry.old }
+    ensures writes { entry.new.writes ≡ entry.old.writes }
+    ensures own_lists { IsOwnEntry S.reads S.writes entry.new }
+{
+    step_over(
+        entry.reads.as_slice(),
+        entry.writes.as_slice(),
+        shelf,
+        &mut entry.system,
+        own,
+    )
+}
+
+// One step of the entry's system, with its hand where it is not the only one of its group.
+fn step_of<V: ResourceValue + Drop, S: System<V>>(
+    entry: &mut Entry<V, S>,
+    single: bool,
+    shelf: &[Shelf<V>],
+    own: &mut Table<V>,
+) -> Result<(), Fault<S::Error>>
+    requires own_lists { IsOwnEntry S.reads S.writes entry.old }
+    requires own_slots { HasOwnSlots entry.old.writes.items (lent_slot shelf.now) own.old }
+    requires place { HasPlace single own.old entry.old }
+    ensures step { S.step entry.old.system (declared_of (access_of entry.old) (shown V.kind_of (lent_slot shelf.now) own.old)) result entry.new.system (declared_of (access_of entry.old) (shown V.kind_of (lent_slot shelf.now) own.new)) }
+    ensures kinds { (id : ResourceId) → option_map V.kind_of (shown V.kind_of (lent_slot shelf.now) own.new id) ≡ option_map V.kind_of (shown V.kind_of (lent_slot shelf.now) own.old id) }
+    ensures slots { IsSameSlots own.old own.new }
+    ensures frame { (id : ResourceId) → among entry.old.writes.items id ≡ false → shown V.kind_of (lent_slot shelf.now) own.new id ≡ shown V.kind_of (lent_slot shelf.now) own.old id }
+    ensures plan { entry_plan entry.new ≡ entry_plan entry.old }
+    ensures own_lists { IsOwnEntry S.reads S.writes entry.new }
+    ensures place { HasPlace single own.new entry.new }
+{
+    if single {
+        return step_single(entry, shelf, own);
+    }
+    step(entry, shelf, own)
+}
+
+// The entry's run: one step of its system.
+fn run_entry<V: ResourceValue + Drop, S: System<V>>(
+    entry: &mut Entry<V, S>,
+    single: bool,
     shelf: &[Shelf<V>],
     own: &mut Table<V>,
 ) -> Result<(), StageFault<S::Error>>
     requires own_lists { IsOwnEntry S.reads S.writes entry.old }
     requires own_slots { HasOwnSlots entry.old.writes.items (lent_slot shelf.now) own.old }
-    requires room { HasEntryRoom own.old entry.old }
+    requires place { HasPlace single own.old entry.old }
     ensures ran { Ran (EntryRun V.kind_of S.step 0 (entry_plan entry.old)) (setting_of (entry_states entry.old) (shown V.kind_of (lent_slot shelf.now) own.old)) result (setting_of (entry_states entry.new) (shown V.kind_of (lent_slot shelf.now) own.new)) }
     ensures plan { entry_plan entry.new ≡ entry_plan entry.old }
     ensures own_lists { IsOwnEntry S.reads S.writes entry.new }
-    ensures room { HasEntryRoom own.new entry.new }
+    ensures place { HasPlace single own.new entry.new }
     ensures kinds { (id : ResourceId) → option_map V.kind_of (shown V.kind_of (lent_slot shelf.now) own.new id) ≡ option_map V.kind_of (shown V.kind_of (lent_slot shelf.now) own.old id) }
     ensures slots { IsSameSlots own.old own.new }
 {
-    match step(entry, shelf, own) {
+    match step_of(entry, single, shelf, own) {
         Ok(()) => Ok(()),
         Err(fault) => Err(StageFault::System {
             id: entry.id,
@@ -144,46 +194,25 @@ pub(crate) fn run_entry<V: ResourceValue + Drop, S: System<V>>(
 // The entries' steps, in order, up to the first that is not Done.
 pub(crate) fn run_entries<V: ResourceValue + Drop, S: System<V>>(
     entries: &mut [Entry<V, S>],
+    single: bool,
     shelf: &[Shelf<V>],
     own: &mut Table<V>,
 ) -> Result<(), StageFault<S::Error>>
     requires own_lists { All (IsOwnEntry S.reads S.writes) entries.old }
     requires own_slots { HasGroupSlots (lent_slot shelf.now) own.old (map entry_plan entries.old) }
-    requires rooms { All (HasEntryRoom own.old) entries.old }
+    requires places { All (HasPlace single own.old) entries.old }
     ensures ran { Ran (GroupRun V.kind_of S.step 0 (map entry_plan entries.old)) (setting_of (listed_states entry_states entries.old) (shown V.kind_of (lent_slot shelf.now) own.old)) result (setting_of (listed_states entry_states entries.new) (shown V.kind_of (lent_slot shelf.now) own.new)) }
     ensures plan { map entry_plan entries.new ≡ map entry_plan entries.old }
     ensures own_lists { All (IsOwnEntry S.reads S.writes) entries.new }
-    ensures rooms { All (HasEntryRoom own.new) entries.new }
     ensures kinds { (id : ResourceId) → option_map V.kind_of (shown V.kind_of (lent_slot shelf.now) own.new id) ≡ option_map V.kind_of (shown V.kind_of (lent_slot shelf.now) own.old id) }
     ensures slots { IsSameSlots own.old own.new }
 {
     for entry in entries.iter_mut() {
-        if let Err(fault) = run_entry(entry, shelf, own) {
+        if let Err(fault) = run_entry(entry, single, shelf, own) {
             return Err(fault);
         }
     }
     Ok(())
-}
-
-pub(crate) fn run_group<V: ResourceValue + Drop, S: System<V>>(
-    group: &mut Group<V, S>,
-    shelf: &[Shelf<V>],
-    own: &mut Table<V>,
-) -> Result<(), StageFault<S::Error>>
-    requires own_lists { IsOwnGroup S.reads S.writes group.old }
-    requires own_slots { HasGroupSlots (lent_slot shelf.now) own.old (group_plan group.old) }
-    requires rooms { HasRooms own.old group.old }
-    ensures ran { Ran (GroupRun V.kind_of S.step 0 (group_plan group.old)) (setting_of (group_states group.old) (shown V.kind_of (lent_slot shelf.now) own.old)) result (setting_of (group_states group.new) (shown V.kind_of (lent_slot shelf.now) own.new)) }
-    ensures plan { group_plan group.new ≡ group_plan group.old }
-    ensures own_lists { IsOwnGroup S.reads S.writes group.new }
-    ensures rooms { HasRooms own.new group.new }
-    ensures ids { group.new.ids ≡ group.old.ids }
-    ensures written { group.new.written ≡ group.old.written }
-    ensures hand { group.new.hand ≡ group.old.hand }
-    ensures kinds { (id : ResourceId) → option_map V.kind_of (shown V.kind_of (lent_slot shelf.now) own.new id) ≡ option_map V.kind_of (shown V.kind_of (lent_slot shelf.now) own.old id) }
-    ensures slots { IsSameSlots own.old own.new }
-{
-    run_entries(group.entries.as_mut_slice(), shelf, own)
 }
 
 // The first answer that is not Done.
@@ -197,73 +226,4 @@ pub(crate) fn first<E: Drop>(
         Ok(()) => b,
         Err(fault) => Err(fault),
     }
-}
-
-// The groups' runs, one after the other, every group's.
-pub(crate) fn run_groups<V: ResourceValue + Drop, S: System<V, Error = E>, E: Drop>(
-    groups: &mut [Group<V, S>],
-    shelf: &[Shelf<V>],
-    own: &mut Table<V>,
-) -> Result<(), StageFault<E>>
-    requires own_lists { All (IsOwnGroup S.reads S.writes) groups.old }
-    requires own_slots { HasStageSlots (lent_slot shelf.now) own.old (groups_plan groups.old) }
-    requires rooms { All (HasRooms own.old) groups.old }
-    requires room { All KeepsRoom groups.old }
-    ensures ran { Ran (StageRun V.kind_of S.step (groups_plan groups.old)) (setting_of (listed_states group_states groups.old) (shown V.kind_of (lent_slot shelf.now) own.old)) result (setting_of (listed_states group_states groups.new) (shown V.kind_of (lent_slot shelf.now) own.new)) }
-    ensures plan { groups_plan groups.new ≡ groups_plan groups.old }
-    ensures own_lists { All (IsOwnGroup S.reads S.writes) groups.new }
-    ensures ids { map group_numbers groups.new ≡ map group_numbers groups.old }
-    ensures room { All KeepsRoom groups.new }
-    ensures kinds { (id : ResourceId) → option_map V.kind_of (shown V.kind_of (lent_slot shelf.now) own.new id) ≡ option_map V.kind_of (shown V.kind_of (lent_slot shelf.now) own.old id) }
-    ensures slots { IsSameSlots own.old own.new }
-{
-    let mut answer = Ok(());
-    for group in groups.iter_mut() {
-        let ended = run_group(group, shelf, own);
-        answer = first(answer, ended);
-    }
-    answer
-}
-
-// The groups' runs, where there is room for what their entries write; else nothing is run.
-fn run_turn<V: ResourceValue + Drop, S: System<V, Error = E>, E: Drop>(
-    groups: &mut [Group<V, S>],
-    shelf: &[Shelf<V>],
-    own: &mut Table<V>,
-) -> Result<(), StageFault<E>>
-    requires own_lists { All (IsOwnGroup S.reads S.writes) groups.old }
-    requires own_slots { HasStageSlots (lent_slot shelf.now) own.old (groups_plan groups.old) }
-    requires room { All KeepsRoom groups.old }
-    ensures ran { Ran (StageTurn V.kind_of S.step (groups_plan groups.old)) (setting_of (listed_states group_states groups.old) (shown V.kind_of (lent_slot shelf.now) own.old)) result (setting_of (listed_states group_states groups.new) (shown V.kind_of (lent_slot shelf.now) own.new)) }
-    ensures plan { groups_plan groups.new ≡ groups_plan groups.old }
-    ensures own_lists { All (IsOwnGroup S.reads S.writes) groups.new }
-    ensures ids { map group_numbers groups.new ≡ map group_numbers groups.old }
-    ensures room { All KeepsRoom groups.new }
-    ensures kinds { (id : ResourceId) → option_map V.kind_of (shown V.kind_of (lent_slot shelf.now) own.new id) ≡ option_map V.kind_of (shown V.kind_of (lent_slot shelf.now) own.old id) }
-    ensures slots { IsSameSlots own.old own.new }
-{
-    if let Err(OutOfMemory) = make_entry_rooms(groups, own) {
-        return Err(StageFault::Memory);
-    }
-    run_groups(groups, shelf, own)
-}
-
-// The same, of the groups of a stage.
-pub(crate) fn run_stage<V: ResourceValue + Drop, S: System<V, Error = E>, E: Drop>(
-    groups: &mut Vec<Group<V, S>>,
-    shelf: &[Shelf<V>],
-    own: &mut Table<V>,
-) -> Result<(), StageFault<E>>
-    requires own_lists { All (IsOwnGroup S.reads S.writes) groups.old.items }
-    requires own_slots { HasStageSlots (lent_slot shelf.now) own.old (groups_plan groups.old.items) }
-    requires room { All KeepsRoom groups.old.items }
-    ensures ran { Ran (StageTurn V.kind_of S.step (groups_plan groups.old.items)) (setting_of (listed_states group_states groups.old.items) (shown V.kind_of (lent_slot shelf.now) own.old)) result (setting_of (listed_states group_states groups.new.items) (shown V.kind_of (lent_slot shelf.now) own.new)) }
-    ensures plan { groups_plan groups.new.items ≡ groups_plan groups.old.items }
-    ensures own_lists { All (IsOwnGroup S.reads S.writes) groups.new.items }
-    ensures ids { map group_numbers groups.new.items ≡ map group_numbers groups.old.items }
-    ensures room { All KeepsRoom groups.new.items }
-    ensures kinds { (id : ResourceId) → option_map V.kind_of (shown V.kind_of (lent_slot shelf.now) own.new id) ≡ option_map V.kind_of (shown V.kind_of (lent_slot shelf.now) own.old id) }
-    ensures slots { IsSameSlots own.old own.new }
-{
-    run_turn(groups.as_mut_slice(), shelf, own)
 }

@@ -12,9 +12,9 @@ ghost use Rattle.shred.specs.Search.{is_touched, may_end, OthersDoNotConflict, S
 ghost use Rattle.shred.specs.Sides.{stage_side};
 ghost use Rattle.shred.specs.Soundness.{IsSmallGroup};
 
-use crate::dispatch::beside::fork_stage;
+use crate::dispatch::beside::{take_turn, take_turn_beside};
 use crate::dispatch::entry::{Entry, Group, SystemId};
-use crate::dispatch::run::{StageFault, run_stage};
+use crate::dispatch::run::StageFault;
 use crate::dispatch::side::Side;
 use crate::dispatch::spot::{Spot, Touched};
 use crate::system::System;
@@ -211,7 +211,7 @@ impl<V: ResourceValue + Drop, S: System<V, Error = E>, E: Drop> Stage<V, S> {
         ensures plan { stage_plan self.new ≡ stage_plan self.old }
         ensures kinds { (id : ResourceId) → option_map V.kind_of (world_held V.kind_of world.new id) ≡ option_map V.kind_of (world_held V.kind_of world.old id) }
     {
-        run_stage(&mut self.groups, &[], world.table_mut())
+        take_turn(&mut self.groups, world.table_mut())
     }
 }
 
@@ -250,6 +250,6 @@ where
         if self.groups.len() < 2 {
             return self.execute_seq(world);
         }
-        fork_stage(rt, &mut self.groups, world.table_mut(), WORKERS)
+        take_turn_beside(rt, &mut self.groups, world.table_mut(), WORKERS)
     }
 }

@@ -7,7 +7,7 @@ use Rattle.shred_world.specs.declared.id.ResourceId.{ResourceId}
 use Rattle.shred_world.specs.Shown.{shown, IsSameSlots}
 use Rattle.shred_world.specs.Views.{lent_slot}
 use Rattle.shred.specs.Entries.{EntryRun, entry_states}
-use Rattle.shred.specs.Hands.{HasEntryRoom}
+use Rattle.shred.specs.Hands.{HasPlace}
 use Rattle.shred.specs.OwnLists.{IsOwnEntry}
 use Rattle.shred.specs.PlanOf.{entry_plan}
 use Rattle.shred.proofs.dispatch.run.run_entries.Given as goal
@@ -18,7 +18,7 @@ invariant-loop-entry g l = record {
   kinds : (id : ResourceId) → option_map g.V.ResourceValue.kind_of (shown g.V.ResourceValue.kind_of (lent_slot l.shelf) l.own id) ≡ option_map g.V.ResourceValue.kind_of (shown g.V.ResourceValue.kind_of (lent_slot l.shelf) l.initial.own id);
   slots : IsSameSlots l.initial.own l.own;
   own_lists : All (IsOwnEntry g.S.System.reads g.S.System.writes) l.entries;
-  rooms : All (HasEntryRoom l.own) l.entries;
+  places : All (HasPlace l.single l.own) l.entries;
   ran : SoFar (EntryRun g.V.ResourceValue.kind_of g.S.System.step) l.entry-index (map entry_plan l.initial.entries)
       (setting_of (listed_states entry_states l.initial.entries) (shown g.V.ResourceValue.kind_of (lent_slot l.shelf) l.initial.own)) (setting_of (listed_states entry_states l.entries) (shown g.V.ResourceValue.kind_of (lent_slot l.shelf) l.own));
 }

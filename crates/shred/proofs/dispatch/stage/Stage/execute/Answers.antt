@@ -7,11 +7,11 @@ use Rattle.shred.proofs.StageStays.{stays}
 use Rattle.shred.proofs.dispatch.stage.Stage.execute.Goals as goal
 
 pub invariant_of-self : goal.invariant_of-self
-invariant_of-self g c = stays g.S.System.reads g.S.System.writes c.fork_stage.new.groups.items c.args.self.now.groups.items c.fork_stage.ensures.plan c.fork_stage.ensures.ids c.fork_stage.ensures.room c.fork_stage.ensures.own_lists
+invariant_of-self g c = stays g.S.System.reads g.S.System.writes c.take_turn_beside.new.groups.items c.args.self.now.groups.items c.take_turn_beside.ensures.plan c.take_turn_beside.ensures.ids c.take_turn_beside.ensures.room c.take_turn_beside.ensures.own_lists
     (record { some_group = c.args.self.now.some_group; small_groups = c.args.self.now.small_groups; apart = c.args.self.now.apart; keep_ids = c.args.self.now.keep_ids; keep_room = c.args.self.now.keep_room; own_lists = c.args.self.now.own_lists })
 
 pub returns-clause-ran : goal.returns-clause-ran
 returns-clause-ran g c =
     let kind = g.V.ResourceValue.kind_of in
     let turn = StageTurn kind g.S.System.step (stage_plan c.args.self.now) in
-    Ran-as_one_thread tell_ids turn _ c.fork_stage.result _ (turn_framed kind g.S.System.step (stage_plan c.args.self.now)) (rw c.table_mut.ensures.shown at c.fork_stage.ensures.ran)
+    Ran-as_one_thread tell_ids turn _ c.take_turn_beside.result _ (turn_framed kind g.S.System.step (stage_plan c.args.self.now)) (rw c.table_mut.ensures.shown at c.take_turn_beside.ensures.ran)

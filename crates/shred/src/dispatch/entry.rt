@@ -29,7 +29,7 @@ impl<A: Drop> MadeWith<A> for SystemId {
 }
 
 /// A system, with what was kept of it when it was placed, and the slots into which the values that it writes are moved
-/// while it runs.
+/// while it runs, where its group has other entries.
 #[derive(Drop)]
 pub(crate) struct Entry<V, S> {
     pub(crate) id: SystemId,
@@ -41,7 +41,7 @@ pub(crate) struct Entry<V, S> {
 }
 
 /// Entries that run one after the other. Beside them stand their ids, the ids that they write, and the slots into which
-/// the written values are moved while the group runs beside others.
+/// the written values are moved while the group runs.
 #[derive(Drop)]
 pub(crate) struct Group<V, S> {
     pub(crate) ids: ArrayVec<SystemId, 4>,

@@ -1,5 +1,7 @@
 pub mod Finite
 pub mod Slots
+mod IdOrder
+mod InOrder
 pub mod Tables
 pub mod Ids
 pub mod Views

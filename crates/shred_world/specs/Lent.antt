@@ -13,7 +13,12 @@ use Rattle.shred_world.specs.contracts.table.Slot.{the_row as slot_row}
 use Rattle.shred_world.specs.contracts.table.Table.{the_row as table_row}
 use Rattle.shred_world.specs.declared.world.data.View.{View}
 use Rattle.shred_world.specs.contracts.world.data.View.{the_row as view_row}
-use Rattle.shred_world.specs.Slots.{slot_at, noted_in, with_at}
+use Rattle.shred_world.specs.declared.listed.Listed.{Listed}
+use Rattle.shred_world.specs.declared.store.Slots.{Slots}
+use Rattle.shred_world.specs.contracts.listed.Listed.{the_row as listed_row}
+use Rattle.shred_world.specs.contracts.store.Slots.{the_row as slots_row}
+use Rattle.shred_world.specs.Listed.{listed_at}
+use Rattle.shred_world.specs.Slots.{kept_at, slot_at, noted_in, with_at}
 use Rattle.shred_world.specs.Views.{view_held, IsSameView}
 use Rattle.shred_world.specs.Worlds.{world_held}
 
@@ -28,6 +33,18 @@ LendsValue V s r = LendsIf (slot_row V) V s r (with_value s.now) s.now
 -- the slot ends with the resource last written, as a value, or as it was
 abbrev pub LendsResource : (V R : RattleType) → (R.Denot → V.Denot) → MutBor (Slot V.Denot) → Option (MutBor R.Denot) → Fml
 LendsResource V R wrapped s r = LendsIf (slot_row V) R s r (λ w. with_value s.now (wrapped w)) s.now
+
+-- the list ends with the slot last written at the id, or as it was where there is none
+abbrev pub LendsListed : (V : RattleType) → MutBor (Listed V.Denot) → ResourceId → Option (MutBor (Slot V.Denot)) → Fml
+LendsListed V s id r = LendsSo (listed_row V) (slot_row V) s r
+    (λ n w. OnSome r ((q : ResourceId) → listed_at n q ≡ with_at (listed_at s.now) id (Some w) q))
+    (λ n. (q : ResourceId) → listed_at n q ≡ listed_at s.now q)
+
+-- the slots end with the one last written at the id, or as they were where there is none
+abbrev pub LendsKept : (V : RattleType) → MutBor (Slots V.Denot) → ResourceId → Option (MutBor (Slot V.Denot)) → Fml
+LendsKept V s id r = LendsSo (slots_row V) (slot_row V) s r
+    (λ n w. OnSome r ((q : ResourceId) → kept_at n q ≡ with_at (kept_at s.now) id (Some w) q))
+    (λ n. (q : ResourceId) → kept_at n q ≡ kept_at s.now q)
 
 -- the table ends with the slot last written at the id, or as it was where there is none, and all else as it was
 abbrev pub LendsSlot : (V : RattleType) → MutBor (Table V.Denot) → ResourceId → Option (MutBor (Slot V.Denot)) → Fml

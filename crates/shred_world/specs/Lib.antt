@@ -1,4 +1,6 @@
 pub mod Id
+pub mod InOrder
+pub mod Listed
 pub mod Slots
 pub mod Lent
 pub mod Fetched

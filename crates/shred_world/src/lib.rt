@@ -3,8 +3,10 @@
 
 pub mod accessor;
 pub mod id;
+mod listed;
 pub mod parting;
 pub mod resource;
+mod store;
 pub mod table;
 pub mod util;
 pub mod world;

@@ -14,7 +14,7 @@ use std::alloc::Global;
 pub fn empty_hand<V>(alloc: Global) -> Table<V>
     ensures { (id : ResourceId) → slot_at result id ≡ None }
 {
-    Table::new(alloc)
+    Table::hand(alloc)
 }
 
 impl<V: Drop> Table<V> {

@@ -10,7 +10,9 @@ ghost use Rattle.shred_world.specs.declared.id.ResourceId.{ResourceId};
 
 use crate::accessor::OutOfMemory;
 use crate::id::ResourceId;
+use crate::listed::Listed;
 use crate::resource::{Resource, ResourceValue};
+use crate::store::Slots;
 use std::alloc::Global;
 use std::collections::HashMap;
 use std::mem;
@@ -76,17 +78,27 @@ impl<V> Slot<V> {
 /// Slots by id, and the ids whose values are noted as handed out.
 #[derive(Drop)]
 pub struct Table<V> {
-    slots: HashMap<ResourceId, Slot<V>>,
+    slots: Slots<V>,
     out: Vec<ResourceId>,
 }
 
 impl<V> Table<V> {
-    // No slots. It takes no memory.
+    // A world's table, without slots. It takes no memory.
     pub(crate) fn new(alloc: Global) -> Self
         ensures { (id : ResourceId) → slot_at result id ≡ None }
     {
         Table {
-            slots: HashMap::new(alloc),
+            slots: Slots::Hashed(HashMap::new(alloc)),
+            out: Vec::new(alloc),
+        }
+    }
+
+    // A hand, without slots. It takes no memory.
+    pub(crate) fn hand(alloc: Global) -> Self
+        ensures { (id : ResourceId) → slot_at result id ≡ None }
+    {
+        Table {
+            slots: Slots::Listed(Listed::new(alloc)),
             out: Vec::new(alloc),
         }
     }
@@ -133,7 +145,7 @@ impl<V> Table<V> {
     pub(crate) fn slot(&self, id: ResourceId) -> Option<&Slot<V>>
         ensures { option_copied result ≡ slot_at self.now id }
     {
-        self.slots.get(&id)
+        self.slots.get(id)
     }
 
     // The value that is held under an id.
@@ -157,10 +169,7 @@ impl<V> Table<V> {
         ensures no_room { OnErr result (slot_at self.old id ≡ None) }
     {
         let slot = Slot { value: Some(value) };
-        match self.slots.insert(id, slot) {
-            Ok(_) => Ok(()),
-            Err(_) => Err(OutOfMemory),
-        }
+        self.slots.insert(id, slot)
     }
 
     // Makes the slot of an id empty; the slot is made where there is none.
@@ -171,10 +180,7 @@ impl<V> Table<V> {
         ensures err { OnErr result ((q : ResourceId) → slot_at self.new q ≡ slot_at self.old q) }
         ensures no_room { OnErr result (slot_at self.old id ≡ None) }
     {
-        match self.slots.insert(id, Slot { value: None }) {
-            Ok(_) => Ok(()),
-            Err(_) => Err(OutOfMemory),
-        }
+        self.slots.insert(id, Slot { value: None })
     }
 
     // Takes the slot of an id away, with its value.
@@ -183,7 +189,7 @@ impl<V> Table<V> {
         V: Drop,
         ensures { (q : ResourceId) → slot_at self.new q ≡ with_at (slot_at self.old) id None q }
     {
-        let _ = self.slots.remove(&id);
+        let _ = self.slots.remove(id);
     }
 
     // Takes the value out of the slot of an id; the slot stays.
@@ -215,7 +221,7 @@ impl<V> Table<V> {
         ensures value { result ≡ slot_at self.old id }
         ensures after { (q : ResourceId) → slot_at self.new q ≡ with_at (slot_at self.old) id None q }
     {
-        self.slots.remove(&id)
+        self.slots.remove(id)
     }
 
     // Puts the value in the place of the one that the slot of an id has, and gives back the old one; or the value
@@ -241,7 +247,7 @@ impl<V> Table<V> {
         ensures shown { option_copied_mut result ≡ slot_at self.old id }
         ensures* written { sem 𝓛 (LendsSlot V.row self.entry id result) }
     {
-        self.slots.get_mut(&id)
+        self.slots.get_mut(id)
     }
 
     // The resource that is held under an id, to write.

@@ -47,7 +47,7 @@ impl<V: Drop> Table<V> {
     {
         let mut hands = Vec::new(alloc);
         for pair in pairs {
-            let mut hand = Table::new(alloc);
+            let mut hand = Table::hand(alloc);
             if let Err(error) = self.make_room(pair.1, &mut hand) {
                 return Err(error);
             }

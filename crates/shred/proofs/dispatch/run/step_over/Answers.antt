@@ -1,11 +1,9 @@
 use Rattle.std.proofs.Common.{◌≡◌, sym, subst, ap, ◌∙◌}
-use Rattle.std.specs.HashMap.{get}
 use Rattle.std.specs.Prelude.{is_some}
 use Rattle.shred.specs.Steps.{declared_of}
 use Rattle.shred.proofs.Viewed.{declared_shown, still_has_slots}
-use Rattle.shred_world.specs.Id.{same_id}
 use Rattle.shred_world.specs.Shown.{shown}
-use Rattle.shred_world.specs.Slots.{slot_at}
+use Rattle.shred_world.specs.Slots.{kept_at, slot_at}
 use Rattle.shred_world.specs.Views.{lent_slot, declared_held}
 use Rattle.shred.proofs.dispatch.run.step_over.Goals as goal
 
@@ -21,7 +19,7 @@ returns-clause-step g c =
     let made = c.over-view.ensures in
     let same = c.run.ensures.view in
     let tie : c.own-1.given.0 ≡ w.own.now = c.own-1.given.1 (sym (c.run.ensures.table ∙ made.name)) in
-    let slots : (q : _) → slot_at v.own.now q ≡ slot_at own q = λ q i. get same_id (made.slots i) q in
+    let slots : (q : _) → slot_at v.own.now q ≡ slot_at own q = λ q i. kept_at (made.slots i) q in
     let kept : (q : _) → is_some (slot_at c.own-1.given.0 q) ≡ is_some (slot_at own q) = λ q. (λ i. is_some (slot_at (tie i) q)) ∙ same.slots q ∙ ap is_some (slots q) in
     let before = declared_shown kind v reads writes lent own made.reads made.writes made.owned made.not_whole (λ q i. lent_slot (made.shelf i) q) slots c.requires.own_slots in
     let after = declared_shown kind w reads writes lent c.own-1.given.0 (same.reads ∙ made.reads) (same.writes ∙ made.writes) (same.owned ∙ made.owned) (same.whole ∙ made.not_whole)

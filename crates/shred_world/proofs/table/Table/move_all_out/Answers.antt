@@ -5,10 +5,8 @@ use Rattle.std.proofs.Math.ListN.{length-set}
 use Rattle.shred_world.specs.declared.table.Slot.{Slot}
 use Rattle.shred_world.specs.Parting.{emptied}
 use Rattle.shred_world.specs.Parts.{Pair, writes_of, written_by, HasNothingOut, HasRoom, HoldsWritten}
-use Rattle.shred_world.specs.Slots.{slot_at, among}
-use Rattle.std.specs.HashMap.{get}
+use Rattle.shred_world.specs.Slots.{kept_at, slot_at, among}
 use Rattle.std.proofs.Common.{◌&&◌}
-use Rattle.shred_world.specs.Id.{same_id}
 use Rattle.shred_world.specs.Views.{is_vacant}
 use Rattle.shred_world.proofs.Beside.{zip-map}
 use Rattle.shred_world.proofs.Moves.{left-more}
@@ -41,7 +39,7 @@ loop-i-preserved g c =
       left = λ q. left-or (written_by (take i pairs) q) (among (writes_of pair) q) (slot_at c.args.self.now q) (slot_at c.loop-i.self q) (slot_at c.move_out.new.self q) (c.loop-i.invariant.left q) (c.move_out.ensures.left q)
           ∙ ap (λ (b : Bool). cond b (emptied (slot_at c.args.self.now q)) (slot_at c.args.self.now q)) (sym (list_any_more (λ p. among (writes_of p) q) pairs i d c.loop-i-test.true));
       hands = zip-more (IsFilled c.args.self.now) (HasRoom c.args.self.now) i pairs c.loop-i.hands d c.forget_notes.new.self c.loop-i-test.true c.loop-i.invariant.hands (
-        λ q. (λ i. get same_id (c.forget_notes.ensures.slots i) q) ∙ held-now (written_by (take i pairs) q) (among (writes_of pair) q) (slot_at c.args.self.now q) (slot_at c.loop-i.self q) (slot_at c.move_out.new.hand q)
+        λ q. (λ i. kept_at (c.forget_notes.ensures.slots i) q) ∙ held-now (written_by (take i pairs) q) (among (writes_of pair) q) (slot_at c.args.self.now q) (slot_at c.loop-i.self q) (slot_at c.move_out.new.hand q)
             (λ w. written-before i pairs d q c.requires.apart c.loop-i-test.true w) (c.loop-i.invariant.left q) (c.move_out.ensures.hand q),
         λ q. ap (λ (b : Bool). b && is_vacant (slot_at c.forget_notes.new.self q)) (c.forget_notes.ensures.noted q),
       );

@@ -1,7 +1,6 @@
 use Rattle.std.proofs.Common.{length, sym, subst, ◌∙◌, ap}
 use Rattle.std.specs.List.{AllZip}
-use Rattle.std.specs.HashMap.{get}
-use Rattle.shred_world.specs.Id.{same_id}
+use Rattle.shred_world.specs.Slots.{kept_at}
 use Rattle.shred_world.specs.Parts.{HasRoom, HoldsWritten}
 use Rattle.shred_world.proofs.Pairs.{zip-length, written-over}
 use Rattle.shred_world.proofs.Parted.{parted-hands, parted-fit, parted-shown}
@@ -13,7 +12,7 @@ returns-clause-of_pairs g c =
     let pairs = c.args.pairs.now in
     let items = c.in-Ok.hands.items in
     let now = c.move_all_out.new.hands in
-    parted-hands pairs c.args.self.now c.note_all.new.self _ (λ q. ap (λ slots. get same_id slots q) c.note_all.ensures.slots ∙ c.move_all_out.ensures.left q) c.requires.writes_within
+    parted-hands pairs c.args.self.now c.note_all.new.self _ (λ q. ap (λ slots. kept_at slots q) c.note_all.ensures.slots ∙ c.move_all_out.ensures.left q) c.requires.writes_within
     (subst (AllZip (HoldsWritten was) pairs)
     (sym (written-over c.in-Ok.hands.len items now (sym c.as_mut_slice.ensures.len ∙ ap length c.as_mut_slice.ensures.value) (sym (zip-length (HoldsWritten was) pairs now c.move_all_out.ensures.hands) ∙ zip-length (HasRoom was) pairs items c.in-Ok.ensures)))
     c.move_all_out.ensures.hands)
@@ -24,7 +23,7 @@ returns-clause-fit g c =
     let pairs = c.args.pairs.now in
     let items = c.in-Ok.hands.items in
     let now = c.move_all_out.new.hands in
-    parted-fit pairs was c.note_all.new.self _ (λ q. ap (λ slots. get same_id slots q) c.note_all.ensures.slots ∙ c.move_all_out.ensures.left q)
+    parted-fit pairs was c.note_all.new.self _ (λ q. ap (λ slots. kept_at slots q) c.note_all.ensures.slots ∙ c.move_all_out.ensures.left q)
     (subst (AllZip (HoldsWritten was) pairs)
     (sym (written-over c.in-Ok.hands.len items now (sym c.as_mut_slice.ensures.len ∙ ap length c.as_mut_slice.ensures.value) (sym (zip-length (HoldsWritten was) pairs now c.move_all_out.ensures.hands) ∙ zip-length (HasRoom was) pairs items c.in-Ok.ensures)))
     c.move_all_out.ensures.hands)
@@ -35,7 +34,7 @@ returns-clause-shown g c =
     let pairs = c.args.pairs.now in
     let items = c.in-Ok.hands.items in
     let now = c.move_all_out.new.hands in
-    parted-shown pairs c.args.self.now c.note_all.new.self _ (λ q. ap (λ slots. get same_id slots q) c.note_all.ensures.slots ∙ c.move_all_out.ensures.left q) c.requires.apart c.requires.writes_within
+    parted-shown pairs c.args.self.now c.note_all.new.self _ (λ q. ap (λ slots. kept_at slots q) c.note_all.ensures.slots ∙ c.move_all_out.ensures.left q) c.requires.apart c.requires.writes_within
     (subst (AllZip (HoldsWritten was) pairs)
     (sym (written-over c.in-Ok.hands.len items now (sym c.as_mut_slice.ensures.len ∙ ap length c.as_mut_slice.ensures.value) (sym (zip-length (HoldsWritten was) pairs now c.move_all_out.ensures.hands) ∙ zip-length (HasRoom was) pairs items c.in-Ok.ensures)))
     c.move_all_out.ensures.hands)

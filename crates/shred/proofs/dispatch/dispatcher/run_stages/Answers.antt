@@ -1,11 +1,14 @@
 use Rattle.std.proofs.Common.{◌∙◌, get_or, Ok, Err, refl, arith}
 use Rattle.std.proofs.Math.Seq.{map-set_same}
-use Rattle.shred_model.proofs.UpToFault.{SoFar-more, SoFar-fault, SoFar-end}
+use Rattle.shred_model.proofs.UpToFault.{SoFar-start, SoFar-more, SoFar-fault, SoFar-end}
 use Rattle.shred_world.specs.Worlds.{world_held}
 use Rattle.shred.specs.Plans.{PlanTurn, stage_states}
 use Rattle.shred.specs.StagePlan.{stage_plan}
 use Rattle.shred.proofs.PlanTurns.{turn-ran}
 use Rattle.shred.proofs.dispatch.dispatcher.run_stages.Goals as goal
+
+pub loop-place-init : goal.loop-place-init
+loop-place-init g c = record { plan = refl; kinds = λ id. refl; ran = SoFar-start (PlanTurn g.V.ResourceValue.kind_of g.S.System.step) _ _ }
 
 pub returns-in-Err-clause-ran : goal.returns-in-Err-clause-ran
 returns-in-Err-clause-ran g c =

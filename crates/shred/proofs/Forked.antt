@@ -1,7 +1,8 @@
 -- Groups whose written values were moved into their hands, that ran, and whose values were moved back.
-use Rattle.std.proofs.Common.{◌≡◌, ℕ, zero, suc, ◌<◌, Bool, true, false, ◌&&◌, Option, Some, None, cond, List, [], ◌∷◌, length, map, get_or, Contains, refl, sym, ◌∙◌, ap, subst, inl, inr, arith, IsTrue, append-nil}
+use Rattle.std.proofs.Common.{◌≡◌, ℕ, zero, suc, ◌<◌, Bool, true, false, ◌&&◌, Option, Some, None, cond, List, [], ◌∷◌, length, map, get_or, Contains, refl, sym, ◌∙◌, ap, subst, inl, inr, arith, append-nil}
 use Rattle.std.specs.Prelude.{is_some, ◌==◌}
 use Rattle.std.specs.List.{All, AllZip, flat_map}
+use Rattle.std.specs.Option.{option_map}
 use Rattle.std.proofs.lemmas.Bool.Decides.{nat_tests}
 use Rattle.std.proofs.lemmas.List.{length-map, get_or-map}
 use Rattle.shred_model.specs.Access.{Conflicts}
@@ -12,18 +13,18 @@ use Rattle.shred_world.specs.declared.id.Kind.{Kind}
 use Rattle.shred_world.specs.declared.id.ResourceId.{ResourceId}
 use Rattle.shred_world.specs.declared.table.Slot.{Slot}
 use Rattle.shred_world.specs.declared.table.Table.{Table}
-use Rattle.shred_world.specs.Parting.{emptied}
+use Rattle.shred_world.specs.Parting.{emptied, given, slot_value}
 use Rattle.shred_world.specs.Shown.{shown, HasOwnSlots, IsSameSlots}
 use Rattle.shred_world.specs.Slots.{slot_at, slot_held, held, among, or_slot}
 use Rattle.shred_world.proofs.Ids.{among-true, among-contains}
-use Rattle.shred_world.proofs.Moves.{emptied-twice}
 use Rattle.shred_world.proofs.Pairs.{zip-get}
-use Rattle.shred.specs.Hands.{KeepsRoom, IsSameButHand, WriteApart, HoldsWritten, Fits, IsBack, IsMovedOut, is_single, HasRoomIn, HasRooms, HasPlace}
+use Rattle.shred.specs.Hands.{KeepsRoom, IsSameButHand, WriteApart, Fits, IsBack, IsMovedOut, carried, is_single, HasPlace}
 use Rattle.shred.specs.Lanes.{IsReady}
 use Rattle.shred.specs.OwnLists.{IsOwnEntry, IsOwnGroup}
 use Rattle.shred.specs.PlanOf.{entry_plan, group_plan, groups_plan}
 use Rattle.shred.specs.declared.dispatch.entry.Entry.{Entry}
 use Rattle.shred.specs.declared.dispatch.entry.Group.{Group}
+use Rattle.shred.proofs.Spare.{room-of_empty, carried-held, back-held}
 use Rattle.shred.proofs.Membership.{Contains-head, Contains-tail, Contains-flat_map}
 
 contains-at : {X : Type 0} (xs : List X) (k : ℕ) (d : X) → k < length xs → Contains xs (get_or xs k d)
@@ -94,66 +95,50 @@ module _ {V S : Type 0} where
       rw (one, two) (apart i j d lt (omega arith) q)
 
 module _ {V : Type 0} (before after : Table V) (taken : ResourceId → Bool) (left : (q : ResourceId) → slot_at after q ≡ cond (taken q) (emptied (slot_at before q)) (slot_at before q)) where
-  some-left : (q : ResourceId) → is_some (slot_at after q) ≡ is_some (slot_at before q)
-  some-left q = ap is_some (left q) ∙ each (taken q) (slot_at before q) where
-    each : (b : Bool) (s : Option (Slot V)) → is_some (cond b (emptied s) s) ≡ is_some s
-    each true (Some s) = refl
-    each true None = refl
-    each false s = refl
-
-  none-left : (q : ResourceId) → slot_at before q ≡ None → slot_at after q ≡ None
-  none-left q none = none_there (slot_at after q) (some-left q ∙ ap is_some none) where
-    none_there : (s : Option (Slot V)) → is_some s ≡ false → s ≡ None
-    none_there (Some s) e = absurd (cc)
-    none_there None e = refl
-
-  pub empty-left : (q : ResourceId) → IsTrue (taken q) → slot_at after q ≡ emptied (slot_at after q)
-  empty-left q there = let is : slot_at after q ≡ emptied (slot_at before q) = left q ∙ ap (λ (b : Bool). cond b (emptied (slot_at before q)) (slot_at before q)) there in is ∙ sym (emptied-twice (slot_at before q)) ∙ ap emptied (sym is)
-
-  -- where a table has room for some of the moved values, their hand has
-  in_hand : {S : Type 0} (y : Group V S) → HoldsWritten before y → (q : ResourceId) (b : Bool) → (b ≡ true → among y.written.items q ≡ true) → cond b (emptied (slot_at before q)) None ≡ cond b (emptied (slot_at y.hand q)) None
-  in_hand y holds q true there = ap emptied (sym (holds q ∙ ap (λ (b : Bool). cond b (slot_at before q) None) (there refl)))
-  in_hand y holds q false there = refl
-
   -- a group whose values were moved out is ready to run
-  pub is-ready : {S : Type 0} (reads writes : S → List ResourceId) (x y : Group V S) → KeepsRoom x → IsOwnGroup reads writes x → HasRooms before x → IsMovedOut before x y → IsReady reads writes (slot_at after) y
-  is-ready {S} reads writes x y room own rooms moved = record {
-    places = subst (λ (items : List (Entry V S)). All (HasPlace (length items == 1) y.hand) items) (ap (λ entries. entries.items) (sym moved.0.entries)) (λ k d below. at k d below (is_single x) refl (rooms k d below));
+  pub is-ready : {S : Type 0} (reads writes : S → List ResourceId) (x y : Group V S) → KeepsRoom x → IsOwnGroup reads writes x → IsMovedOut before x y → IsReady reads writes (slot_at after) y
+  is-ready {S} reads writes x y room own moved = record {
+    places = subst (λ (items : List (Entry V S)). All (HasPlace (length items == 1) y.hand) items) (ap (λ entries. entries.items) (sym moved.0.entries)) (λ k d below. at k d below (is_single x) refl);
     own_lists = subst (λ (items : List (Entry V S)). All (IsOwnEntry reads writes) items) (ap (λ entries. entries.items) (sym moved.0.entries)) own;
     own_slots = subst (λ plan. All (λ e. HasOwnSlots e.access.writes (slot_at after) y.hand) plan) (sym (same-plan x y moved.0)) (λ k d below q there none.
-        let here : among y.written.items q ≡ true = same-written x y moved.0 q ∙ written_by_group x room k d below q there in
-        none-left q (sym (ap (λ (b : Bool). cond b (slot_at before q) None) here) ∙ sym (moved.1 q) ∙ none));
+        absurd (let e = sym (there_is q (same-written x y moved.0 q ∙ written_by_group x room k d below q there)) ∙ ap is_some none in cc));
   } where
-    at : (k : ℕ) (d : Entry V S) → k < length x.entries.items → (single : Bool) → is_single x ≡ single → HasRoomIn single before (get_or x.entries.items k d) → HasPlace single y.hand (get_or x.entries.items k d)
-    at k d below true one any = λ q out.
-        moved.1 q ∙ ap (λ (b : Bool). cond b (slot_at before q) None) (same-written x y moved.0 q ∙ sym (single-writes x room k d below one q) ∙ out)
-    at k d below false several rooms = λ q.
+    there_is : (q : ResourceId) → among y.written.items q ≡ true → is_some (slot_at y.hand q) ≡ true
+    there_is q there = ap is_some (moved.1 q) ∙ ap (λ (b : Bool). is_some (cond b (carried (slot_at before q)) None)) there
+
+    at : (k : ℕ) (d : Entry V S) → k < length x.entries.items → (single : Bool) → is_single x ≡ single → HasPlace single y.hand (get_or x.entries.items k d)
+    at k d below true one = λ q out.
+        moved.1 q ∙ ap (λ (b : Bool). cond b (carried (slot_at before q)) None) (same-written x y moved.0 q ∙ sym (single-writes x room k d below one q) ∙ out)
+    at k d below false several = λ q.
         let e = get_or x.entries.items k d in
-        rooms q ∙ in_hand y moved.1 q (among e.writes.items q) (λ there. same-written x y moved.0 q ∙ entry-writes x room k d below q there)
+        room-of_empty (among e.writes.items q) (slot_at e.hand q) (slot_at y.hand q) (λ there. there_is q (same-written x y moved.0 q ∙ entry-writes x room k d below q there)) ((own k d below).hand q)
 
   -- after the run, its hand has the slots that it had
-  pub fits-after : {S : Type 0} (x y z : Group V S) → IsMovedOut before x y → IsSameSlots y.hand z.hand → z.written ≡ y.written → Fits after z
+  pub fits-after : {S : Type 0} (x y z : Group V S) → IsMovedOut before x y → IsSameSlots y.hand z.hand → z.written ≡ y.written → Fits z
   fits-after x y z moved slots written q =
-      slots q ∙ ap is_some (moved.1 q) ∙ each (among y.written.items q) ∙ ap (λ ids. among ids.items q && is_some (slot_at after q)) (sym written) where
-        each : (b : Bool) → is_some (cond b (slot_at before q) None) ≡ (b && is_some (slot_at after q))
-        each true = sym (some-left q)
+      slots q ∙ ap is_some (moved.1 q) ∙ each (among y.written.items q) ∙ ap (λ ids. among ids.items q) (sym written) where
+        each : (b : Bool) → is_some (cond b (carried (slot_at before q)) None) ≡ b
+        each true = refl
         each false = refl
 
   -- a moved hand, beside what is left, shows what was held, where no other group took it
   pub shows : {S : Type 0} (kind : V → Kind) (x y : Group V S) → IsMovedOut before x y → (q : ResourceId) → (among y.written.items q ≡ false → taken q ≡ false) → held kind before q ≡ shown kind (slot_at after) y.hand q
-  shows kind x y moved q only = ap (slot_held kind q) (told (among y.written.items q) refl) where
-    here : (s : Option (Slot V)) → slot_at before q ≡ s → s ≡ or_slot s (slot_at after q)
-    here (Some s) e = refl
-    here None e = sym (none-left q e)
-
-    told : (b : Bool) → among y.written.items q ≡ b → slot_at before q ≡ or_slot (slot_at y.hand q) (slot_at after q)
-    told true e = let is : slot_at y.hand q ≡ slot_at before q = moved.1 q ∙ ap (λ (b : Bool). cond b (slot_at before q) None) e in rw is (here (slot_at before q) refl)
-    told false e = let is : slot_at y.hand q ≡ None = moved.1 q ∙ ap (λ (b : Bool). cond b (slot_at before q) None) e in rw is (sym (left q ∙ ap (λ (b : Bool). cond b (emptied (slot_at before q)) (slot_at before q)) (only e)))
+  shows kind x y moved q only = told (among y.written.items q) refl where
+    told : (b : Bool) → among y.written.items q ≡ b → held kind before q ≡ slot_held kind q (or_slot (slot_at y.hand q) (slot_at after q))
+    told true e = let is : slot_at y.hand q ≡ carried (slot_at before q) = moved.1 q ∙ ap (λ (b : Bool). cond b (carried (slot_at before q)) None) e in rw is (carried-held kind q (slot_at before q))
+    told false e =
+        let is : slot_at y.hand q ≡ None = moved.1 q ∙ ap (λ (b : Bool). cond b (carried (slot_at before q)) None) e in
+        rw is (ap (slot_held kind q) (sym (left q ∙ ap (λ (b : Bool). cond b (emptied (slot_at before q)) (slot_at before q)) (only e))))
 
   -- where the hand is put back, the table holds what was shown
-  pub puts : {S : Type 0} (kind : V → Kind) (end : Table V) (z : Group V S) → Fits after z → IsBack end z → (q : ResourceId) → among z.written.items q ≡ true → held kind end q ≡ shown kind (slot_at after) z.hand q
-  puts kind end z fit back q there = ap (slot_held kind q) (back q there ∙ here (slot_at z.hand q) (slot_at after q) (fit q ∙ ap (λ (b : Bool). b && is_some (slot_at after q)) there)) where
-    here : (s t : Option (Slot V)) → is_some s ≡ is_some t → s ≡ or_slot s t
-    here (Some s) t e = refl
-    here None None e = refl
-    here None (Some t) e = absurd (cc)
+  pub puts : {S : Type 0} (kind : V → Kind) (end : Table V) (z : Group V S) → Fits z → IsBack after end z → (q : ResourceId) → among z.written.items q ≡ true → taken q ≡ true
+      → option_map kind (shown kind (slot_at after) z.hand q) ≡ option_map kind (held kind before q) → held kind end q ≡ shown kind (slot_at after) z.hand q
+  puts kind end z fit back q there gone kinds =
+      let is : slot_at after q ≡ emptied (slot_at before q) = left q ∙ ap (λ (b : Bool). cond b (emptied (slot_at before q)) (slot_at before q)) gone in
+      let some : is_some (slot_at z.hand q) ≡ true = fit q ∙ there in
+      let seen : or_slot (slot_at z.hand q) (slot_at after q) ≡ slot_at z.hand q = own (slot_at z.hand q) (slot_at after q) some in
+      ap (slot_held kind q) (back q there ∙ ap (given (slot_value (slot_at z.hand q))) is)
+      ∙ back-held kind q (slot_at z.hand q) (slot_at before q) some (sym (ap (λ s. option_map kind (slot_held kind q s)) seen) ∙ kinds) ∙ ap (slot_held kind q) (sym seen) where
+        own : (s t : Option (Slot V)) → is_some s ≡ true → or_slot s t ≡ s
+        own (Some s) t e = refl
+        own None t e = absurd (cc)

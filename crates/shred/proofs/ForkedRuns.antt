@@ -1,9 +1,10 @@
 -- Groups that ran beside each other over their hands leave what they leave one after the other.
-use Rattle.std.proofs.Common.{◌≡◌, ℕ, zero, suc, ◌<◌, Bool, true, false, cond, List, [], ◌∷◌, length, map, get_or, Option, Contains, refl, sym, ◌∙◌, ap, subst, inl, inr, ◌⊎◌, arith, IsTrue}
+use Rattle.std.proofs.Common.{◌≡◌, ℕ, zero, suc, ◌<◌, Bool, true, false, cond, List, [], ◌∷◌, length, map, get_or, Option, Contains, refl, sym, ◌∙◌, ap, subst, inl, inr, ◌⊎◌, arith}
 use Rattle.std.specs.Prelude.{⊤}
 use Rattle.std.specs.Option.{option_map}
 use Rattle.std.specs.List.{All, AllZip}
 use Rattle.std.proofs.lemmas.List.{length-map, get_or-map}
+use Rattle.std.proofs.lemmas.List.Folds.{list_any_at}
 use Rattle.shred_model.specs.Access.{Declares}
 use Rattle.shred_model.specs.Beside.{AreApart, AllWent, PartsShow, PartsPut, SomeWrites}
 use Rattle.shred_model.specs.Plan as model
@@ -26,12 +27,12 @@ use Rattle.shred.specs.declared.dispatch.entry.Entry.{Entry}
 use Rattle.shred.specs.declared.dispatch.entry.Group.{Group}
 use Rattle.shred.specs.declared.dispatch.run.StageFault.{StageFault}
 use Rattle.shred.specs.Entries.{GroupRun, StageRun, group_states}
-use Rattle.shred.specs.Hands.{KeepsRoom, IsSameButHand, some_writes, Fits, IsBack, IsMadeRoom, IsMovedOut, IsLeftSpare, WriteApart, HasRoom, HasRooms}
+use Rattle.shred.specs.Hands.{KeepsRoom, IsSameButHand, some_writes, Fits, IsBack, IsMovedOut, IsLeftEmpty, WriteApart}
 use Rattle.shred.specs.OwnLists.{IsOwnEntry, IsOwnGroup}
 use Rattle.shred.specs.Lanes.{IsReady, GroupWent}
 use Rattle.shred.specs.PlanOf.{group_plan, groups_plan, group_numbers, numbers_of}
 use Rattle.shred.specs.Steps.{Step, Written}
-use Rattle.shred.proofs.Forked.{same-then, same-plan, same-written, write-apart, write-apart-same, is-ready, empty-left, writes_access, access_writes, apart-at, fits-after, shows, puts}
+use Rattle.shred.proofs.Forked.{same-plan, same-written, write-apart, write-apart-same, is-ready, writes_access, access_writes, apart-at, fits-after, shows, puts}
 use Rattle.shred.proofs.GroupsWithin.{group-within}
 use Rattle.shred.proofs.Membership.{list_any_decides}
 use Rattle.shred.proofs.Zips.{zip-trans, zip-all, zip-both, zip-map, zip-any, went-zip, zip-viewed, any-none}
@@ -62,14 +63,14 @@ module _ {V S : Type 0} where
   states-left : (x y : Group V S) → IsSameButHand x y → (p : Agent) → group_states y p ≡ group_states x p
   states-left x y same p = ap (λ entries. group_states (record x { entries = entries }) p) same.entries
 
-  pub left-states : (xs ys : List (Group V S)) → AllZip IsLeftSpare xs ys → (p : Agent) → listed_states group_states ys p ≡ listed_states group_states xs p
-  left-states xs ys zip = zip-states xs ys (zip-both IsLeftSpare (λ x. ⊤) (λ x y. (p : Agent) → group_states y p ≡ group_states x p) (λ x y s any. states-left x y s.0) xs ys zip (λ k d below. tt))
+  pub left-states : (xs ys : List (Group V S)) → AllZip IsLeftEmpty xs ys → (p : Agent) → listed_states group_states ys p ≡ listed_states group_states xs p
+  left-states xs ys zip = zip-states xs ys (zip-both IsLeftEmpty (λ x. ⊤) (λ x y. (p : Agent) → group_states y p ≡ group_states x p) (λ x y s any. states-left x y s.0) xs ys zip (λ k d below. tt))
 
-  pub own-left : (reads writes : S → List ResourceId) (x y : Group V S) → IsLeftSpare x y → IsOwnGroup reads writes x → IsOwnGroup reads writes y
+  pub own-left : (reads writes : S → List ResourceId) (x y : Group V S) → IsLeftEmpty x y → IsOwnGroup reads writes x → IsOwnGroup reads writes y
   own-left reads writes x y s own = subst (λ (items : List (Entry V S)). All (IsOwnEntry reads writes) items) (ap (λ entries. entries.items) (sym s.0.entries)) own
 
-  pub room-left : (x y : Group V S) → IsLeftSpare x y → x.written.items ≡ (group_access (group_plan x)).writes → KeepsRoom y
-  room-left x y s says = record { same_writes = ap (λ written. written.items) s.0.written ∙ says ∙ ap (λ g. (group_access g).writes) (sym (same-plan x y s.0)); spare = s.1 }
+  pub room-left : (x y : Group V S) → IsLeftEmpty x y → x.written.items ≡ (group_access (group_plan x)).writes → KeepsRoom y
+  room-left x y s says = record { same_writes = ap (λ written. written.items) s.0.written ∙ says ∙ ap (λ g. (group_access g).writes) (sym (same-plan x y s.0)); empty = s.1 }
 
   -- what a group reads, and does not write, no group writes
   alone-at : (groups : List (Group V S)) → All KeepsRoom groups → AreApart group_access (groups_plan groups) → (k : ℕ) (d : Group V S) → k < length groups → (i : ResourceId) → Declares (group_access (group_plan (get_or groups k d))) i
@@ -95,31 +96,12 @@ module _ {V S : Type 0} where
       let k = some.1.0 in
       (k, group_plan some.0, rw (length-map groups group_plan) some.1.1, get_or-map group_plan groups k some.0 (group_plan some.0) some.1.1 ∙ ap group_plan some.1.2, access_writes some.0 (all-at KeepsRoom groups some.0 room some.1) i some.2)
 
-module _ {V S : Type 0} (before : Table V) (start made : List (Group V S)) (rooms : AllZip (IsMadeRoom before) start made) where
-  made-same : AllZip (λ x y. (q : ResourceId) → among y.written.items q ≡ among x.written.items q) start made
-  made-same = zip-both (IsMadeRoom before) (λ x. ⊤) (λ x y. (q : ResourceId) → among y.written.items q ≡ among x.written.items q) (λ x y m any q. same-written x y m.0 q) start made rooms (λ k d below. tt)
-
-  pub made-apart : All KeepsRoom start → AreApart group_access (groups_plan start) → WriteApart made
-  made-apart room apart = write-apart-same start made made-same (sym (zip-length (IsMadeRoom before) start made rooms)) (write-apart start room apart)
-
-  pub made-rooms : All (HasRoom before) made
-  made-rooms = zip-all (IsMadeRoom before) (λ x. ⊤) (HasRoom before) (λ x y m any. m.1) start made rooms (λ k d below. tt)
-
-  module _ (out : List (Group V S)) (moved : AllZip (IsMovedOut before) made out) where
-    pub moved-through : AllZip (IsMovedOut before) start out
-    moved-through = zip-trans (IsMadeRoom before) (IsMovedOut before) (IsMovedOut before) (λ x y z one two. (same-then x y z one.0 two.0, two.1)) start made out rooms moved
-
-    pub left-through : (after : Table V) → ((q : ResourceId) → slot_at after q ≡ cond (some_writes made q) (emptied (slot_at before q)) (slot_at before q))
-        → (q : ResourceId) → slot_at after q ≡ cond (some_writes start q) (emptied (slot_at before q)) (slot_at before q)
-    left-through after left q = left q ∙ ap (λ (b : Bool). cond b (emptied (slot_at before q)) (slot_at before q))
-        (zip-any (IsMadeRoom before) (λ x. among x.written.items q) (λ y. among y.written.items q) (λ x y m. same-written x y m.0 q) start made rooms)
-
-    -- the groups are ready to run
-    pub ready-through : (reads writes : S → List ResourceId) (after : Table V) → All KeepsRoom start → All (IsOwnGroup reads writes) start → All (HasRooms before) start
-        → ((q : ResourceId) → slot_at after q ≡ cond (some_writes start q) (emptied (slot_at before q)) (slot_at before q)) → All (IsReady reads writes (slot_at after)) out
-    ready-through reads writes after room own rooms left =
-        zip-all (IsMovedOut before) (λ x. KeepsRoom x × IsOwnGroup reads writes x × HasRooms before x) (IsReady reads writes (slot_at after)) (λ x y m h. is-ready before after (some_writes start) left reads writes x y h.0 h.1 h.2 m) start out moved-through
-        (λ k d below. (room k d below, own k d below, rooms k d below))
+-- groups whose values were moved out are ready to run
+pub ready-all : {V S : Type 0} (reads writes : S → List ResourceId) (before after : Table V) (start out : List (Group V S)) → All KeepsRoom start → All (IsOwnGroup reads writes) start → AllZip (IsMovedOut before) start out
+    → ((q : ResourceId) → slot_at after q ≡ cond (some_writes start q) (emptied (slot_at before q)) (slot_at before q)) → All (IsReady reads writes (slot_at after)) out
+ready-all reads writes before after start out room own moved left =
+    zip-all (IsMovedOut before) (λ x. KeepsRoom x × IsOwnGroup reads writes x) (IsReady reads writes (slot_at after)) (λ x y m h. is-ready before after (some_writes start) left reads writes x y h.0 h.1 m) start out moved
+    (λ k d below. (room k d below, own k d below))
 
 module _ {V S E : Type 0} (kind : V → Kind) (step : Step V S E) (reads writes : S → List ResourceId) (before after : Table V) (start out ran : List (Group V S)) (a : Answer (StageFault E))
     (apart : AreApart group_access (groups_plan start)) (room : All KeepsRoom start) (moved : AllZip (IsMovedOut before) start out)
@@ -147,15 +129,18 @@ module _ {V S E : Type 0} (kind : V → Kind) (step : Step V S E) (reads writes 
       (λ x y m only i declared. shows before after (some_writes start) left kind x y m i (λ none. only i (subst (λ (g : model.Group ResourceId). Declares (group_access g) i) (same-plan x y m.0) declared) (sym (same-written x y m.0 i) ∙ none)))
       start out moved (λ k d below. alone-at start room apart k d below))
 
-  -- the hand of a group that ran fits, and its plan says what it writes
-  abbrev FitsStill : Group V S → Type 0
-  FitsStill z = Fits after z × ((i : ResourceId) → Contains (group_access (group_plan z)).writes i → among z.written.items i ≡ true)
+  -- The hand of a group that ran fits, its plan says what it writes, and the kinds of what it shows are those of what was held.
+  record FitsStill (z : Group V S) : Type 0 where
+    fit : Fits z
+    its_writes : (i : ResourceId) → Contains (group_access (group_plan z)).writes i → among z.written.items i ≡ true
+    its_kinds : (i : ResourceId) → among z.written.items i ≡ true → option_map kind (Seen z i) ≡ option_map kind (held kind before i)
 
   fits : All FitsStill ran
-  fits = zip-all Ended KeepsRoom FitsStill (λ x z e keeps. (
-    fits-after before after (some_writes start) left x e.0 z e.1 e.3.slots e.3.written,
-    λ i w. ap (λ written. among written.items i) e.3.written ∙ same-written x e.0 e.1.0 i ∙ writes_access x keeps i (subst (λ (g : model.Group ResourceId). Contains (group_access g).writes i) (e.3.plan ∙ same-plan x e.0 e.1.0) w),
-  )) start ran ended room
+  fits = zip-all Ended KeepsRoom FitsStill (λ x z e keeps. record {
+    fit = fits-after before after (some_writes start) left x e.0 z e.1 e.3.slots e.3.written;
+    its_writes = λ i w. ap (λ written. among written.items i) e.3.written ∙ same-written x e.0 e.1.0 i ∙ writes_access x keeps i (subst (λ (g : model.Group ResourceId). Contains (group_access g).writes i) (e.3.plan ∙ same-plan x e.0 e.1.0) w);
+    its_kinds = λ i w. e.3.kinds i ∙ ap (option_map kind) (sym (shows before after (some_writes start) left kind x e.0 e.1 i (λ none. absurd (let f : true ≡ false = sym w ∙ ap (λ written. among written.items i) e.3.written ∙ none in cc))));
+  }) start ran ended room
 
   pub forked-apart : WriteApart ran
   forked-apart =
@@ -163,16 +148,19 @@ module _ {V S E : Type 0} (kind : V → Kind) (step : Step V S E) (reads writes 
       let same : AllZip Same start ran = zip-both Ended KeepsRoom Same (λ x z e keeps q. ap (λ written. among written.items q) e.3.written ∙ same-written x e.0 e.1.0 q) start ran ended room in
       write-apart-same start ran same (sym (zip-length Same start ran same)) (write-apart start room apart)
 
-  pub forked-fits : All (Fits after) ran
-  forked-fits k d below = (fits k d below).0
+  pub forked-fits : All Fits ran
+  forked-fits k d below = (fits k d below).fit
 
-  pub forked-empty : (q : ResourceId) → IsTrue (some_writes ran q) → slot_at after q ≡ emptied (slot_at after q)
-  forked-empty q there = empty-left before after (some_writes start) left q (sym (wrote q) ∙ there)
+  module _ (end : Table V) (back : All (IsBack after end) ran) (others : (q : ResourceId) → some_writes ran q ≡ false → slot_at end q ≡ slot_at after q) where
+    -- the table holds again what a group's hand showed
+    put-at : (k : ℕ) (d : Group V S) → k < length ran → (i : ResourceId) → among (get_or ran k d).written.items i ≡ true → held kind end i ≡ Seen (get_or ran k d) i
+    put-at k d below i there =
+        let still = fits k d below in
+        puts before after (some_writes start) left kind end (get_or ran k d) still.fit (back k d below) i there (sym (wrote i) ∙ list_any_at (λ g. among g.written.items i) ran k d below there) (still.its_kinds i there)
 
-  module _ (end : Table V) (back : All (IsBack end) ran) (others : (q : ResourceId) → some_writes ran q ≡ false → slot_at end q ≡ slot_at after q) where
     put : PartsPut group_access Seen (map group_plan ran) ran (held kind end)
     put = zip-viewed group_plan (λ x p. (i : ResourceId) → Contains (group_access x).writes i → held kind end i ≡ Seen p i) ran
-        (λ k d below i w. let fit = fits k d below in puts before after (some_writes start) left kind end (get_or ran k d) fit.0 (back k d below) i (fit.1 i w))
+        (λ k d below i w. put-at k d below i ((fits k d below).its_writes i w))
 
     unwritten : (i : ResourceId) → some_writes start i ≡ false → held kind end i ≡ held kind before i
     unwritten i none = ap (slot_held kind i) (others i (wrote i ∙ none) ∙ left i ∙ ap (λ (b : Bool). cond b (emptied (slot_at before i)) (slot_at before i)) none)
@@ -204,29 +192,24 @@ module _ {V S E : Type 0} (kind : V → Kind) (step : Step V S E) (reads writes 
           let some = (list_any_decides (λ g. among g.written.items i) (λ g. among g.written.items i ≡ true) (λ g. (λ h. h, λ h. h)) ran).0 e in
           all-at (λ z. (q : ResourceId) → among z.written.items q ≡ true → option_map kind (held kind end q) ≡ option_map kind (held kind before q)) ran some.0 each some.1 i some.2
         where
-          shown-kinds : All (λ z. (q : ResourceId) → among z.written.items q ≡ true → option_map kind (Seen z q) ≡ option_map kind (held kind before q)) ran
-          shown-kinds = zip-all Ended KeepsRoom (λ z. (q : ResourceId) → among z.written.items q ≡ true → option_map kind (Seen z q) ≡ option_map kind (held kind before q)) (λ x z e keeps q w.
-              e.3.kinds q ∙ ap (option_map kind) (sym (shows before after (some_writes start) left kind x e.0 e.1 q (λ none. absurd (let f : true ≡ false = sym w ∙ ap (λ written. among written.items q) e.3.written ∙ none in cc)))))
-              start ran ended room
-
           each : All (λ z. (q : ResourceId) → among z.written.items q ≡ true → option_map kind (held kind end q) ≡ option_map kind (held kind before q)) ran
-          each k d below q w = ap (option_map kind) (puts before after (some_writes start) left kind end (get_or ran k d) (fits k d below).0 (back k d below) q w) ∙ shown-kinds k d below q w
+          each k d below q w = ap (option_map kind) (put-at k d below q w) ∙ (fits k d below).its_kinds q w
 
-    module _ (done : List (Group V S)) (spare : AllZip IsLeftSpare ran done) where
+    module _ (done : List (Group V S)) (spare : AllZip IsLeftEmpty ran done) where
       -- the groups are planned as before
       pub forked-plan : groups_plan done ≡ groups_plan start
-      forked-plan = zip-map IsLeftSpare group_plan group_plan (λ z w s. same-plan z w s.0) ran done spare ∙ zip-map Ended group_plan group_plan (λ x z e. e.3.plan ∙ same-plan x e.0 e.1.0) start ran ended
+      forked-plan = zip-map IsLeftEmpty group_plan group_plan (λ z w s. same-plan z w s.0) ran done spare ∙ zip-map Ended group_plan group_plan (λ x z e. e.3.plan ∙ same-plan x e.0 e.1.0) start ran ended
 
       pub forked-ids : map group_numbers done ≡ map group_numbers start
       forked-ids =
-          zip-map IsLeftSpare group_numbers group_numbers (λ z w s. ap (λ ids. numbers_of ids.items) s.0.ids) ran done spare
+          zip-map IsLeftEmpty group_numbers group_numbers (λ z w s. ap (λ ids. numbers_of ids.items) s.0.ids) ran done spare
           ∙ zip-map Ended group_numbers group_numbers (λ x z e. ap (λ ids. numbers_of ids.items) (e.3.ids ∙ e.1.0.ids)) start ran ended
 
       pub forked-own : All (IsOwnGroup reads writes) done
-      forked-own = zip-all IsLeftSpare (IsOwnGroup reads writes) (IsOwnGroup reads writes) (own-left reads writes) ran done spare (zip-all Ended KeepsRoom (IsOwnGroup reads writes) (λ x z e keeps. e.3.own_lists) start ran ended room)
+      forked-own = zip-all IsLeftEmpty (IsOwnGroup reads writes) (IsOwnGroup reads writes) (own-left reads writes) ran done spare (zip-all Ended KeepsRoom (IsOwnGroup reads writes) (λ x z e keeps. e.3.own_lists) start ran ended room)
 
       pub forked-room : All KeepsRoom done
-      forked-room = zip-all IsLeftSpare (λ z. z.written.items ≡ (group_access (group_plan z)).writes) KeepsRoom room-left ran done spare
+      forked-room = zip-all IsLeftEmpty (λ z. z.written.items ≡ (group_access (group_plan z)).writes) KeepsRoom room-left ran done spare
           (zip-all Ended KeepsRoom (λ z. z.written.items ≡ (group_access (group_plan z)).writes) (λ x z e keeps.
           ap (λ written. written.items) (e.3.written ∙ e.1.0.written) ∙ keeps.same_writes ∙ ap (λ g. (group_access g).writes) (sym (e.3.plan ∙ same-plan x e.0 e.1.0))) start ran ended room)
 
@@ -234,17 +217,3 @@ module _ {V S E : Type 0} (kind : V → Kind) (step : Step V S E) (reads writes 
       pub forked-all : Ran (StageRun kind step (groups_plan start)) (setting_of (listed_states group_states start) (held kind before)) a (setting_of (listed_states group_states done) (held kind end))
       forked-all = Ran-to_alike (StageRun kind step (groups_plan start)) (setting_of (listed_states group_states start) (held kind before)) a (setting_of (listed_states group_states ran) (held kind end)) (setting_of (listed_states group_states done) (held kind end))
           (record { values = λ i. refl; states = left-states ran done spare }) forked-ran
-
--- groups whose hands found no room are as they were
-module _ {V S : Type 0} (start spare : List (Group V S)) (left : AllZip IsLeftSpare start spare) where
-  pub spare-plan : groups_plan spare ≡ groups_plan start
-  spare-plan = zip-map IsLeftSpare group_plan group_plan (λ x y s. same-plan x y s.0) start spare left
-
-  pub spare-ids : map group_numbers spare ≡ map group_numbers start
-  spare-ids = zip-map IsLeftSpare group_numbers group_numbers (λ x y s. ap (λ ids. numbers_of ids.items) s.0.ids) start spare left
-
-  pub spare-own : (reads writes : S → List ResourceId) → All (IsOwnGroup reads writes) start → All (IsOwnGroup reads writes) spare
-  spare-own reads writes own = zip-all IsLeftSpare (IsOwnGroup reads writes) (IsOwnGroup reads writes) (own-left reads writes) start spare left own
-
-  pub spare-room : All KeepsRoom start → All KeepsRoom spare
-  spare-room room = zip-all IsLeftSpare KeepsRoom KeepsRoom (λ x y s keeps. room-left x y s keeps.same_writes) start spare left room

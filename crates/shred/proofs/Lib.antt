@@ -37,7 +37,6 @@ pub mod Forked
 pub mod ForkedRuns
 pub mod GroupsWithin
 pub mod Viewed
-pub mod ReadyTurns
 pub mod Rooms
 pub mod Spare
 pub mod TakenTurns

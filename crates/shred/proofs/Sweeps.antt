@@ -1,15 +1,15 @@
 -- Walks over groups whose values are moved into their hands, and back.
-use Rattle.std.proofs.Common.{◌≡◌, ℕ, zero, suc, ◌<◌, ◌≤◌, ◌+◌, Bool, true, false, ◌&&◌, ◌||◌, Option, cond, List, [], ◌∷◌, length, get_or, set, take, refl, sym, ◌∙◌, ap, subst, arith, IsTrue, add-one}
-use Rattle.std.specs.Prelude.{is_some}
-use Rattle.std.specs.List.{All, AllZip, AllByRecursion}
+use Rattle.std.proofs.Common.{◌≡◌, ℕ, zero, suc, ◌<◌, ◌≤◌, ◌+◌, Bool, true, false, ◌&&◌, ◌||◌, Option, None, cond, List, [], ◌∷◌, length, get_or, take, refl, ◌∙◌, ap, arith, IsTrue, add-one}
+use Rattle.std.specs.List.{All, AllByRecursion}
 use Rattle.std.proofs.lemmas.List.Folds.{list_any_at}
 use Rattle.std.proofs.lemmas.List.Elements.{All-from_recursion, All-head, All-tail}
 use Rattle.shred_model.proofs.Apart.{AllPairs-head, AllPairs-tail}
 use Rattle.shred_world.specs.declared.id.ResourceId.{ResourceId}
 use Rattle.shred_world.specs.declared.table.Slot.{Slot}
+use Rattle.shred_world.specs.Parting.{emptied, given, slot_value}
 use Rattle.shred_world.specs.Slots.{slot_at, among}
 use Rattle.shred_world.proofs.Pairs.{ZipTo}
-use Rattle.shred.specs.Hands.{WriteApart, some_writes}
+use Rattle.shred.specs.Hands.{WriteApart, carried, some_writes}
 use Rattle.shred.specs.declared.dispatch.entry.Group.{Group}
 
 -- an item is as it was, and this held of it
@@ -27,18 +27,6 @@ module _ {A : Type 0} (P : A → Type 0) (R : A → A → Type 0) where
   untouched-length i (x ∷ xs) [] zip = absurd zip
   untouched-length zero (x ∷ xs) (y ∷ ys) zip = ap suc (untouched-length zero xs ys zip.1)
   untouched-length (suc i) (x ∷ xs) (y ∷ ys) zip = ap suc (untouched-length i xs ys zip.1)
-
-  -- a walk that ends at one item
-  pub untouched-ended : (Q : A → A → Type 0) → ((x y : A) → R x y → Q x y) → ((x : A) → P x → Q x x) → (i : ℕ) (xs ys : List A) (d y : A) → i < length xs → ZipTo R (Untouched P) i xs ys → Q (get_or xs i d) y → AllZip Q xs (set ys i y)
-  untouched-ended Q done still i [] ys d y h zip q = absurd (omega arith)
-  untouched-ended Q done still i (x ∷ xs) [] d y h zip q = absurd zip
-  untouched-ended Q done still zero (x ∷ xs) (z ∷ ys) d y h zip q = (q, rest xs ys zip.1) where
-    rest : (us vs : List A) → ZipTo R (Untouched P) 0 us vs → AllZip Q us vs
-    rest [] [] zip = tt
-    rest [] (v ∷ vs) zip = absurd zip
-    rest (u ∷ us) [] zip = absurd zip
-    rest (u ∷ us) (v ∷ vs) zip = (subst (Q u) (sym zip.0.0) (still u zip.0.1), rest us vs zip.1)
-  untouched-ended Q done still (suc i) (x ∷ xs) (z ∷ ys) d y h zip q = (done x z zip.0, untouched-ended Q done still i xs ys d y (omega arith) zip.1 q)
 
 or_left : (a b : Bool) → (a || b) ≡ false → a ≡ false
 or_left true b h = absurd (cc)
@@ -58,6 +46,11 @@ not_first false b h e = refl
 not_second : (a b : Bool) → (a && b) ≡ false → a ≡ true → b ≡ false
 not_second true b h e = h
 not_second false b h e = absurd (cc)
+
+-- a hand into which what a group writes was moved has what was there at first
+pub carried-now : {V : Type 0} (a w : Bool) (t s h : Option (Slot V)) → (w ≡ true → a ≡ false) → s ≡ cond a (emptied t) t → h ≡ cond w (carried s) None → h ≡ cond w (carried t) None
+carried-now a true t s h apart left is = is ∙ ap carried (left ∙ ap (λ (b : Bool). cond b (emptied t) t) (apart refl))
+carried-now a false t s h apart left is = is
 
 module _ {V S : Type 0} where
   -- no id is written by both groups
@@ -85,17 +78,17 @@ module _ {V S : Type 0} where
   abbrev pub joined : ℕ → List (Group V S) → (ResourceId → Option (Slot V)) → ResourceId → Option (Slot V)
   joined zero gs m q = m q
   joined (suc i) [] m q = m q
-  joined (suc i) (g ∷ gs) m q = joined i gs (λ r. cond (among g.written.items r) (slot_at g.hand r) (m r)) q
+  joined (suc i) (g ∷ gs) m q = joined i gs (λ r. cond (among g.written.items r) (given (slot_value (slot_at g.hand r)) (m r)) (m r)) q
 
   joined-suc : (i : ℕ) (gs : List (Group V S)) (m : ResourceId → Option (Slot V)) (d : Group V S) (q : ResourceId) → i < length gs
-      → joined (suc i) gs m q ≡ cond (among (get_or gs i d).written.items q) (slot_at (get_or gs i d).hand q) (joined i gs m q)
+      → joined (suc i) gs m q ≡ cond (among (get_or gs i d).written.items q) (given (slot_value (slot_at (get_or gs i d).hand q)) (joined i gs m q)) (joined i gs m q)
   joined-suc i [] m d q h = absurd (omega arith)
   joined-suc zero (g ∷ gs) m d q h = refl
-  joined-suc (suc i) (g ∷ gs) m d q h = joined-suc i gs (λ r. cond (among g.written.items r) (slot_at g.hand r) (m r)) d q (omega arith)
+  joined-suc (suc i) (g ∷ gs) m d q h = joined-suc i gs (λ r. cond (among g.written.items r) (given (slot_value (slot_at g.hand r)) (m r)) (m r)) d q (omega arith)
 
   -- one group more
   pub joined-more : (i : ℕ) (gs : List (Group V S)) (m : ResourceId → Option (Slot V)) (d : Group V S) (q : ResourceId) → i < length gs
-      → joined (i + 1) gs m q ≡ cond (among (get_or gs i d).written.items q) (slot_at (get_or gs i d).hand q) (joined i gs m q)
+      → joined (i + 1) gs m q ≡ cond (among (get_or gs i d).written.items q) (given (slot_value (slot_at (get_or gs i d).hand q)) (joined i gs m q)) (joined i gs m q)
   joined-more i gs m d q h = rw add-one (joined-suc i gs m d q h)
 
   -- what these groups do not write stays
@@ -103,30 +96,31 @@ module _ {V S : Type 0} where
   joined-rest zero gs m q h = refl
   joined-rest (suc i) [] m q h = refl
   joined-rest (suc i) (g ∷ gs) m q h =
-      joined-rest i gs (λ r. cond (among g.written.items r) (slot_at g.hand r) (m r)) q (or_right (among g.written.items q) _ h) ∙ ap (λ (b : Bool). cond b (slot_at g.hand q) (m q)) (or_left (among g.written.items q) _ h)
+      joined-rest i gs (λ r. cond (among g.written.items r) (given (slot_value (slot_at g.hand r)) (m r)) (m r)) q (or_right (among g.written.items q) _ h) ∙ ap (λ (b : Bool). cond b (given (slot_value (slot_at g.hand q)) (m q)) (m q)) (or_left (among g.written.items q) _ h)
 
-  -- no slot comes or goes
-  pub joined-slots : (c : ResourceId → Bool) (i : ℕ) (gs : List (Group V S)) (m : ResourceId → Option (Slot V)) → All (λ g. (q : ResourceId) → is_some (slot_at g.hand q) ≡ (among g.written.items q && c q)) gs
-      → ((q : ResourceId) → is_some (m q) ≡ c q) → (q : ResourceId) → is_some (joined i gs m q) ≡ c q
-  joined-slots c zero gs m fit same q = same q
-  joined-slots c (suc i) [] m fit same q = same q
-  joined-slots c (suc i) (g ∷ gs) m fit same q =
-      joined-slots c i gs (λ r. cond (among g.written.items r) (slot_at g.hand r) (m r)) (All-tail (λ x. (p : ResourceId) → is_some (slot_at x.hand p) ≡ (among x.written.items p && c p)) g gs fit)
-      (λ r. here r (among g.written.items r) (All-head (λ x. (p : ResourceId) → is_some (slot_at x.hand p) ≡ (among x.written.items p && c p)) g gs fit r)) q where
-        here : (r : ResourceId) (b : Bool) → is_some (slot_at g.hand r) ≡ (b && c r) → is_some (cond b (slot_at g.hand r) (m r)) ≡ c r
-        here r true e = e
-        here r false e = same r
-
-  joined-each : (i : ℕ) (gs : List (Group V S)) (m n : ResourceId → Option (Slot V)) → WriteApart gs → length gs ≤ i → ((q : ResourceId) → n q ≡ joined i gs m q)
-      → AllByRecursion (λ g. (q : ResourceId) → IsTrue (among g.written.items q) → n q ≡ slot_at g.hand q) gs
-  joined-each i [] m n apart h is = tt
-  joined-each zero (g ∷ gs) m n apart h is = absurd (omega arith)
-  joined-each (suc i) (g ∷ gs) m n apart h is = (
-    (λ q w. is q ∙ joined-rest i gs (λ r. cond (among g.written.items r) (slot_at g.hand r) (m r)) q (written-after i g gs q (AllPairs-head Beside g gs apart) w) ∙ ap (λ (b : Bool). cond b (slot_at g.hand q) (m q)) w),
-    joined-each i gs (λ r. cond (among g.written.items r) (slot_at g.hand r) (m r)) n (AllPairs-tail Beside g gs apart) (omega arith) is,
+  -- what a group does not write stays as it was for those beside it
+  joined-same : (g : Group V S) (m k : ResourceId → Option (Slot V)) (gs : List (Group V S)) → AllByRecursion (Beside g) gs → AllByRecursion (λ x. (q : ResourceId) → IsTrue (among x.written.items q) → m q ≡ k q) gs
+      → AllByRecursion (λ x. (q : ResourceId) → IsTrue (among x.written.items q) → cond (among g.written.items q) (given (slot_value (slot_at g.hand q)) (m q)) (m q) ≡ k q) gs
+  joined-same g m k [] beside same = tt
+  joined-same g m k (x ∷ gs) beside same = (
+    (λ q w. ap (λ (b : Bool). cond b (given (slot_value (slot_at g.hand q)) (m q)) (m q)) (not_first (among g.written.items q) (among x.written.items q) (beside.0 q) w) ∙ same.0 q w),
+    joined-same g m k gs beside.1 same.1,
   )
+
+  joined-each : (i : ℕ) (gs : List (Group V S)) (m k n : ResourceId → Option (Slot V)) → WriteApart gs → length gs ≤ i → AllByRecursion (λ g. (q : ResourceId) → IsTrue (among g.written.items q) → m q ≡ k q) gs → ((q : ResourceId) → n q ≡ joined i gs m q)
+      → AllByRecursion (λ g. (q : ResourceId) → IsTrue (among g.written.items q) → n q ≡ given (slot_value (slot_at g.hand q)) (k q)) gs
+  joined-each i [] m k n apart h same is = tt
+  joined-each zero (g ∷ gs) m k n apart h same is = absurd (omega arith)
+  joined-each (suc i) (g ∷ gs) m k n apart h same is = (
+    (λ q w. is q ∙ joined-rest i gs (λ r. cond (among g.written.items r) (given (slot_value (slot_at g.hand r)) (m r)) (m r)) q (written-after i g gs q (AllPairs-head Beside g gs apart) w) ∙ ap (λ (b : Bool). cond b (given (slot_value (slot_at g.hand q)) (m q)) (m q)) w ∙ ap (given (slot_value (slot_at g.hand q))) (same.0 q w)),
+    joined-each i gs (λ r. cond (among g.written.items r) (given (slot_value (slot_at g.hand r)) (m r)) (m r)) k n (AllPairs-tail Beside g gs apart) (omega arith) (joined-same g m k gs (AllPairs-head Beside g gs apart) same.1) is,
+  )
+
+  itself : (gs : List (Group V S)) (m : ResourceId → Option (Slot V)) → AllByRecursion (λ g. (q : ResourceId) → IsTrue (among g.written.items q) → m q ≡ m q) gs
+  itself [] m = tt
+  itself (g ∷ gs) m = ((λ q w. refl), itself gs m)
 
   -- each group's hand is there
   pub joined-all : (i : ℕ) (gs : List (Group V S)) (m n : ResourceId → Option (Slot V)) → WriteApart gs → length gs ≤ i → ((q : ResourceId) → n q ≡ joined i gs m q)
-      → All (λ g. (q : ResourceId) → IsTrue (among g.written.items q) → n q ≡ slot_at g.hand q) gs
-  joined-all i gs m n apart h is = All-from_recursion (λ g. (q : ResourceId) → IsTrue (among g.written.items q) → n q ≡ slot_at g.hand q) gs (joined-each i gs m n apart h is)
+      → All (λ g. (q : ResourceId) → IsTrue (among g.written.items q) → n q ≡ given (slot_value (slot_at g.hand q)) (m q)) gs
+  joined-all i gs m n apart h is = All-from_recursion (λ g. (q : ResourceId) → IsTrue (among g.written.items q) → n q ≡ given (slot_value (slot_at g.hand q)) (m q)) gs (joined-each i gs m m n apart h (itself gs m) is)

@@ -1,26 +1,21 @@
 -- Turns of a stage's groups.
-use Rattle.std.specs.Prelude.{◌≡◌, List, All, map, cond}
-use Rattle.std.specs.List.{AllZip}
+use Rattle.std.specs.Prelude.{◌≡◌, List, All, map}
 use Rattle.std.specs.Option.{option_map}
 use Rattle.shred_model.specs.Runs.{Answer, Ran}
 use Rattle.shred_model.specs.States.{setting_of, listed_states}
 use Rattle.shred_world.specs.declared.id.Kind.{Kind}
 use Rattle.shred_world.specs.declared.id.ResourceId.{ResourceId}
-use Rattle.shred_world.specs.declared.table.Table.{Table}
-use Rattle.shred_world.specs.Parting.{emptied}
-use Rattle.shred_world.specs.Slots.{slot_at}
 use Rattle.shred_world.specs.Worked.{Held}
 use Rattle.shred.specs.declared.dispatch.entry.Group.{Group}
 use Rattle.shred.specs.declared.dispatch.run.StageFault.{StageFault}
 use Rattle.shred.specs.Entries.{group_states}
-use Rattle.shred.specs.Hands.{KeepsRoom, HasLeftSpares, IsMovedOut, some_writes}
-use Rattle.shred.specs.Lanes.{IsReady}
+use Rattle.shred.specs.Hands.{KeepsRoom}
 use Rattle.shred.specs.OwnLists.{IsOwnGroup}
 use Rattle.shred.specs.PlanOf.{group_numbers, groups_plan}
 use Rattle.shred.specs.Plans.{StageTurn}
 use Rattle.shred.specs.Steps.{Step}
 
--- The groups took their stage's turn, from these values to those; all beside their systems is as before, and their hands are spare.
+-- The groups took their stage's turn, from these values to those; all beside their systems is as before, and their hands have empty slots again.
 pub record TookTurn {V S E : Type 0} (kind : V → Kind) (step : Step V S E) (reads writes : S → List ResourceId) (old : List (Group V S)) (before : Held V) (answer : Answer (StageFault E)) (new : List (Group V S)) (after : Held V) : Type 0 where
   pub ran : Ran (StageTurn kind step (groups_plan old)) (setting_of (listed_states group_states old) before) answer (setting_of (listed_states group_states new) after)
   pub plan : groups_plan new ≡ groups_plan old
@@ -28,11 +23,3 @@ pub record TookTurn {V S E : Type 0} (kind : V → Kind) (step : Step V S E) (re
   pub ids : map group_numbers new ≡ map group_numbers old
   pub room : All KeepsRoom new
   pub kinds : (id : ResourceId) → option_map kind (after id) ≡ option_map kind (before id)
-
--- Room was made in the hands, and what each group writes was moved into its hand.
-pub record IsBegun {V S : Type 0} (reads writes : S → List ResourceId) (before : Table V) (start : List (Group V S)) (after : Table V) (out : List (Group V S)) : Type 0 where
-  pub ready : List (Group V S)
-  pub spared : AllZip HasLeftSpares start ready
-  pub moved : AllZip (IsMovedOut before) ready out
-  pub left : (q : ResourceId) → slot_at after q ≡ cond (some_writes ready q) (emptied (slot_at before q)) (slot_at before q)
-  pub is_ready : All (IsReady reads writes (slot_at after)) out

@@ -1,6 +1,6 @@
 -- Slots that are made ready, and values that are moved: one id more, and all of them.
 use Rattle.std.proofs.Common.{◌≡◌, ℕ, ◌<◌, ◌≤◌, ◌+◌, Bool, true, false, ◌||◌, Option, Some, None, cond, List, length, get_or, take, drop, refl, sym, ◌∙◌, ap, take-append-drop}
-use Rattle.std.specs.Prelude.{is_some}
+use Rattle.std.specs.Prelude.{is_some, ◌&&◌}
 use Rattle.std.proofs.lemmas.List.{take_all}
 use Rattle.std.proofs.lemmas.List.Folds.{list_any-append, list_any_more, list_any_at}
 use Rattle.shred_world.specs.declared.id.ResourceId.{ResourceId}
@@ -86,12 +86,12 @@ module _ {V : Type 0} where
   left-more false s t is = ap emptied is
 
   -- the slot that the value came to, whether it was moved before or is moved now
-  pub given-more : (a : Bool) (s t x y : Option (Slot V)) → s ≡ cond a (emptied t) t → x ≡ cond a t y → y ≡ emptied t → given (slot_value s) x ≡ t
-  given-more true s t x y left came room = ap (λ (o : Option (Slot V)). given (slot_value o) x) left ∙ none t ∙ came where
+  pub given-more : (a : Bool) (s t x y : Option (Slot V)) → s ≡ cond a (emptied t) t → x ≡ cond a (given (slot_value t) y) y → given (slot_value s) x ≡ given (slot_value t) y
+  given-more true s t x y left came = ap (λ (o : Option (Slot V)). given (slot_value o) x) left ∙ none t ∙ came where
     none : (t : Option (Slot V)) → given (slot_value (emptied t)) x ≡ x
     none (Some t) = refl
     none None = refl
-  given-more false s t x y left came room = ap (λ (o : Option (Slot V)). given (slot_value o) x) left ∙ ap (given (slot_value t)) (came ∙ room) ∙ given-back t
+  given-more false s t x y left came = ap (λ (o : Option (Slot V)). given (slot_value o) x) left ∙ ap (given (slot_value t)) came
 
   -- an empty slot where the other one has a slot is the other one's, emptied
   pub emptied-like : (h s : Option (Slot V)) → is_some h ≡ is_some s → s ≡ emptied s → s ≡ emptied h
@@ -103,3 +103,18 @@ module _ {V : Type 0} where
   pub none-emptied : (h : Option (Slot V)) → is_some h ≡ false → h ≡ emptied h
   none-emptied (Some h) e = absurd (cc)
   none-emptied None e = refl
+
+  -- a value that is moved into the room that is there for it makes the slot that it left
+  pub given-room : (b : Bool) (s h : Option (Slot V)) → h ≡ cond b (emptied s) None → cond b (given (slot_value s) h) h ≡ cond b s None
+  given-room true s h room = ap (given (slot_value s)) room ∙ given-back s
+  given-room false s h room = room
+
+  -- a value that is moved back makes the slot that it came from, where no other slot is in the hand
+  pub given-home : (b : Bool) (h s : Option (Slot V)) → is_some h ≡ (b && is_some s) → (b ≡ true → s ≡ emptied s) → cond b (given (slot_value h) s) s ≡ cond b h s
+  given-home true h s same empty = ap (given (slot_value h)) (emptied-like h s same (empty refl)) ∙ given-back h
+  given-home false h s same empty = refl
+
+  -- a hand whose values were moved out has its slots still, empty
+  pub left-empty : (b c : Bool) (h : Option (Slot V)) → is_some h ≡ (b && c) → cond b (emptied h) h ≡ emptied h
+  left-empty true c h same = refl
+  left-empty false c h same = none-emptied h same

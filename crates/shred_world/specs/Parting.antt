@@ -32,3 +32,7 @@ IsRoom table ids hand = (q : ResourceId) → slot_at hand q ≡ cond (among ids 
 -- the hand has only empty slots, under these ids alone
 abbrev pub IsSpare : {V : Type 0} → List ResourceId → Table V → Type 0
 IsSpare ids hand = (q : ResourceId) → slot_at hand q ≡ cond (among ids q) (emptied (slot_at hand q)) None
+
+-- the hand has an empty slot for each of these ids, and no other slot
+abbrev pub IsEmptyHand : {V : Type 0} → List ResourceId → Table V → Type 0
+IsEmptyHand ids hand = (q : ResourceId) → slot_at hand q ≡ cond (among ids q) (Some (record { value = None })) None

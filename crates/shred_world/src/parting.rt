@@ -1,7 +1,7 @@
 //! Moving the values of some ids from a table into another one, and back.
-ghost use Rattle.std.specs.Prelude.{◌≡◌, ◌&&◌, IsTrue, None, OnOk, OnErr, cond, is_some, Some};
+ghost use Rattle.std.specs.Prelude.{◌≡◌, ◌&&◌, IsTrue, IfOk, None, OnOk, OnErr, cond, is_some, Some};
 ghost use Rattle.shred_world.specs.declared.id.ResourceId.{ResourceId};
-ghost use Rattle.shred_world.specs.Parting.{IsRoom, IsSpare, emptied, slot_value, given};
+ghost use Rattle.shred_world.specs.Parting.{IsEmptyHand, IsRoom, IsSpare, emptied, slot_value, given};
 ghost use Rattle.shred_world.specs.Slots.{slot_at, with_at, among};
 
 use crate::accessor::OutOfMemory;
@@ -9,12 +9,19 @@ use crate::id::ResourceId;
 use crate::table::Table;
 use std::alloc::Global;
 
-/// A hand without slots, for `Table::make_room`. It takes no memory. The dispatcher makes such hands; `View::part` makes
-/// its own.
-pub fn empty_hand<V>(alloc: Global) -> Table<V>
-    ensures { (id : ResourceId) → slot_at result id ≡ None }
+/// A hand with an empty slot for each of these ids, and with no other slot. The dispatcher makes such hands; `View::part`
+/// makes its own.
+pub fn empty_hand<V: Drop>(alloc: Global, ids: &[ResourceId]) -> Result<Table<V>, OutOfMemory>
+    ensures { IfOk result (IsEmptyHand ids.now) }
 {
-    Table::hand(alloc)
+    let mut hand = Table::hand(alloc);
+    for id in ids {
+        match hand.open(*id) {
+            Ok(()) => {}
+            Err(error) => return Err(error),
+        }
+    }
+    Ok(hand)
 }
 
 impl<V: Drop> Table<V> {
@@ -60,11 +67,11 @@ impl<V: Drop> Table<V> {
         }
     }
 
-    // Moves the values of these ids into the empty slots that another table has for them.
-    fn move_each(&mut self, ids: &[ResourceId], to: &mut Table<V>)
-        requires { (q : ResourceId) → IsTrue (among ids.now q) → slot_at to.old q ≡ emptied (slot_at self.old q) }
+    /// Moves the values of these ids into the slots that another table has for them; their own slots stay, empty. A value
+    /// for which the other table has no slot is dropped.
+    pub fn move_each(&mut self, ids: &[ResourceId], to: &mut Table<V>)
         ensures from { (q : ResourceId) → slot_at self.new q ≡ cond (among ids.now q) (emptied (slot_at self.old q)) (slot_at self.old q) }
-        ensures to { (q : ResourceId) → slot_at to.new q ≡ cond (among ids.now q) (slot_at self.old q) (slot_at to.old q) }
+        ensures to { (q : ResourceId) → slot_at to.new q ≡ cond (among ids.now q) (given (slot_value (slot_at self.old q)) (slot_at to.old q)) (slot_at to.old q) }
     {
         for id in ids {
             self.move_one(*id, to);

@@ -1,5 +1,5 @@
 //! A stage's turn: what each group writes is moved into its hand, the groups run, and all goes back.
-ghost use Rattle.std.specs.Prelude.{◌≡◌, ◌∷◌, [], All, IfErr, Err, OnOk};
+ghost use Rattle.std.specs.Prelude.{All};
 ghost use Rattle.shred_model.specs.Beside.{AllWent, AreApart};
 ghost use Rattle.shred_model.specs.Plan.{group_access};
 ghost use Rattle.shred_world.specs.Slots.{slot_at, held};
@@ -8,14 +8,14 @@ ghost use Rattle.shred.specs.Hands.{KeepsRoom};
 ghost use Rattle.shred.specs.Lanes.{IsReady, GroupWent};
 ghost use Rattle.shred.specs.OwnLists.{IsOwnGroup};
 ghost use Rattle.shred.specs.PlanOf.{groups_plan};
-ghost use Rattle.shred.specs.Turns.{IsBegun, TookTurn};
+ghost use Rattle.shred.specs.Turns.{TookTurn};
 
 use crate::dispatch::entry::Group;
 use crate::dispatch::fork::{Lane, run_each, run_lanes};
-use crate::dispatch::hands::{make_entry_rooms, make_rooms, move_all_back, move_all_out};
+use crate::dispatch::hands::{move_all_back, move_all_out};
 use crate::dispatch::run::{StageFault, run_entries};
 use crate::system::System;
-use shred_world::{OutOfMemory, ResourceValue, Shelf, Table};
+use shred_world::{ResourceValue, Shelf, Table};
 use std::thread::Threads;
 
 impl<'s, V: ResourceValue + Drop, S: System<V, Error = E>, E: Drop> Lane<[Shelf<'s, V>; 1], E>
@@ -28,27 +28,6 @@ impl<'s, V: ResourceValue + Drop, S: System<V, Error = E>, E: Drop> Lane<[Shelf<
         let single = self.entries.len() == 1;
         run_entries(self.entries.as_mut_slice(), single, shelf, &mut self.hand)
     }
-}
-
-// Makes room in the hands, and moves what each group writes into its hand.
-fn begin<V: ResourceValue + Drop, S: System<V, Error = E>, E: Drop>(
-    groups: &mut [Group<V, S>],
-    table: &mut Table<V>,
-) -> Result<(), StageFault<E>>
-    requires own_lists { All (IsOwnGroup S.reads S.writes) groups.old }
-    requires room { All KeepsRoom groups.old }
-    requires apart { AreApart group_access (groups_plan groups.old) }
-    ensures begun { OnOk result (IsBegun S.reads S.writes table.old groups.old table.new groups.new) }
-    ensures refused { IfErr result (λ fault. TookTurn V.kind_of S.step S.reads S.writes groups.old (held V.kind_of table.old) (Err fault) groups.new (held V.kind_of table.new)) }
-{
-    if let Err(OutOfMemory) = make_entry_rooms(groups, table) {
-        return Err(StageFault::Memory);
-    }
-    if let Err(OutOfMemory) = make_rooms(groups, table) {
-        return Err(StageFault::Memory);
-    }
-    move_all_out(groups, table);
-    Ok(())
 }
 
 // The groups, one after the other over the table, which nobody writes.
@@ -89,9 +68,7 @@ fn turn_in_order<V: ResourceValue + Drop, S: System<V, Error = E>, E: Drop>(
     requires apart { AreApart group_access (groups_plan groups.old) }
     ensures { TookTurn V.kind_of S.step S.reads S.writes groups.old (held V.kind_of table.old) result groups.new (held V.kind_of table.new) }
 {
-    if let Err(fault) = begin(groups, table) {
-        return Err(fault);
-    }
+    move_all_out(groups, table);
     let answer = run_in_order(table, groups);
     move_all_back(groups, table);
     answer
@@ -116,9 +93,7 @@ where
     requires apart { AreApart group_access (groups_plan groups.old) }
     ensures { TookTurn V.kind_of S.step S.reads S.writes groups.old (held V.kind_of table.old) result groups.new (held V.kind_of table.new) }
 {
-    if let Err(fault) = begin(groups, table) {
-        return Err(fault);
-    }
+    move_all_out(groups, table);
     let answer = run_beside(rt, table, groups, workers);
     move_all_back(groups, table);
     answer

@@ -2,6 +2,7 @@
 ghost use Rattle.std.specs.Prelude.{◌≡◌, ◌≤◌, ◌<◌, ℕ, List, [], ◌∷◌, ◌++◌, map, length, remove, IfOk, OnOk, OnErr, IfSome, IfNone};
 ghost use Rattle.shred_model.specs.Plan.{group_ids, group_time};
 ghost use Rattle.shred_world.specs.Id.{same_id};
+ghost use Rattle.shred_world.specs.Parting.{IsEmptyHand};
 ghost use Rattle.shred.specs.Hands.{KeepsRoom};
 ghost use Rattle.shred.specs.PlanOf.{access_of, entry_plan, group_plan, numbers_of, KeepsIds};
 ghost use Rattle.shred.specs.Placement.{difference, without};
@@ -28,8 +29,8 @@ impl<A: Drop> MadeWith<A> for SystemId {
     }
 }
 
-/// A system, with what was kept of it when it was placed, and the slots into which the values that it writes are moved
-/// while it runs, where its group has other entries.
+/// A system, with what was kept of it when it was placed, and a slot for each id that it writes, into which the value is
+/// moved while the system runs, where its group has other entries.
 #[derive(Drop)]
 pub(crate) struct Entry<V, S> {
     pub(crate) id: SystemId,
@@ -40,8 +41,8 @@ pub(crate) struct Entry<V, S> {
     pub(crate) hand: Table<V>,
 }
 
-/// Entries that run one after the other. Beside them stand their ids, the ids that they write, and the slots into which
-/// the written values are moved while the group runs.
+/// Entries that run one after the other. Beside them stand their ids, the ids that they write, and a slot for each of
+/// these, into which the value is moved while the group runs.
 #[derive(Drop)]
 pub(crate) struct Group<V, S> {
     pub(crate) ids: ArrayVec<SystemId, 4>,
@@ -134,15 +135,39 @@ impl<V, S> Group<V, S> {
         let Ok(written) = Vec::from_slice(alloc, entry.writes.as_slice()) else {
             return Err(OutOfMemory);
         };
+        let hand = match empty_hand(alloc, written.as_slice()) {
+            Ok(hand) => hand,
+            Err(error) => return Err(error),
+        };
         let mut entries = Vec::new(alloc);
         match entries.push(entry) {
             Ok(()) => Ok(Group {
                 ids,
                 entries,
                 written,
-                hand: empty_hand(alloc),
+                hand,
             }),
             Err(_) => Err(OutOfMemory),
+        }
+    }
+
+    // What the group writes with these ids more, and a hand for it.
+    fn hand_with(&self, more: &[ResourceId]) -> Result<(Vec<ResourceId>, Table<V>), OutOfMemory>
+    where
+        V: Drop,
+        ensures written { IfOk result (λ grown. grown.0.items ≡ self.now.written.items ++ more.now) }
+        ensures hand { IfOk result (λ grown. IsEmptyHand grown.0.items grown.1) }
+    {
+        let alloc = *self.written.allocator();
+        let Ok(mut written) = Vec::from_slice(alloc, self.written.as_slice()) else {
+            return Err(OutOfMemory);
+        };
+        if written.extend_from_slice(more).is_err() {
+            return Err(OutOfMemory);
+        }
+        match empty_hand(alloc, written.as_slice()) {
+            Ok(hand) => Ok((written, hand)),
+            Err(error) => Err(error),
         }
     }
 
@@ -162,23 +187,18 @@ impl<V, S> Group<V, S> {
         ensures room { KeepsRoom self.new }
     {
         let id = entry.id;
-        let written = self.written.len();
-        if self
-            .written
-            .extend_from_slice(entry.writes.as_slice())
-            .is_err()
-        {
-            return Err(OutOfMemory);
-        }
+        let (written, hand) = match self.hand_with(entry.writes.as_slice()) {
+            Ok(grown) => grown,
+            Err(error) => return Err(error),
+        };
         match push_or_drop(&mut self.entries, entry) {
             Ok(()) => {
                 self.ids.push(id);
+                self.written = written;
+                self.hand = hand;
                 Ok(())
             }
-            Err(error) => {
-                self.written.truncate(written);
-                Err(error)
-            }
+            Err(error) => Err(error),
         }
     }
 

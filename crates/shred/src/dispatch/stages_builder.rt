@@ -326,6 +326,10 @@ fn kept_entry<V: ResourceValue + Drop, S: System<V> + Drop>(
         Ok(writes) => writes,
         Err(e) => return Err(e),
     };
+    let hand = match empty_hand(alloc, writes.as_slice()) {
+        Ok(hand) => hand,
+        Err(e) => return Err(e),
+    };
     sort_without_doubles(&mut reads);
     Ok(Entry {
         id,
@@ -333,6 +337,6 @@ fn kept_entry<V: ResourceValue + Drop, S: System<V> + Drop>(
         writes,
         time,
         system,
-        hand: empty_hand(alloc),
+        hand,
     })
 }

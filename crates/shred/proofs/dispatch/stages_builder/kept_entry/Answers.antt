@@ -1,7 +1,8 @@
-use Rattle.std.proofs.Common.{◌∙◌, ap, refl}
+use Rattle.std.proofs.Common.{◌≡◌, ◌∙◌, List, ap, refl, subst, rules}
+use Rattle.shred_world.specs.declared.id.ResourceId.{ResourceId}
+use Rattle.shred_world.specs.Parting.{IsEmptyHand}
 use Rattle.shred.specs.Time.{count_of}
 use Rattle.shred_world.specs.Id.{IsBefore}
-use Rattle.shred.proofs.Spare.{spare-of_empty}
 use Rattle.shred.proofs.KeptLists.{own_lists-of_same}
 use Rattle.shred.proofs.Orders.{AllPairs-from_sorted, Contains-from_same, IsBefore-from_less}
 use Rattle.shred.proofs.dispatch.stages_builder.kept_entry.Goals as goal
@@ -22,8 +23,9 @@ pub returns-clause-own_lists : goal.returns-clause-own_lists
 returns-clause-own_lists g c =
     let sorted = c.sort_without_doubles in
     let given = c.in-Ok-reads.ensures ∙ c.in-Ok.ensures.reads in
+    let ids : c.as_slice.result.now ≡ c.in-Ok-writes.writes.items = search rules in
     record {
-      hand = λ q. spare-of_empty _ (c.empty_hand.ensures q);
+      hand = subst (λ (ids : List ResourceId). IsEmptyHand ids c.in-Ok-empty_hand.hand) ids c.in-Ok-empty_hand.ensures;
       lists = own_lists-of_same (g.S.System.reads c.args.system) (g.S.System.writes c.args.system) sorted.new.items.items c.in-Ok-writes.writes.items
           (λ i. ((λ h. rw given at (sorted.ensures.none_new i h)), (λ h. Contains-from_same sorted.new.items.items i (sorted.ensures.none_lost i (rw given h)))))
           (c.in-Ok-writes.ensures ∙ c.in-Ok.ensures.writes);

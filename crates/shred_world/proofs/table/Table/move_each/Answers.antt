@@ -20,11 +20,10 @@ loop-id-preserved g c =
           (λ q e. c.move_one.ensures.from q ∙ with_at-here from id _ q e ∙ ap (λ (x : ResourceId). emptied (from x)) (same_id-true id q e) ∙ left-more (among (take k ids) q) (from q) (first q) (c.loop-id.invariant.from q))
           (λ q e. c.move_one.ensures.from q ∙ with_at-there from id _ q e)
           c.loop-id.invariant.from;
-      to = cond-more first (slot_at c.args.to.now) k ids d c.loop-id-test.true to (slot_at c.move_one.new.to)
+      to = cond-more (λ q. given (slot_value (first q)) (slot_at c.args.to.now q)) (slot_at c.args.to.now) k ids d c.loop-id-test.true to (slot_at c.move_one.new.to)
           (λ q e.
-          let in_list : among ids q ≡ true = ap (λ (x : ResourceId). among ids x) (sym (same_id-true id q e)) ∙ among-at k ids d c.loop-id-test.true in
           c.move_one.ensures.to q ∙ with_at-here to id _ q e ∙ ap (λ (x : ResourceId). given (slot_value (from x)) (to x)) (same_id-true id q e)
-          ∙ given-more (among (take k ids) q) (from q) (first q) (to q) (slot_at c.args.to.now q) (c.loop-id.invariant.from q) (c.loop-id.invariant.to q) (c.requires q in_list))
+          ∙ given-more (among (take k ids) q) (from q) (first q) (to q) (slot_at c.args.to.now q) (c.loop-id.invariant.from q) (c.loop-id.invariant.to q))
           (λ q e. c.move_one.ensures.to q ∙ with_at-there to id _ q e)
           c.loop-id.invariant.to;
     }
@@ -33,4 +32,4 @@ pub returns-clause-from : goal.returns-clause-from
 returns-clause-from g c = cond-all (λ q. emptied (slot_at c.args.self.now q)) (slot_at c.args.self.now) (slot_at c.loop-id.self) c.loop-id.id-index c.args.ids.now (omega arith) c.loop-id.invariant.from
 
 pub returns-clause-to : goal.returns-clause-to
-returns-clause-to g c = cond-all (slot_at c.args.self.now) (slot_at c.args.to.now) (slot_at c.loop-id.to) c.loop-id.id-index c.args.ids.now (omega arith) c.loop-id.invariant.to
+returns-clause-to g c = cond-all (λ q. given (slot_value (slot_at c.args.self.now q)) (slot_at c.args.to.now q)) (slot_at c.args.to.now) (slot_at c.loop-id.to) c.loop-id.id-index c.args.ids.now (omega arith) c.loop-id.invariant.to

@@ -7,6 +7,7 @@ pub mod Ids
 pub mod Views
 pub mod Refusals
 pub mod HeldKinds
+pub mod KeptIds
 pub mod Moves
 pub mod Pairs
 pub mod Parted

@@ -25,6 +25,12 @@ share_item-numbers_of xs ys ns e =
     λ x. list_any-map (λ (id : SystemId). id.0) (λ m. nat_eq m x.0) ys in
     rw (← e) (sym (list_any-map (λ (id : SystemId). id.0) (λ n. list_any (λ m. nat_eq m n) (numbers_of ys)) xs ∙ list_any_agree _ _ inner xs))
 
+-- no id is one of none
+pub share_item-none : (ns : List ℕ) (ids : List SystemId) → true ≡ (length ids == 0) → false ≡ share_item nat_eq ns (numbers_of ids)
+share_item-none [] [] e = refl
+share_item-none (n ∷ ns) [] e = share_item-none ns [] e
+share_item-none ns (id ∷ ids) e = absurd (grind (arith, nat_tests))
+
 -- the first x stands at i
 pub without-first : (x : ℕ) (xs : List ℕ) (i : ℕ) → i < length xs → get_or xs i 0 ≡ x → ((k : ℕ) → k < i → get_or xs k 0 ≢ x) → without x xs ≡ remove xs i
 without-first x [] i lt at before = absurd (omega (arith, lt))

@@ -96,7 +96,7 @@ impl<V, S> Group<V, S> {
         requires { KeepsIds self.now }
         ensures { result ≡ holds_any (numbers_of ids.now) (group_plan self.now) }
     {
-        check_intersection(self.ids.as_slice(), ids)
+        !ids.is_empty() && check_intersection(self.ids.as_slice(), ids)
     }
 
     /// Whether the entry has to come after this group: they conflict, or the group holds an id that is left.

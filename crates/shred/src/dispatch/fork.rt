@@ -29,8 +29,10 @@ pub(crate) fn run_each<K, E: Drop, L: Lane<K, E>>(
 {
     let mut answer = Ok(());
     for lane in lanes.iter_mut() {
-        let ended = lane.run(shared);
-        answer = first(answer, ended);
+        match lane.run(shared) {
+            Ok(()) => {}
+            Err(fault) => answer = first(answer, Err(fault)),
+        }
     }
     answer
 }

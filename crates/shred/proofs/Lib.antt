@@ -2,6 +2,7 @@ pub mod Added
 pub mod Apart
 pub mod Appended
 pub mod Consistent
+pub mod Dispatched
 pub mod EntriesAt
 pub mod Hands
 pub mod Ids

@@ -26,5 +26,6 @@ pub mod Steps
 pub mod Entries
 pub mod Plans
 pub mod Dispatchers
+pub mod Dispatched
 pub mod Added
 pub mod EntriesAt

@@ -1,15 +1,10 @@
 //! The dispatcher: it runs a plan.
-ghost use Rattle.std.specs.Prelude.{◌≡◌, Err, map};
-ghost use Rattle.std.specs.Option.{option_map};
-ghost use Rattle.shred_model.specs.OneThread.{LeavesAsOneThread};
+ghost use Rattle.std.specs.Prelude.{◌≡◌, Err};
 ghost use Rattle.shred_model.specs.Record.{Agent};
-ghost use Rattle.shred_model.specs.Runs.{Ran};
-ghost use Rattle.shred_model.specs.States.{setting_of, listed_states};
-ghost use Rattle.shred_world.specs.declared.id.ResourceId.{ResourceId};
-ghost use Rattle.shred_world.specs.Worlds.{world_held};
-ghost use Rattle.shred.specs.Plans.{PlanRun, dispatch_answer, stage_states, plan_states};
+ghost use Rattle.shred.specs.Dispatched.{Dispatched, stages_over, dispatcher_over};
 ghost use Rattle.shred.specs.Dispatchers.{dispatcher_plan, dispatcher_states};
-ghost use Rattle.shred.specs.StagePlan.{stage_plan, plan_of, widest};
+ghost use Rattle.shred.specs.Plans.{PlanRun, dispatch_answer, plan_states};
+ghost use Rattle.shred.specs.StagePlan.{plan_of, widest};
 
 use crate::dispatch::entry::SystemId;
 use crate::dispatch::run::StageFault;
@@ -84,9 +79,7 @@ fn run_stages<V: ResourceValue + Drop, S: System<V, Error = E>, E: Drop>(
     stages: &mut [Stage<V, S>],
     world: &mut World<V>,
 ) -> Result<(), DispatchError<E>>
-    ensures ran { Ran (PlanRun V.kind_of S.step (plan_of stages.old)) (setting_of (plan_states stages.old) (world_held V.kind_of world.old)) result (setting_of (plan_states stages.new) (world_held V.kind_of world.new)) }
-    ensures plan { plan_of stages.new ≡ plan_of stages.old }
-    ensures kinds { (id : ResourceId) → option_map V.kind_of (world_held V.kind_of world.new id) ≡ option_map V.kind_of (world_held V.kind_of world.old id) }
+    ensures { Dispatched V.kind_of (PlanRun V.kind_of S.step) (stages_over V.kind_of stages.old world.old) result (stages_over V.kind_of stages.new world.new) }
 {
     for (place, stage) in stages.iter_mut().enumerate() {
         if let Err(fault) = stage.execute_seq(world) {
@@ -94,18 +87,6 @@ fn run_stages<V: ResourceValue + Drop, S: System<V, Error = E>, E: Drop>(
         }
     }
     Ok(())
-}
-
-// The same, of a vector of stages.
-fn run_plan<V: ResourceValue + Drop, S: System<V, Error = E>, E: Drop>(
-    stages: &mut Vec<Stage<V, S>>,
-    world: &mut World<V>,
-) -> Result<(), DispatchError<E>>
-    ensures ran { Ran (PlanRun V.kind_of S.step (plan_of stages.old.items)) (setting_of (plan_states stages.old.items) (world_held V.kind_of world.old)) result (setting_of (plan_states stages.new.items) (world_held V.kind_of world.new)) }
-    ensures plan { plan_of stages.new.items ≡ plan_of stages.old.items }
-    ensures kinds { (id : ResourceId) → option_map V.kind_of (world_held V.kind_of world.new id) ≡ option_map V.kind_of (world_held V.kind_of world.old id) }
-{
-    run_stages(stages.as_mut_slice(), world)
 }
 
 // The stages' runs, in order, up to the first that is not Done, on threads.
@@ -117,9 +98,7 @@ fn fork_stages<
 >(rt: &R, stages: &mut [Stage<V, S>], world: &mut World<V>) -> Result<(), DispatchError<E>>
 where
     S::Accessor: Send,
-    ensures ran { Ran (PlanRun V.kind_of S.step (plan_of stages.old)) (setting_of (plan_states stages.old) (world_held V.kind_of world.old)) result (setting_of (plan_states stages.new) (world_held V.kind_of world.new)) }
-    ensures plan { plan_of stages.new ≡ plan_of stages.old }
-    ensures kinds { (id : ResourceId) → option_map V.kind_of (world_held V.kind_of world.new id) ≡ option_map V.kind_of (world_held V.kind_of world.old id) }
+    ensures { Dispatched V.kind_of (PlanRun V.kind_of S.step) (stages_over V.kind_of stages.old world.old) result (stages_over V.kind_of stages.new world.new) }
 {
     for (place, stage) in stages.iter_mut().enumerate() {
         if let Err(fault) = stage.execute(rt, world) {
@@ -129,31 +108,13 @@ where
     Ok(())
 }
 
-// The same, of a vector of stages.
-fn fork_plan<
-    R: Threads + Sync,
-    V: ResourceValue + Drop + Send + Sync,
-    S: System<V, Error = E> + Send,
-    E: Drop + Send,
->(rt: &R, stages: &mut Vec<Stage<V, S>>, world: &mut World<V>) -> Result<(), DispatchError<E>>
-where
-    S::Accessor: Send,
-    ensures ran { Ran (PlanRun V.kind_of S.step (plan_of stages.old.items)) (setting_of (plan_states stages.old.items) (world_held V.kind_of world.old)) result (setting_of (plan_states stages.new.items) (world_held V.kind_of world.new)) }
-    ensures plan { plan_of stages.new.items ≡ plan_of stages.old.items }
-    ensures kinds { (id : ResourceId) → option_map V.kind_of (world_held V.kind_of world.new id) ≡ option_map V.kind_of (world_held V.kind_of world.old id) }
-{
-    fork_stages(rt, stages.as_mut_slice(), world)
-}
-
 impl<V: ResourceValue + Drop, S: System<V, Error = E>, E: Drop> Dispatcher<V, S> {
     /// Runs the stages, one after the other, up to the first that is not Done, on the caller's thread. A stage whose
     /// memory is refused is told as `StageMemory`; it has not begun, and those before it are done.
     pub fn dispatch_seq(&mut self, world: &mut World<V>) -> Result<(), DispatchError<E>>
-        ensures ran { LeavesAsOneThread (λ list. PlanRun V.kind_of S.step (dispatcher_plan self.old) list result) (setting_of (dispatcher_states self.old) (world_held V.kind_of world.old)) (setting_of (dispatcher_states self.new) (world_held V.kind_of world.new)) }
-        ensures plan { dispatcher_plan self.new ≡ dispatcher_plan self.old }
-        ensures kinds { (id : ResourceId) → option_map V.kind_of (world_held V.kind_of world.new id) ≡ option_map V.kind_of (world_held V.kind_of world.old id) }
+        ensures { Dispatched V.kind_of (PlanRun V.kind_of S.step) (dispatcher_over V.kind_of self.old world.old) result (dispatcher_over V.kind_of self.new world.new) }
     {
-        run_plan(&mut self.stages, world)
+        run_stages(self.stages.as_mut_slice(), world)
     }
 }
 
@@ -172,10 +133,8 @@ where
         rt: &R,
         world: &mut World<V>,
     ) -> Result<(), DispatchError<E>>
-        ensures ran { LeavesAsOneThread (λ list. PlanRun V.kind_of S.step (dispatcher_plan self.old) list result) (setting_of (dispatcher_states self.old) (world_held V.kind_of world.old)) (setting_of (dispatcher_states self.new) (world_held V.kind_of world.new)) }
-        ensures plan { dispatcher_plan self.new ≡ dispatcher_plan self.old }
-        ensures kinds { (id : ResourceId) → option_map V.kind_of (world_held V.kind_of world.new id) ≡ option_map V.kind_of (world_held V.kind_of world.old id) }
+        ensures { Dispatched V.kind_of (PlanRun V.kind_of S.step) (dispatcher_over V.kind_of self.old world.old) result (dispatcher_over V.kind_of self.new world.new) }
     {
-        fork_plan(rt, &mut self.stages, world)
+        fork_stages(rt, self.stages.as_mut_slice(), world)
     }
 }

@@ -195,21 +195,14 @@ impl<V: ResourceValue, S: System<V>> Stage<V, S> {
 }
 
 impl<V: ResourceValue + Drop, S: System<V, Error = E>, E: Drop> Stage<V, S> {
-    ghost use Rattle.std.specs.Option.{option_map};
-    ghost use Rattle.shred_model.specs.OneThread.{LeavesAsOneThread};
-    ghost use Rattle.shred_model.specs.States.{setting_of};
-    ghost use Rattle.shred_world.specs.declared.id.ResourceId.{ResourceId};
-    ghost use Rattle.shred_world.specs.Worlds.{world_held};
-    ghost use Rattle.shred.specs.Plans.{StageTurn, stage_states};
-    ghost use Rattle.shred.specs.StagePlan.{stage_plan};
+    ghost use Rattle.shred.specs.Dispatched.{Dispatched, stage_over};
+    ghost use Rattle.shred.specs.Plans.{StageTurn};
 
     /// Runs every group, one after the other, each up to its first system that is not Done, on the caller's thread. The
     /// answer is that of the first group, in order, that is not Done. The memory that the stage needs is taken before any
     /// group begins; where it is refused, the answer is `Memory`, and nothing has run.
     pub fn execute_seq(&mut self, world: &mut World<V>) -> Result<(), StageFault<E>>
-        ensures ran { LeavesAsOneThread (λ list. StageTurn V.kind_of S.step (stage_plan self.old) list result) (setting_of (stage_states self.old) (world_held V.kind_of world.old)) (setting_of (stage_states self.new) (world_held V.kind_of world.new)) }
-        ensures plan { stage_plan self.new ≡ stage_plan self.old }
-        ensures kinds { (id : ResourceId) → option_map V.kind_of (world_held V.kind_of world.new id) ≡ option_map V.kind_of (world_held V.kind_of world.old id) }
+        ensures { Dispatched V.kind_of (StageTurn V.kind_of S.step) (stage_over V.kind_of self.old world.old) result (stage_over V.kind_of self.new world.new) }
     {
         take_turn(&mut self.groups, world.table_mut())
     }
@@ -225,13 +218,8 @@ impl<V: ResourceValue + Drop + Send + Sync, S: System<V, Error = E> + Send, E: D
 where
     S::Accessor: Send,
 {
-    ghost use Rattle.std.specs.Option.{option_map};
-    ghost use Rattle.shred_model.specs.OneThread.{LeavesAsOneThread};
-    ghost use Rattle.shred_model.specs.States.{setting_of};
-    ghost use Rattle.shred_world.specs.declared.id.ResourceId.{ResourceId};
-    ghost use Rattle.shred_world.specs.Worlds.{world_held};
-    ghost use Rattle.shred.specs.Plans.{StageTurn, stage_states};
-    ghost use Rattle.shred.specs.StagePlan.{stage_plan};
+    ghost use Rattle.shred.specs.Dispatched.{Dispatched, stage_over};
+    ghost use Rattle.shred.specs.Plans.{StageTurn};
 
     /// Runs every group, each up to its first system that is not Done, beside each other in two halves on two threads. A
     /// half whose thread cannot be started runs on the caller's thread, and so does a stage of one group. The answer is
@@ -243,9 +231,7 @@ where
         rt: &R,
         world: &mut World<V>,
     ) -> Result<(), StageFault<E>>
-        ensures ran { LeavesAsOneThread (λ list. StageTurn V.kind_of S.step (stage_plan self.old) list result) (setting_of (stage_states self.old) (world_held V.kind_of world.old)) (setting_of (stage_states self.new) (world_held V.kind_of world.new)) }
-        ensures plan { stage_plan self.new ≡ stage_plan self.old }
-        ensures kinds { (id : ResourceId) → option_map V.kind_of (world_held V.kind_of world.new id) ≡ option_map V.kind_of (world_held V.kind_of world.old id) }
+        ensures { Dispatched V.kind_of (StageTurn V.kind_of S.step) (stage_over V.kind_of self.old world.old) result (stage_over V.kind_of self.new world.new) }
     {
         if self.groups.len() < 2 {
             return self.execute_seq(world);

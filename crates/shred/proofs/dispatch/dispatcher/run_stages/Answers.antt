@@ -2,26 +2,25 @@ use Rattle.std.proofs.Common.{◌∙◌, get_or, Ok, Err, refl, arith}
 use Rattle.std.proofs.Math.Seq.{map-set_same}
 use Rattle.shred_model.proofs.UpToFault.{SoFar-start, SoFar-more, SoFar-fault, SoFar-end}
 use Rattle.shred_world.specs.Worlds.{world_held}
+use Rattle.shred.specs.Dispatched.{stages_over}
 use Rattle.shred.specs.Plans.{PlanTurn, stage_states}
 use Rattle.shred.specs.StagePlan.{stage_plan}
+use Rattle.shred.proofs.Dispatched.{run-dispatched}
 use Rattle.shred.proofs.PlanTurns.{turn-ran}
 use Rattle.shred.proofs.dispatch.dispatcher.run_stages.Goals as goal
 
 pub loop-place-init : goal.loop-place-init
 loop-place-init g c = record { plan = refl; kinds = λ id. refl; ran = SoFar-start (PlanTurn g.V.ResourceValue.kind_of g.S.System.step) _ _ }
 
-pub returns-in-Err-clause-ran : goal.returns-in-Err-clause-ran
-returns-in-Err-clause-ran g c =
+pub returns-in-Err : goal.returns-in-Err
+returns-in-Err g c =
     let kind = g.V.ResourceValue.kind_of in
-    SoFar-fault (PlanTurn kind g.S.System.step) stage_plan stage_states c.loop-place.stages (world_held kind c.loop-place.world)
+    run-dispatched kind g.S.System.step (stages_over kind c.args.stages.now c.args.world.now) (stages_over kind _ c.execute_seq.new.world) (Err c.at_stage.result)
+    (SoFar-fault (PlanTurn kind g.S.System.step) stage_plan stage_states c.loop-place.stages (world_held kind c.loop-place.world)
     c.loop-place.invariant.plan c.loop-place.invariant.ran c.index-stages-place.result c.execute_seq.new.self (world_held kind c.execute_seq.new.world) (omega arith) c.at_stage.result
-    (turn-ran kind g.S.System.step c.loop-place.place (stage_plan (get_or c.loop-place.stages c.loop-place.place c.index-stages-place.result)) _ _ (Err c.in-Err.fault) (Err c.at_stage.result) c.at_stage.ensures c.in-Err.ensures.ran)
-
-pub returns-in-Err-clause-plan : goal.returns-in-Err-clause-plan
-returns-in-Err-clause-plan g c = map-set_same stage_plan c.loop-place.stages c.loop-place.place c.execute_seq.new.self c.index-stages-place.result c.in-Err.ensures.plan ∙ c.loop-place.invariant.plan
-
-pub returns-in-Err-clause-kinds : goal.returns-in-Err-clause-kinds
-returns-in-Err-clause-kinds g c = λ id. c.in-Err.ensures.kinds id ∙ c.loop-place.invariant.kinds id
+    (turn-ran kind g.S.System.step c.loop-place.place (stage_plan (get_or c.loop-place.stages c.loop-place.place c.index-stages-place.result)) _ _ (Err c.in-Err.fault) (Err c.at_stage.result) c.at_stage.ensures c.in-Err.ensures.ran))
+    (map-set_same stage_plan c.loop-place.stages c.loop-place.place c.execute_seq.new.self c.index-stages-place.result c.in-Err.ensures.plan ∙ c.loop-place.invariant.plan)
+    (λ id. c.in-Err.ensures.kinds id ∙ c.loop-place.invariant.kinds id)
 
 pub loop-place-preserved : goal.loop-place-preserved
 loop-place-preserved g c =
@@ -34,6 +33,9 @@ loop-place-preserved g c =
           (turn-ran kind g.S.System.step c.loop-place.place (stage_plan (get_or c.loop-place.stages c.loop-place.place c.index-stages-place.result)) _ _ (Ok tt) (Ok tt) refl c.in_default.ensures.ran);
     }
 
-pub returns-clause-ran : goal.returns-clause-ran
-returns-clause-ran g c = SoFar-end (PlanTurn g.V.ResourceValue.kind_of g.S.System.step) stage_plan stage_states c.loop-place.stages (world_held g.V.ResourceValue.kind_of c.loop-place.world)
-    c.loop-place.invariant.plan c.loop-place.invariant.ran (omega arith)
+pub returns : goal.returns
+returns g c =
+    let kind = g.V.ResourceValue.kind_of in
+    run-dispatched kind g.S.System.step (stages_over kind c.args.stages.now c.args.world.now) (stages_over kind c.loop-place.stages c.loop-place.world) (Ok tt)
+    (SoFar-end (PlanTurn kind g.S.System.step) stage_plan stage_states c.loop-place.stages (world_held kind c.loop-place.world) c.loop-place.invariant.plan c.loop-place.invariant.ran (omega arith))
+    c.loop-place.invariant.plan c.loop-place.invariant.kinds

@@ -14,8 +14,8 @@ use Rattle.shred.specs.Search.{OthersDoNotConflict, PlaceIs}
 use Rattle.shred.specs.Soundness.{IsSmallGroup}
 use Rattle.shred.specs.StagePlan.{stage_plan, plan_of}
 use Rattle.shred.specs.declared.dispatch.entry.Group.{Group}
-use Rattle.shred.specs.declared.dispatch.spot.Spot.{Spot}
-use Rattle.shred.specs.declared.dispatch.spot.Spot.TheVariants.{NewGroup, EndOf}
+use Rattle.shred.specs.declared.dispatch.stage.Spot.{Spot}
+use Rattle.shred.specs.declared.dispatch.stage.Spot.TheVariants.{NewGroup, EndOf}
 use Rattle.shred.specs.declared.dispatch.stage.Stage.{Stage}
 
 -- the stage that is read at i

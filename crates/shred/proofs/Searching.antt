@@ -9,7 +9,7 @@ use Rattle.std.proofs.lemmas.Option.{slice_get_within, get_or_from_slice_get, sl
 use Rattle.shred_model.specs.Plan.{Entry, Stage, Plan, stage_ids, plan_ids}
 use Rattle.shred.specs.Placement.{difference, dependencies_left, Admits, NoneAdmits}
 use Rattle.shred.specs.Search.{SpotIs, PlaceIs}
-use Rattle.shred.specs.declared.dispatch.spot.Spot.{Spot}
+use Rattle.shred.specs.declared.dispatch.stage.Spot.{Spot}
 use Rattle.shred.proofs.Left.{difference-append}
 
 pub slice_range-none : {X : Type 0} (xs : List X) (a : ℕ) → slice_range xs a a ≡ []

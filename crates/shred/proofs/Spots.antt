@@ -11,9 +11,9 @@ use Rattle.shred_model.specs.Access.{Access, Conflicts}
 use Rattle.shred_model.specs.Plan.{Entry, Group, Stage, group_ids, group_access, group_time}
 use Rattle.shred.specs.Placement.{greatest_time, IsTouched, Admits, AdmitsNewGroup, AdmitsAtEndOf, HoldsTheOneLeft}
 use Rattle.shred.specs.Search.{is_touched, group_conflicts, waits_for_group, may_end, TouchedIs, SpotIs}
-use Rattle.shred.specs.declared.dispatch.spot.Spot.{Spot}
-use Rattle.shred.specs.declared.dispatch.spot.Spot.TheVariants.{NewGroup, EndOf}
-use Rattle.shred.specs.declared.dispatch.spot.Touched.TheVariants.{Nothing, One, Several}
+use Rattle.shred.specs.declared.dispatch.stage.Spot.{Spot}
+use Rattle.shred.specs.declared.dispatch.stage.Spot.TheVariants.{NewGroup, EndOf}
+use Rattle.shred.specs.declared.dispatch.stage.Touched.TheVariants.{Nothing, One, Several}
 use Rattle.shred.proofs.Membership.{Contains-nil, Contains-cons_cases}
 use Rattle.shred.proofs.Tests.{Agrees, group_conflicts-Decides, is_touched-Decides}
 

@@ -3,8 +3,8 @@ use Rattle.std.proofs.Common.{◌≡◌, ◌≢◌, ℕ, zero, suc, ◌+◌, ◌
 use Rattle.std.specs.List.{slice_get}
 use Rattle.std.proofs.lemmas.List.{map_more, map-append, length-map, length-take-le, take-append-drop, take_all}
 use Rattle.std.proofs.lemmas.Option.{slice_get_within}
-use Rattle.shred.specs.declared.dispatch.spot.Touched.{Touched}
-use Rattle.shred.specs.declared.dispatch.spot.Touched.TheVariants.{Nothing, One, Several}
+use Rattle.shred.specs.declared.dispatch.stage.Touched.{Touched}
+use Rattle.shred.specs.declared.dispatch.stage.Touched.TheVariants.{Nothing, One, Several}
 use Rattle.shred.specs.Search.{TouchedIs}
 
 -- an item of the longer list is one of the shorter, or the last

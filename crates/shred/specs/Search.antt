@@ -4,10 +4,10 @@ use Rattle.std.specs.List.{list_any}
 use Rattle.shred_model.specs.Access.{Access, Conflicts}
 use Rattle.shred_model.specs.Plan.{Entry, Group, Stage, Plan, group_ids, group_access, group_time}
 use Rattle.shred.specs.Placement.{greatest_time, dependencies_left, Admits, AdmitsNewGroup, AdmitsAtEndOf, NoneAdmits}
-use Rattle.shred.specs.declared.dispatch.spot.Touched.{Touched}
-use Rattle.shred.specs.declared.dispatch.spot.Touched.TheVariants.{Nothing, One, Several}
-use Rattle.shred.specs.declared.dispatch.spot.Spot.{Spot}
-use Rattle.shred.specs.declared.dispatch.spot.Spot.TheVariants.{NewGroup, EndOf}
+use Rattle.shred.specs.declared.dispatch.stage.Touched.{Touched}
+use Rattle.shred.specs.declared.dispatch.stage.Touched.TheVariants.{Nothing, One, Several}
+use Rattle.shred.specs.declared.dispatch.stage.Spot.{Spot}
+use Rattle.shred.specs.declared.dispatch.stage.Spot.TheVariants.{NewGroup, EndOf}
 
 -- some item of the one list is the same as one of the other
 abbrev pub share_item : {T : Type 0} → (T → T → Bool) → List T → List T → Bool

@@ -3,8 +3,8 @@ use Rattle.std.specs.Prelude.{List}
 use Rattle.std.specs.List.{flat_map}
 use Rattle.shred_model.specs.Access.{Access}
 use Rattle.shred_model.specs.Plan.{Group, Stage, Plan}
-use Rattle.shred.specs.declared.dispatch.side.Side.{Side}
-use Rattle.shred.specs.declared.dispatch.side.Side.TheVariants.{Reads, Writes}
+use Rattle.shred.specs.declared.dispatch.entry.Side.{Side}
+use Rattle.shred.specs.declared.dispatch.entry.Side.TheVariants.{Reads, Writes}
 
 -- one of the two lists of an access
 abbrev pub side_of : {I : Type 0} → Side → Access I → List I

@@ -9,8 +9,6 @@ ghost use Rattle.shred.specs.Placement.{difference, without};
 ghost use Rattle.shred.specs.Sides.{side_of, group_side};
 ghost use Rattle.shred.specs.Search.{share_item, accesses_conflict, group_conflicts, holds_any, is_touched};
 
-use crate::dispatch::growing::push_or_drop;
-use crate::dispatch::side::Side;
 use crate::system::{RunningTime, System};
 use arrayvec::ArrayVec;
 use shred_world::parting::empty_hand;
@@ -27,6 +25,13 @@ impl<A: Drop> MadeWith<A> for SystemId {
     fn made_with(_alloc: A) -> Self {
         SystemId(0)
     }
+}
+
+/// One of the two lists of an access: what is read, or what is written.
+#[derive(Clone, Copy, Debug, PartialEq, Eq)]
+pub(crate) enum Side {
+    Reads,
+    Writes,
 }
 
 /// A system, with what was kept of it when it was placed, and a slot for each id that it writes, into which the value is
@@ -245,4 +250,15 @@ fn place_of(ids: &[SystemId], id: SystemId) -> Option<usize>
         }
     }
     None
+}
+
+/// Puts the item at the list's end, or drops it where memory is refused.
+pub(crate) fn push_or_drop<T: Drop>(items: &mut Vec<T>, item: T) -> Result<(), OutOfMemory>
+    ensures ok { OnOk result (items.new.items ≡ items.old.items ++ item ∷ []) }
+    ensures err { OnErr result (items.new.items ≡ items.old.items) }
+{
+    match items.push(item) {
+        Ok(()) => Ok(()),
+        Err(_) => Err(OutOfMemory),
+    }
 }

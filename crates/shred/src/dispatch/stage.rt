@@ -13,15 +13,28 @@ ghost use Rattle.shred.specs.Sides.{stage_side};
 ghost use Rattle.shred.specs.Soundness.{IsSmallGroup};
 
 use crate::dispatch::beside::{take_turn, take_turn_beside};
-use crate::dispatch::entry::{Entry, Group, SystemId};
+use crate::dispatch::entry::{Entry, Group, Side, SystemId};
 use crate::dispatch::run::StageFault;
-use crate::dispatch::side::Side;
-use crate::dispatch::spot::{Spot, Touched};
 use crate::system::System;
 use shred_world::{OutOfMemory, ResourceId, ResourceValue, World};
 use smallvec::SmallVec;
 use std::alloc::Global;
 use std::thread::Threads;
+
+/// Which groups of a stage an entry has to come after.
+#[derive(Clone, Copy, Debug, PartialEq, Eq)]
+pub(crate) enum Touched {
+    Nothing,
+    One(usize),
+    Several,
+}
+
+/// Where a stage takes an entry: as a new last group, or at the end of a group.
+#[derive(Clone, Copy, Debug, PartialEq, Eq)]
+pub(crate) enum Spot {
+    NewGroup,
+    EndOf(usize),
+}
 
 /// Groups that do not conflict, of one to four entries each.
 #[derive(Drop)]

@@ -1,6 +1,7 @@
 //! The planner: it gives each new system a place in the plan.
-ghost use Rattle.std.specs.Prelude.{◌≡◌, ◌↔◌, ◌<◌, ◌≤◌, ℕ, length, [], ◌∷◌, ◌++◌, slice_index_or, slice_set, All, AllPairs, Contains, IfOk, OnOk, OnErr};
+ghost use Rattle.std.specs.Prelude.{◌≡◌, ◌↔◌, ◌<◌, ◌≤◌, ℕ, length, [], ◌∷◌, ◌++◌, slice_index_or, slice_set, All, AllPairs, Any, Contains, IfOk, OnOk, OnErr, true};
 ghost use Rattle.std.specs.List.{flat_map};
+ghost use Rattle.std.specs.List.Sorted.{IsStrictlySortedBy};
 ghost use Rattle.shred_world.specs.Id.{IsBefore};
 ghost use Rattle.shred_world.specs.declared.id.ResourceId.{ResourceId};
 ghost use Rattle.shred_model.specs.Plan as model;
@@ -18,14 +19,10 @@ ghost use Rattle.shred.specs.Search.{OthersDoNotConflict, PlaceIs};
 ghost use Rattle.shred.specs.Sides.{stage_side, plan_reads, plan_writes};
 ghost use Rattle.shred.specs.StagePlan.{plan_of};
 
-use crate::dispatch::entry::{Entry, SystemId};
-use crate::dispatch::growing::push_or_drop;
+use crate::dispatch::entry::{Entry, Side, SystemId, push_or_drop};
 use crate::dispatch::printing::{PrintError, print};
-use crate::dispatch::side::Side;
 use crate::dispatch::sink::PlanSink;
-use crate::dispatch::sorted::sort_without_doubles;
-use crate::dispatch::spot::Spot;
-use crate::dispatch::stage::Stage;
+use crate::dispatch::stage::{Spot, Stage};
 use crate::system::System;
 use shred_world::parting::empty_hand;
 use shred_world::{Accessor, OutOfMemory, ResourceId, ResourceValue, Table};
@@ -339,4 +336,14 @@ fn kept_entry<V: ResourceValue + Drop, S: System<V> + Drop>(
         system,
         hand,
     })
+}
+
+/// Sorts the items and drops those that equal the one before.
+pub(crate) fn sort_without_doubles<T: Ord + Drop>(items: &mut Vec<T>)
+    ensures in_order { IsStrictlySortedBy T.cmp items.new.items }
+    ensures none_new { (x : T) → Contains items.new.items x → Contains items.old.items x }
+    ensures none_lost { (x : T) → Contains items.old.items x → Any (λ y. T.eq x y ≡ true) items.new.items }
+{
+    items.sort_unstable();
+    items.dedup();
 }

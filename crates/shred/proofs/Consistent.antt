@@ -1,14 +1,13 @@
 -- What every list of a builder's calls keeps.
-use Rattle.std.proofs.Common.{◌≡◌, ◌≢◌, ℕ, ◌<◌, ◌⊎◌, inl, inr, ⊎_elim, Bool, true, false, cond, List, [], ◌∷◌, Some, None, refl, sym, ◌∙◌, ap, subst, arith}
+use Rattle.std.proofs.Common.{◌≡◌, ◌≢◌, ℕ, ◌<◌, ◌+◌, ◌⊎◌, inl, inr, ⊎_elim, Bool, true, false, cond, List, [], ◌∷◌, Some, None, refl, sym, ◌∙◌, ap, subst, arith}
 use Rattle.std.proofs.lemmas.Slice.Eq.{bytes_eq-Decides}
 use Rattle.std.specs.Str.{bytes_eq}
 use Rattle.shred_model.specs.Plan.{Entry, Plan, entry_at}
 use Rattle.shred_model.specs.Record.{Agent}
 use Rattle.shred.specs.Added.{IsNewAt}
-use Rattle.shred.specs.Built.{Built, IsAddition, IsBarrierSet, IsConsistent, IsNewBuilt, IsSameBuilt}
+use Rattle.shred.specs.Built.{Built, IsConsistent}
 use Rattle.shred.specs.Earlier.{HasIdAt}
 use Rattle.shred.specs.Known.{Known, with_name}
-use Rattle.shred.specs.declared.system.RunningTime.{RunningTime}
 use Rattle.shred_world.specs.declared.id.ResourceId.{ResourceId}
 
 path-cases : (path place : List ℕ) → (path ≡ place) ⊎ (path ≢ place)
@@ -37,24 +36,37 @@ empty-stays : (known : Known) (name : List ℕ) (next : ℕ) → known [] ≡ No
 empty-stays known [] next e = e
 empty-stays known (b ∷ bs) next e = e
 
+other-stays : (known : Known) (name : List ℕ) (next : ℕ) (q : List ℕ) → bytes_eq name q ≡ false → with_name known name next q ≡ known q
+other-stays known [] next q is = refl
+other-stays known (b ∷ bs) next q is = ap (λ t. cond t (Some next) (known q)) is
+
+-- a new name was entered and taken away again
+pub known-again : (known entered left : Known) (name : List ℕ) (next : ℕ) → known name ≡ None → ((q : List ℕ) → entered q ≡ with_name known name next q) → ((q : List ℕ) → left q ≡ cond (bytes_eq name q) None (entered q)) → (q : List ℕ) → left q ≡ known q
+known-again known entered left name next is_new enters forgets q = forgets q ∙ told (bytes_eq name q) refl where
+  told : (t : Bool) → bytes_eq name q ≡ t → cond t None (entered q) ≡ known q
+  told true is = sym is_new ∙ ap known ((bytes_eq-Decides name q).0 is)
+  told false is = enters q ∙ other-stays known name next q is
+
 module _ {S : Type 0} where
-  pub new-consistent : (new : Built S) → IsNewBuilt new → IsConsistent new
-  new-consistent new is = record {
+  -- without a plan and without names
+  pub empty-consistent : (new : Built S) → new.plan ≡ [] → ((name : List ℕ) → new.known name ≡ None) → IsConsistent new
+  empty-consistent new empty unknown = record {
     below = λ place id there. absurd (nowhere place id there);
     one_place = λ place other id there here. absurd (nowhere place id there);
-    names_below = λ name id e. absurd (let f : Some id ≡ None = sym e ∙ is.known name in cc);
-    one_name = λ name other id e d. absurd (let f : Some id ≡ None = sym e ∙ is.known name in cc);
-    empty_unknown = is.known [];
+    names_below = λ name id e. absurd (let f : Some id ≡ None = sym e ∙ unknown name in cc);
+    one_name = λ name other id e d. absurd (let f : Some id ≡ None = sym e ∙ unknown name in cc);
+    empty_unknown = unknown [];
   } where
     nowhere-empty : (place : Agent) (found : Entry ResourceId) → entry_at [] place ≡ Some found → ⊥
     nowhere-empty [] found at = absurd (let f : None ≡ Some found = at in cc)
     nowhere-empty (k ∷ rest) found at = absurd (let f : None ≡ Some found = at in cc)
 
     nowhere : (place : Agent) (id : ℕ) → HasIdAt new.plan place id → ⊥
-    nowhere place id (found, at, same) = nowhere-empty place found (sym (ap (λ plan. entry_at plan place) is.plan) ∙ at)
+    nowhere place id (found, at, same) = nowhere-empty place found (sym (ap (λ plan. entry_at plan place) empty) ∙ at)
 
-  still : (old new : Built S) → new.plan ≡ old.plan → ((name : List ℕ) → new.known name ≡ old.known name) → new.next ≡ old.next → IsConsistent old → IsConsistent new
-  still old new plan known next before = record {
+  -- with the same plan, names and next id
+  pub still-consistent : (old new : Built S) → new.plan ≡ old.plan → ((name : List ℕ) → new.known name ≡ old.known name) → new.next ≡ old.next → IsConsistent old → IsConsistent new
+  still-consistent old new plan known next before = record {
     below = λ place id there. subst (λ n. id < n) (sym next) (before.below place id (stood place id there));
     one_place = λ place other id there here. before.one_place place other id (stood place id there) (stood other id here);
     names_below = λ name id e. subst (λ n. id < n) (sym next) (before.names_below name id (sym (known name) ∙ e));
@@ -64,34 +76,30 @@ module _ {S : Type 0} where
     stood : (place : Agent) (id : ℕ) → HasIdAt new.plan place id → HasIdAt old.plan place id
     stood place id there = subst (λ p. HasIdAt p place id) plan there
 
-  pub same-consistent : (old new : Built S) → IsSameBuilt old new → IsConsistent old → IsConsistent new
-  same-consistent old new is before = still old new is.plan is.known is.next before
-
-  pub barrier-consistent : (old new : Built S) → IsBarrierSet old new → IsConsistent old → IsConsistent new
-  barrier-consistent old new is before = still old new is.plan is.known is.next before
-
-  pub addition-consistent : (old new : Built S) (name : List ℕ) (dependencies : List (List ℕ)) (reads writes : List ResourceId) (time : RunningTime) (system : S) → IsAddition old new name dependencies reads writes time system → IsConsistent old → IsConsistent new
-  addition-consistent old new name dependencies reads writes time system is before = record {
-    below = λ place id there. below-next id (⊎_elim (λ here. inr (here.1 ∙ is.kept.same_id)) (λ stood. inl (before.below place id stood)) (cases place id there));
+  -- with one more entry of the next id, and its name
+  pub entered-consistent : (old new : Built S) (at : Agent) (entry : Entry ResourceId) (name : List ℕ) → entry.id ≡ old.next → IsNewAt at (entry_at old.plan) (entry_at new.plan) entry
+      → ((q : List ℕ) → new.known q ≡ with_name old.known name old.next q) → new.next ≡ old.next + 1 → IsConsistent old → IsConsistent new
+  entered-consistent old new at entry name same_id is_new enters next before = record {
+    below = λ place id there. below-next id (⊎_elim (λ here. inr (here.1 ∙ same_id)) (λ stood. inl (before.below place id stood)) (cases place id there));
     one_place = λ place other id there here. ⊎_elim
-        (λ p. ⊎_elim (λ q. p.0 ∙ sym q.0) (λ stood. absurd (not-both id (p.1 ∙ is.kept.same_id) (before.below other id stood))) (cases other id here))
-        (λ stands. ⊎_elim (λ q. absurd (not-both id (q.1 ∙ is.kept.same_id) (before.below place id stands))) (λ stood. before.one_place place other id stands stood) (cases other id here))
+        (λ p. ⊎_elim (λ q. p.0 ∙ sym q.0) (λ stood. absurd (not-both id (p.1 ∙ same_id) (before.below other id stood))) (cases other id here))
+        (λ stands. ⊎_elim (λ q. absurd (not-both id (q.1 ∙ same_id) (before.below place id stands))) (λ stood. before.one_place place other id stands stood) (cases other id here))
         (cases place id there);
     names_below = λ q id e. below-next id (⊎_elim (λ here. inr here.1) (λ stood. inl (before.names_below q id stood)) (names q id e));
     one_name = λ q r id e d. ⊎_elim
         (λ p. ⊎_elim (λ s. sym p.0 ∙ s.0) (λ stood. absurd (not-both id p.1 (before.names_below r id stood))) (names r id d))
         (λ stands. ⊎_elim (λ s. absurd (not-both id s.1 (before.names_below q id stands))) (λ stood. before.one_name q r id stands stood) (names r id d))
         (names q id e);
-    empty_unknown = is.known [] ∙ empty-stays old.known name old.next before.empty_unknown;
+    empty_unknown = enters [] ∙ empty-stays old.known name old.next before.empty_unknown;
   } where
-    cases : (place : Agent) (id : ℕ) → HasIdAt new.plan place id → ((place ≡ is.added.place) × (id ≡ is.entry.id)) ⊎ HasIdAt old.plan place id
-    cases place id there = placed-cases old.plan new.plan is.added.place is.entry is.added.entry_is_new place id there
+    cases : (place : Agent) (id : ℕ) → HasIdAt new.plan place id → ((place ≡ at) × (id ≡ entry.id)) ⊎ HasIdAt old.plan place id
+    cases place id there = placed-cases old.plan new.plan at entry is_new place id there
 
     names : (q : List ℕ) (id : ℕ) → new.known q ≡ Some id → ((name ≡ q) × (id ≡ old.next)) ⊎ (old.known q ≡ Some id)
-    names q id e = known-cases old.known name old.next q id (sym (is.known q) ∙ e)
+    names q id e = known-cases old.known name old.next q id (sym (enters q) ∙ e)
 
     below-next : (id : ℕ) → (id < old.next) ⊎ (id ≡ old.next) → id < new.next
-    below-next id h = ⊎_elim (λ lt. omega (arith, lt, is.next)) (λ e. omega (arith, e, is.next)) h
+    below-next id h = ⊎_elim (λ lt. omega (arith, lt, next)) (λ e. omega (arith, e, next)) h
 
     not-both : (id : ℕ) → id ≡ old.next → id < old.next → ⊥
     not-both id e lt = omega (arith, e, lt)

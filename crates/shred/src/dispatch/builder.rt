@@ -1,12 +1,12 @@
 //! The builder of dispatchers.
 ghost use Rattle.std.specs.HashMap.{IsUnique};
-ghost use Rattle.std.specs.Prelude.{◌≡◌, ◌++◌, ℕ, List, Some, true, IfOk, OnOk, OnErr, IfErr};
+ghost use Rattle.std.specs.Prelude.{◌≡◌, ◌++◌, ℕ, List, [], None, Some, true, IfOk, OnOk, OnErr, IfErr};
 ghost use Rattle.std.specs.String.{string_eq};
 ghost use Rattle.std.proofs.Props.{props};
 ghost use Rattle.shred_model.specs.Plan.{plan_ids};
 ghost use Rattle.shred_model.specs.Record.{Agent};
-ghost use Rattle.shred.specs.BuilderPlan.{planned};
-ghost use Rattle.shred.specs.Built.{IsAddition, IsBarrierSet, IsNewBuilt, IsRefusal, IsSameBuilt, MayAdd};
+ghost use Rattle.shred.specs.BuilderPlan.{planned, barrier_of, builder_states};
+ghost use Rattle.shred.specs.Built.{IsAddition, IsBarrierSet, IsConsistent, IsNewBuilt, IsRefusal, IsSameBuilt, MayAdd};
 ghost use Rattle.shred.specs.Dispatchers.{dispatcher_plan, dispatcher_states};
 ghost use Rattle.shred.specs.Earlier.{plan_has};
 ghost use Rattle.shred.specs.Known.{texts_of};
@@ -38,6 +38,7 @@ pub struct DispatcherBuilder<V: ResourceValue, S: System<V>> {
     next: usize,
     ghost distinct_names: { IsUnique string_eq names } by { Prim.hlevel props },
     ghost known_planned: { (name : List ℕ) (id : ℕ) → names_of names name ≡ Some id → plan_has (planned stages) id ≡ true },
+    ghost consistent: { IsConsistent (record { plan = planned stages; states = builder_states stages; known = names_of names; barrier = barrier_of stages; next = next }) },
 }
 
 impl<V: ResourceValue, S: System<V>> DispatcherBuilder<V, S> {
@@ -47,11 +48,22 @@ impl<V: ResourceValue, S: System<V>> DispatcherBuilder<V, S> {
     pub fn new(alloc: Global) -> Self
         ensures { IsNewBuilt (built result) }
     {
+        Self::empty(alloc, 0)
+    }
+
+    // An empty plan, without names, that gives this id next.
+    fn empty(alloc: Global, next: usize) -> Self
+        ensures plan { (built result).plan ≡ [] }
+        ensures states { (path : Agent) → (built result).states path ≡ None }
+        ensures known { (name : List ℕ) → (built result).known name ≡ None }
+        ensures barrier { (built result).barrier ≡ 0 }
+        ensures next { (built result).next ≡ next }
+    {
         DispatcherBuilder {
             alloc,
             stages: StagesBuilder::new(alloc),
             names: HashMap::new(alloc),
-            next: 0,
+            next,
         }
     }
 
@@ -89,6 +101,7 @@ impl<V: ResourceValue, S: System<V>> DispatcherBuilder<V, S> {
         ensures printed { let plan = (built self.now).plan in let pairs = builder_pairs self.now in
             IsPrinted W.told W.failures sink.old sink.new (first_unnamed pairs (plan_ids plan)) (plan_text pairs plan ++ line_feed) result }
         ensures names { AreNames (builder_pairs self.now) (built self.now).known }
+        ensures consistent { IsConsistent (built self.now) }
     {
         self.stages.print(sink, &self.names, b"\n")
     }
@@ -100,6 +113,7 @@ impl<V: ResourceValue, S: System<V>> DispatcherBuilder<V, S> {
         S: Drop,
         ensures plan { dispatcher_plan result ≡ (built self).plan }
         ensures states { (path : Agent) → dispatcher_states result path ≡ (built self).states path }
+        ensures consistent { IsConsistent (built self) }
     {
         new_dispatcher(self.stages.build())
     }

@@ -5,11 +5,9 @@ ghost use Rattle.shred.specs.declared.system.RunningTime.TheVariants.{Short};
 use crate::dispatch::add_error::AddError;
 use crate::dispatch::builder::DispatcherBuilder;
 use crate::dispatch::entry::SystemId;
-use crate::dispatch::stages_builder::StagesBuilder;
 use crate::system::{Fault, RunningTime, System};
 use shred_world::{Kind, OutOfMemory, ResourceValue, View, World};
 use std::alloc::Global;
-use std::collections::HashMap;
 use std::test::Fail;
 
 /// What no world holds.
@@ -66,19 +64,10 @@ impl System<Nothing> for Idle {
     }
 }
 
-fn builder_at(alloc: Global, next: usize) -> DispatcherBuilder<Nothing, Idle> {
-    DispatcherBuilder {
-        alloc,
-        stages: StagesBuilder::new(alloc),
-        names: HashMap::new(alloc),
-        next,
-    }
-}
-
 #[test]
 fn the_greatest_id_is_never_given(rt: HostRuntime) -> Result<(), Fail> {
     let alloc = rt.alloc();
-    let mut builder = builder_at(alloc, usize::MAX);
+    let mut builder: DispatcherBuilder<Nothing, Idle> = DispatcherBuilder::empty(alloc, usize::MAX);
     let refused = builder.add(Idle, "a", &[]);
     assert_eq!(rt; refused, Err(AddError::IdsExhausted));
     assert_eq!(rt; builder.next, usize::MAX);
@@ -91,7 +80,7 @@ fn the_greatest_id_is_never_given(rt: HostRuntime) -> Result<(), Fail> {
 fn the_last_id_is_given(rt: HostRuntime) -> Result<(), Fail> {
     let alloc = rt.alloc();
     let last = usize::MAX - 1;
-    let mut builder = builder_at(alloc, last);
+    let mut builder: DispatcherBuilder<Nothing, Idle> = DispatcherBuilder::empty(alloc, last);
     let added = builder.add(Idle, "a", &[]);
     assert_eq!(rt; added, Ok(SystemId(last)));
     let unknown = builder.add(Idle, "a", &["b"]);

@@ -1,10 +1,11 @@
-use Rattle.std.proofs.Common.{◌≡◌, ◌∙◌, ap, refl, subst}
+use Rattle.std.proofs.Common.{◌≡◌, ◌∙◌, ap, refl, subst, sym}
 use Rattle.shred.specs.BuilderPlan.{planned, barrier_of}
 use Rattle.shred.specs.Earlier.{ComesAfter}
 use Rattle.shred.specs.Known.{ids_of, texts_of}
 use Rattle.shred.specs.Names.{names_of}
 use Rattle.shred.specs.Placement.{IsPlaced}
 use Rattle.shred.specs.PlanOf.{numbers_of}
+use Rattle.shred.proofs.Consistent.{entered-consistent, known-again, still-consistent}
 use Rattle.shred.proofs.Standing.{known-still, stands-after_all}
 use Rattle.shred.proofs.dispatch.builder.DispatcherBuilder.accept.Goals as goal
 
@@ -28,4 +29,17 @@ returns-clause-added g c =
 pub invariant_of-self-2 : goal.invariant_of-self-2
 invariant_of-self-2 g c =
     let (entry, kept, placed, added, from_barrier, after) = c.in_default-insert.ensures.placed in
-    record { distinct_names = c.enter.ensures.distinct c.args.self.now.distinct_names; known_planned = known-still (planned c.args.self.now.stages) (planned c.insert.new.self) added.place entry (names_of c.args.self.now.names) (names_of c.enter.new.names) c.args.name.now c.args.self.now.next kept.same_id added.entry_is_new c.in_default.ensures.ok c.args.self.now.known_planned }
+    record {
+      distinct_names = c.enter.ensures.distinct c.args.self.now.distinct_names;
+      known_planned = known-still (planned c.args.self.now.stages) (planned c.insert.new.self) added.place entry (names_of c.args.self.now.names) (names_of c.enter.new.names) c.args.name.now c.args.self.now.next kept.same_id added.entry_is_new c.in_default.ensures.ok c.args.self.now.known_planned;
+      consistent = entered-consistent _ _ added.place entry c.args.name.now kept.same_id added.entry_is_new c.in_default.ensures.ok refl c.args.self.now.consistent;
+    }
+
+pub invariant_of-self-in-Err-insert : goal.invariant_of-self-in-Err-insert
+invariant_of-self-in-Err-insert g c =
+    let same = known-again (names_of c.args.self.now.names) (names_of c.enter.new.names) (names_of c.forget.new.names) c.args.name.now c.args.self.now.next c.requires.is_new c.in_default.ensures.ok c.forget.ensures.forgotten in
+    record {
+      distinct_names = c.forget.ensures.distinct;
+      known_planned = λ name id e. rw c.in-Err-insert.ensures.err (c.args.self.now.known_planned name id (sym (same name) ∙ e));
+      consistent = still-consistent _ _ c.in-Err-insert.ensures.err same refl c.args.self.now.consistent;
+    }

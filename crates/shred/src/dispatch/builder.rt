@@ -136,9 +136,7 @@ impl<V: ResourceValue, S: System<V>> DispatcherBuilder<V, S> {
         ensures refused { IfErr result (IsRefusal (built self.old).known (built self.old).next name.now (texts_of dependencies.now)) }
         ensures unchanged { OnErr result (IsSameBuilt (built self.old) (built self.new)) }
     {
-        if let Err(e) = self.may_add(name, dependencies) {
-            return Err(e);
-        }
+        self.may_add(name, dependencies)?;
         match self.accept(system, name, dependencies) {
             Ok(id) => Ok(id),
             Err(_) => Err(AddError::OutOfMemory),

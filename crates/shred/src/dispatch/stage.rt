@@ -160,9 +160,7 @@ impl<V: ResourceValue, S: System<V>> Stage<V, S> {
         ensures { OnOk result (ids.new.items ≡ ids.old.items ++ stage_side side (stage_plan self.now)) }
     {
         for group in &self.groups {
-            if let Err(e) = group.append_to(side, ids) {
-                return Err(e);
-            }
+            group.append_to(side, ids)?;
         }
         Ok(())
     }

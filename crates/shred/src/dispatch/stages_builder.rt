@@ -179,9 +179,7 @@ impl<V: ResourceValue, S: System<V>> StagesBuilder<V, S> {
         ensures { OnOk result (ids.new.items ≡ ids.old.items ++ flat_map (stage_side side) (planned self.now)) }
     {
         for place in 0..self.stages.len() {
-            if let Err(e) = self.stages[place].append_to(side, ids) {
-                return Err(e);
-            }
+            self.stages[place].append_to(side, ids)?;
         }
         Ok(())
     }
@@ -311,22 +309,10 @@ fn kept_entry<V: ResourceValue + Drop, S: System<V> + Drop>(
     ensures own_lists { IfOk result (IsOwnEntry S.reads S.writes) }
 {
     let time = system.running_time();
-    let accessor = match system.accessor(alloc) {
-        Ok(accessor) => accessor,
-        Err(e) => return Err(e),
-    };
-    let mut reads = match accessor.reads(alloc) {
-        Ok(reads) => reads,
-        Err(e) => return Err(e),
-    };
-    let writes = match accessor.writes(alloc) {
-        Ok(writes) => writes,
-        Err(e) => return Err(e),
-    };
-    let hand = match empty_hand(alloc, writes.as_slice()) {
-        Ok(hand) => hand,
-        Err(e) => return Err(e),
-    };
+    let accessor = system.accessor(alloc)?;
+    let mut reads = accessor.reads(alloc)?;
+    let writes = accessor.writes(alloc)?;
+    let hand = empty_hand(alloc, writes.as_slice())?;
     sort_without_doubles(&mut reads);
     Ok(Entry {
         id,

@@ -1,5 +1,4 @@
 pub mod KeptIds
 pub mod GivenBack
 pub mod Turned
-pub mod SameViews
 mod BothHands

@@ -6,7 +6,7 @@ ghost use Rattle.shredtest.specs.Adding.{HasTurned};
 ghost use Rattle.shredtest.specs.Values.{kind_of};
 
 use crate::values::{Count, Value};
-use shred::{ResourceId, View, ViewWork};
+use shred_world::{ResourceId, View, ViewWork};
 
 /// Adds what is read under one id to a count of each part: of the first part under one id, of the next under another,
 /// and so on, in a ring of three.

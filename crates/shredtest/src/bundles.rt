@@ -1,9 +1,8 @@
 //! Bundles that are taken of views and given back.
 use crate::values::{Count, Flag, Name, Value};
-use shred::{
+use shred_world::{
     DataError, Kind, Read, ReadExpect, ResourceId, SystemData, View, World, Write, WriteExpect,
 };
-use std::marker::PhantomData;
 use std::test::Fail;
 
 const X: Kind = Kind(0);
@@ -99,6 +98,22 @@ fn a_written_id_goes_out_once(rt: HostRuntime) -> Result<(), Fail> {
 }
 
 #[test]
+fn the_first_part_that_fails_is_told(rt: HostRuntime) -> Result<(), Fail> {
+    let mut world: World<Value> = World::empty(rt.alloc());
+    let writes = [id(Y)];
+    let mut view = world.lend(&[], &writes);
+    assert_eq!(rt;
+        refusal::<(WriteExpect<Name>, Read<Flag>)>(&mut view),
+        Some(DataError::Missing(id(Y)))
+    );
+    assert_eq!(rt;
+        refusal::<(Read<Flag>, WriteExpect<Name>)>(&mut view),
+        Some(DataError::Undeclared(id(Z)))
+    );
+    Ok(())
+}
+
+#[test]
 fn what_is_written_in_a_bundle_is_given_back(rt: HostRuntime) -> Result<(), Fail> {
     let mut world: World<Value> = World::empty(rt.alloc());
     world.insert(Count(1)).map_err(|_| "memory")?;
@@ -122,16 +137,6 @@ fn what_is_written_in_a_bundle_is_given_back(rt: HostRuntime) -> Result<(), Fail
 }
 
 #[test]
-fn the_lists_of_a_tuple_are_those_of_its_parts(rt: HostRuntime) -> Result<(), Fail> {
-    type Parts<'s> = (Read<'s, Count>, Write<Flag>, Option<Read<'s, Count>>);
-    let reads = <Parts as SystemData<Value>>::reads(rt.alloc()).map_err(|_| "memory")?;
-    let writes = <Parts as SystemData<Value>>::writes(rt.alloc()).map_err(|_| "memory")?;
-    assert_eq!(rt; reads.as_slice(), [id(X), id(X)].as_slice());
-    assert_eq!(rt; writes.as_slice(), [id(Z)].as_slice());
-    Ok(())
-}
-
-#[test]
 fn what_is_declared_and_held_is_shown(rt: HostRuntime) -> Result<(), Fail> {
     let mut world: World<Value> = World::empty(rt.alloc());
     world.insert(Count(5)).map_err(|_| "memory")?;
@@ -151,24 +156,7 @@ fn what_is_declared_and_held_is_shown(rt: HostRuntime) -> Result<(), Fail> {
         .map_err(|_| "refused")?;
     assert!(rt; absent.is_none());
     view.give_back(absent);
-    let of_nothing = view
-        .system_data::<((), PhantomData<Flag>)>()
-        .map_err(|_| "refused")?;
-    view.give_back(of_nothing);
     assert_eq!(rt; view.read::<Count>(id(X)).copied(), Ok(Count(5)));
-    Ok(())
-}
-
-#[test]
-fn an_option_is_none_where_nothing_is_held(rt: HostRuntime) -> Result<(), Fail> {
-    let mut world: World<Value> = World::empty(rt.alloc());
-    let reads = [id(X)];
-    let mut view = world.lend(&reads, &[]);
-    let absent = view
-        .system_data::<Option<Read<Count>>>()
-        .map_err(|_| "refused")?;
-    assert!(rt; absent.is_none());
-    view.give_back(absent);
     Ok(())
 }
 

@@ -8,7 +8,7 @@ ghost use Rattle.shredtest.specs.Values.{count_kind};
 ghost use Rattle.shredtest.specs.declared.values.Value.TheVariants.{Count as counted};
 
 use crate::values::{Count, Value};
-use shred::{
+use shred_world::{
     Accessor, DataError, DynamicSystemData, OutOfMemory, ResourceId, View, World, WorldError,
     WriteExpect,
 };

@@ -1,8 +1,5 @@
-//! The errors as std's `Error`, and their texts.
-use shred::{
-    AddError, DataError, DispatchError, Fault, Kind, OutOfMemory, PrintError, ReplaceError,
-    SinkFailed, StageFault, SystemId, WorldError,
-};
+//! The errors of a world as std's `Error`, and their texts.
+use shred_world::{DataError, Kind, OutOfMemory, ReplaceError, WorldError};
 use std::alloc::{AllocError, Global};
 use std::error::Error;
 use std::process::Abort;
@@ -51,29 +48,4 @@ fn errors_of_a_world_have_texts(rt: HostRuntime) -> Result<(), Fail> {
         },
         "the value is of Kind(1), and the id of Kind(0)",
     )
-}
-
-#[test]
-fn errors_of_a_plan_have_texts(rt: HostRuntime) -> Result<(), Fail> {
-    let alloc = rt.alloc();
-    expect_text(
-        &rt,
-        alloc,
-        &AddError::NoSuchSystem { place: 3 },
-        "no such system at 3",
-    )?;
-    expect_text(
-        &rt,
-        alloc,
-        &PrintError::Unnamed(SystemId(4)),
-        "unnamed system 4",
-    )?;
-    expect_text(&rt, alloc, &SinkFailed, "the sink failed")?;
-    let fault: Fault<DataError> = Fault::Refused(DataError::OutOfMemory);
-    expect_text(&rt, alloc, &fault, "refused: out of memory")?;
-    let id = SystemId(2);
-    let staged = StageFault::System { id, fault };
-    expect_text(&rt, alloc, &staged, "system 2: refused: out of memory")?;
-    let memory: DispatchError<DataError> = DispatchError::StageMemory { stage: 1 };
-    expect_text(&rt, alloc, &memory, "stage 1: out of memory")
 }

@@ -8,7 +8,7 @@ ghost use Rattle.shredtest.specs.Values.{kind_of, count_kind};
 ghost use Rattle.shredtest.specs.declared.values.Value.TheVariants.{Count as counted};
 
 use crate::values::{Count, Value};
-use shred::{DataError, ResourceValue, SystemData, World, WriteExpect};
+use shred_world::{DataError, ResourceValue, SystemData, World, WriteExpect};
 
 /// Sets the count, in a bundle that is taken on the world.
 pub fn set_lent_count(world: &mut World<Value>, count: Count) -> Result<(), DataError>

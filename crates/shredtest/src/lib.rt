@@ -13,8 +13,6 @@ mod error_tests;
 mod exec_tests;
 pub mod lent_calls;
 #[cfg(test)]
-mod own_bundle;
-#[cfg(test)]
 mod parted_calls;
 #[cfg(test)]
 mod parted_in_two;
@@ -22,8 +20,6 @@ mod parted_in_two;
 mod parted_tests;
 #[cfg(test)]
 mod parted_threads;
-#[cfg(test)]
-mod shared_reads;
 #[cfg(test)]
 mod tuples;
 pub mod values;

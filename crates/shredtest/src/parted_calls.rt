@@ -12,7 +12,7 @@ ghost use Rattle.shredtest.specs.Values.{kind_of};
 use crate::adding::Adding;
 use crate::parted_in_two::{OverTwo, TwoCounts, TwoOut, over_parts};
 use crate::values::{Count, Value};
-use shred::{Behind, OutOfMemory, ResourceId, Table, View, World};
+use shred_world::{Behind, OutOfMemory, ResourceId, Table, View, World};
 use std::alloc::Global;
 
 // Exchanges the counts that two views may write, if both are held.

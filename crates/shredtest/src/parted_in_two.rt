@@ -11,7 +11,7 @@ ghost use Rattle.shred_world.specs.Worked.{KeepsHeldIds};
 ghost use Rattle.shredtest.specs.Values.{kind_of};
 
 use crate::values::{Count, Value};
-use shred::{Behind, DataError, OutOfMemory, ResourceId, Table, View};
+use shred_world::{Behind, DataError, OutOfMemory, ResourceId, Table, View};
 use std::alloc::Global;
 
 /// What is done over the hands of two parts. It gives back what it took out of them, and they hold the same ids after.

@@ -7,7 +7,7 @@ use crate::adding::Adding;
 use crate::parted_calls::{Exchanged, exchange_over_parts, work_over_none, work_over_three};
 use crate::parted_threads::add_beside;
 use crate::values::{Count, Value};
-use shred::{Kind, ResourceId, World};
+use shred_world::{Kind, ResourceId, World};
 use std::test::Fail;
 
 fn number(dynamic_id: u64) -> ResourceId

@@ -10,7 +10,7 @@ ghost use Rattle.shredtest.specs.Values.{kind_of, count_kind};
 use crate::adding::add;
 use crate::parted_in_two::{OverTwo, TwoCounts, TwoOut, over_parts};
 use crate::values::Value;
-use shred::{Behind, Kind, OutOfMemory, ResourceId, Table, World};
+use shred_world::{Behind, Kind, OutOfMemory, ResourceId, Table, World};
 use std::alloc::Global;
 use std::thread::{Threads, join_mut};
 

@@ -1,38 +1,17 @@
-//! Bundles of bundles, of no part and of up to eight.
+//! Bundles of no part and of one to eight, each taken once.
+use crate::lent_calls::take_and_give_back;
 use crate::values::{Count, Flag, Name, Value};
-use shred::{
-    DataError, Kind, Read, ReadExpect, ResourceId, SystemData, View, World, Write, WriteExpect,
-};
+use shred_world::{Kind, Read, ReadExpect, ResourceId, SystemData, World, Write, WriteExpect};
 use std::alloc::Global;
 use std::marker::PhantomData;
 use std::process::Abort;
 use std::test::Fail;
 
-type Three<'s> = (Read<'s, Flag>, Write<Count>, Option<ReadExpect<'s, Name>>);
-
-type Four<'s> = (Three<'s>, (), Read<'s, Count>, Write<Flag>);
-
-type Five<'s> = (
-    Read<'s, Count>,
-    (),
-    Three<'s>,
-    WriteExpect<Name>,
-    Read<'s, Flag>,
-);
-
-type Six<'s> = (
-    Write<Flag>,
-    Write<Count>,
-    (),
-    Three<'s>,
-    Read<'s, Count>,
-    Read<'s, Flag>,
-);
-
 fn id(kind: u32) -> ResourceId {
     ResourceId::from_type_id(Kind(kind))
 }
 
+/// The bundle has these lists.
 fn expect_lists<'s, D: SystemData<'s, Value>>(
     rt: &impl Abort,
     alloc: Global,
@@ -46,6 +25,22 @@ fn expect_lists<'s, D: SystemData<'s, Value>>(
     Ok(())
 }
 
+/// The bundle has these lists, and is taken and given back on a world that holds a name and that it set up.
+fn expect<'s, D: SystemData<'s, Value>>(
+    rt: &impl Abort,
+    alloc: Global,
+    reads: &[ResourceId],
+    writes: &[ResourceId],
+) -> Result<(), Fail> {
+    expect_lists::<D>(rt, alloc, reads, writes)?;
+    let mut world: World<Value> = World::empty(alloc);
+    world.insert(Name(2)).map_err(|_| "memory")?;
+    world.setup::<D>().map_err(|_| "memory")?;
+    assert_eq!(rt; take_and_give_back::<Value, D>(&mut world), Ok(()));
+    assert_eq!(rt; world.remove::<Name>(), Some(Name(2)));
+    Ok(())
+}
+
 #[test]
 fn lists_of_single_parts(rt: HostRuntime) -> Result<(), Fail> {
     let alloc = rt.alloc();
@@ -55,170 +50,92 @@ fn lists_of_single_parts(rt: HostRuntime) -> Result<(), Fail> {
     expect_lists::<Option<Read<Count>>>(&rt, alloc, &[x], &[])?;
     expect_lists::<Option<Write<Flag>>>(&rt, alloc, &[], &[z])?;
     expect_lists::<()>(&rt, alloc, &[], &[])?;
-    expect_lists::<PhantomData<Count>>(&rt, alloc, &[], &[])?;
-    expect_lists::<(Write<Flag>,)>(&rt, alloc, &[], &[z])
+    expect_lists::<PhantomData<Count>>(&rt, alloc, &[], &[])
 }
 
 #[test]
-fn lists_are_joined_in_order(rt: HostRuntime) -> Result<(), Fail> {
-    type Seven<'s> = (
-        Four<'s>,
-        Write<Count>,
-        (),
-        Read<'s, Count>,
-        (),
-        Read<'s, Flag>,
-        Write<Flag>,
-    );
-    type Eight<'s> = (
-        Five<'s>,
-        Write<Flag>,
-        (),
-        Read<'s, Count>,
-        (),
-        Write<Count>,
-        (),
-        Read<'s, Flag>,
-    );
+fn bundles_of_one_and_two(rt: HostRuntime) -> Result<(), Fail> {
     let alloc = rt.alloc();
-    let (x, y, z) = (id(0), id(1), id(2));
-    expect_lists::<Three>(&rt, alloc, &[z, y], &[x])?;
-    expect_lists::<Four>(&rt, alloc, &[z, y, x], &[x, z])?;
-    expect_lists::<Five>(&rt, alloc, &[x, z, y, z], &[x, y])?;
-    expect_lists::<Six>(&rt, alloc, &[z, y, x, z], &[z, x, x])?;
-    expect_lists::<Seven>(&rt, alloc, &[z, y, x, x, z], &[x, z, x, z])?;
-    expect_lists::<Eight>(&rt, alloc, &[x, z, y, z, x, z], &[x, y, z, x])
-}
-
-// A world that holds one resource of each kind.
-fn full_world(rt: &HostRuntime) -> Result<World<Value>, Fail> {
-    let mut world: World<Value> = World::empty(rt.alloc());
-    world.insert(Count(1)).map_err(|_| "memory")?;
-    world.insert(Name(2)).map_err(|_| "memory")?;
-    world.insert(Flag(true)).map_err(|_| "memory")?;
-    Ok(world)
-}
-
-// What the bundle is refused for; one that is not refused is given back.
-fn refusal<'s, D: SystemData<'s, Value>>(view: &mut View<'s, '_, Value>) -> Option<DataError> {
-    match view.system_data::<D>() {
-        Ok(bundle) => {
-            view.give_back(bundle);
-            None
-        }
-        Err(error) => Some(error),
-    }
+    let (y, z) = (id(1), id(2));
+    expect::<(Write<Flag>,)>(&rt, alloc, &[], &[z])?;
+    expect::<(Read<Flag>, WriteExpect<Name>)>(&rt, alloc, &[z], &[y])
 }
 
 #[test]
-fn the_first_part_that_fails_is_told(rt: HostRuntime) -> Result<(), Fail> {
-    type C = WriteExpect<Count>;
-    type N = WriteExpect<Name>;
-    type F = WriteExpect<Flag>;
-    let mut world = full_world(&rt)?;
+fn the_lists_of_a_bundle_are_those_of_its_parts(rt: HostRuntime) -> Result<(), Fail> {
+    type Three<'s> = (Read<'s, Count>, Write<Flag>, Option<Read<'s, Count>>);
+    let (x, z) = (id(0), id(2));
+    expect_lists::<Three>(&rt, rt.alloc(), &[x, x], &[z])
+}
+
+#[test]
+fn a_bundle_of_three(rt: HostRuntime) -> Result<(), Fail> {
+    type Three<'s> = (Read<'s, Flag>, Write<Count>, Option<ReadExpect<'s, Name>>);
     let (x, y, z) = (id(0), id(1), id(2));
-    let ids = [x, y];
-    let undeclared = Some(DataError::Undeclared(z));
-    let taken = Some(DataError::Taken(x));
-    let mut view = world.lend(&[], &ids);
-    assert_eq!(rt; refusal::<(C,)>(&mut view), None);
-    assert_eq!(rt; refusal::<(F,)>(&mut view), undeclared);
-    assert_eq!(rt; refusal::<(C, N, C, F)>(&mut view), taken);
-    assert_eq!(rt; refusal::<(C, N, F, C)>(&mut view), undeclared);
-    assert_eq!(rt; refusal::<(C, N, (), C, F)>(&mut view), taken);
-    assert_eq!(rt; refusal::<(C, N, (), F, C)>(&mut view), undeclared);
-    assert_eq!(rt; refusal::<(C, N, (), (), C, F)>(&mut view), taken);
-    assert_eq!(rt; refusal::<(C, N, (), (), F, C)>(&mut view), undeclared);
-    assert_eq!(rt; refusal::<(C, N, (), (), (), C, F)>(&mut view), taken);
-    assert_eq!(rt; refusal::<(C, N, (), (), (), F, C)>(&mut view), undeclared);
-    assert_eq!(rt; refusal::<(C, N, (), (), (), (), C, F)>(&mut view), taken);
-    assert_eq!(rt;
-        refusal::<(C, N, (), (), (), (), F, C)>(&mut view),
-        undeclared
+    expect::<Three>(&rt, rt.alloc(), &[z, y], &[x])
+}
+
+#[test]
+fn a_bundle_of_four(rt: HostRuntime) -> Result<(), Fail> {
+    type Four<'s> = (WriteExpect<Name>, (), Read<'s, Count>, Write<Flag>);
+    let (x, y, z) = (id(0), id(1), id(2));
+    expect::<Four>(&rt, rt.alloc(), &[x], &[y, z])
+}
+
+#[test]
+fn a_bundle_of_five(rt: HostRuntime) -> Result<(), Fail> {
+    type Five<'s> = (
+        Write<Flag>,
+        PhantomData<Name>,
+        ReadExpect<'s, Name>,
+        (),
+        Write<Count>,
     );
-    assert_eq!(rt; view.read::<Count>(x).copied(), Ok(Count(1)));
-    assert_eq!(rt; view.read::<Name>(y).copied(), Ok(Name(2)));
-    Ok(())
-}
-
-type C = Write<Count>;
-
-type N = WriteExpect<Name>;
-
-type F<'s> = Read<'s, Flag>;
-
-/// A count, a name and a flag.
-type Found = Option<(i64, u8, bool)>;
-
-fn found_in_three<'s>(view: &mut View<'s, '_, Value>) -> Found {
-    let bundle = view.system_data::<(C, F<'s>, N)>().ok()?;
-    let found = (bundle.0.0, bundle.2.0, bundle.1.0);
-    view.give_back(bundle);
-    Some(found)
-}
-
-fn found_in_four<'s>(view: &mut View<'s, '_, Value>) -> Found {
-    let bundle = view.system_data::<(C, (), F<'s>, N)>().ok()?;
-    let found = (bundle.0.0, bundle.3.0, bundle.2.0);
-    view.give_back(bundle);
-    Some(found)
-}
-
-fn found_in_five<'s>(view: &mut View<'s, '_, Value>) -> Found {
-    let bundle = view.system_data::<((), N, F<'s>, (), C)>().ok()?;
-    let found = (bundle.4.0, bundle.1.0, bundle.2.0);
-    view.give_back(bundle);
-    Some(found)
-}
-
-fn found_in_six<'s>(view: &mut View<'s, '_, Value>) -> Found {
-    let bundle = view.system_data::<(F<'s>, (), N, (), (), C)>().ok()?;
-    let found = (bundle.5.0, bundle.2.0, bundle.0.0);
-    view.give_back(bundle);
-    Some(found)
-}
-
-fn found_in_seven<'s>(view: &mut View<'s, '_, Value>) -> Found {
-    let bundle = view.system_data::<((), C, (), (), N, (), F<'s>)>().ok()?;
-    let found = (bundle.1.0, bundle.4.0, bundle.6.0);
-    view.give_back(bundle);
-    Some(found)
-}
-
-fn found_in_eight<'s>(view: &mut View<'s, '_, Value>) -> Found {
-    let bundle = view
-        .system_data::<(N, (), (), F<'s>, (), (), (), C)>()
-        .ok()?;
-    let found = (bundle.7.0, bundle.0.0, bundle.3.0);
-    view.give_back(bundle);
-    Some(found)
+    let (x, y, z) = (id(0), id(1), id(2));
+    expect::<Five>(&rt, rt.alloc(), &[y], &[z, x])
 }
 
 #[test]
-fn every_part_shows_what_is_held(rt: HostRuntime) -> Result<(), Fail> {
-    let mut world = full_world(&rt)?;
-    let reads = [id(2)];
-    let writes = [id(0), id(1)];
-    let mut view = world.lend(&reads, &writes);
-    assert_eq!(rt; found_in_three(&mut view), Some((1, 2, true)));
-    assert_eq!(rt; found_in_four(&mut view), Some((1, 2, true)));
-    assert_eq!(rt; found_in_five(&mut view), Some((1, 2, true)));
-    assert_eq!(rt; found_in_six(&mut view), Some((1, 2, true)));
-    assert_eq!(rt; found_in_seven(&mut view), Some((1, 2, true)));
-    assert_eq!(rt; found_in_eight(&mut view), Some((1, 2, true)));
-    assert_eq!(rt; view.read::<Name>(id(1)).copied(), Ok(Name(2)));
-    Ok(())
+fn a_bundle_of_six(rt: HostRuntime) -> Result<(), Fail> {
+    type Six<'s> = (
+        Read<'s, Flag>,
+        (),
+        (),
+        Read<'s, Count>,
+        (),
+        WriteExpect<Name>,
+    );
+    let (x, y, z) = (id(0), id(1), id(2));
+    expect::<Six>(&rt, rt.alloc(), &[z, x], &[y])
 }
 
 #[test]
-fn the_first_part_and_the_last_are_set_up(rt: HostRuntime) -> Result<(), Fail> {
-    type One<'s> = (Read<'s, Count>,);
-    type Eight<'s> = (Write<Flag>, (), (), (), (), (), (), Read<'s, Count>);
-    let mut world: World<Value> = World::empty(rt.alloc());
-    assert_eq!(rt; world.setup::<One>(), Ok(()));
-    assert_eq!(rt; world.remove::<Count>(), Some(Count(0)));
-    assert_eq!(rt; world.setup::<Eight>(), Ok(()));
-    assert_eq!(rt; world.remove::<Count>(), Some(Count(0)));
-    assert_eq!(rt; world.remove::<Flag>(), Some(Flag(false)));
-    Ok(())
+fn a_bundle_of_seven(rt: HostRuntime) -> Result<(), Fail> {
+    type Seven<'s> = (
+        (),
+        Write<Count>,
+        (),
+        (),
+        Read<'s, Flag>,
+        (),
+        ReadExpect<'s, Name>,
+    );
+    let (x, y, z) = (id(0), id(1), id(2));
+    expect::<Seven>(&rt, rt.alloc(), &[z, y], &[x])
+}
+
+#[test]
+fn a_bundle_of_eight(rt: HostRuntime) -> Result<(), Fail> {
+    type Eight<'s> = (
+        Write<Flag>,
+        (),
+        (),
+        WriteExpect<Name>,
+        (),
+        (),
+        (),
+        Read<'s, Count>,
+    );
+    let (x, y, z) = (id(0), id(1), id(2));
+    expect::<Eight>(&rt, rt.alloc(), &[x], &[z, y])
 }

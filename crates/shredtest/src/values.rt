@@ -5,7 +5,7 @@ ghost use Rattle.shredtest.specs.Values.{kind_of, count_kind, name_kind, flag_ki
 ghost use Rattle.shredtest.specs.declared.values.Value.{Value};
 ghost use Rattle.shredtest.specs.declared.values.Value.TheVariants.{Count, Name, Flag};
 
-use shred::{Kind, Resource, ResourceValue};
+use shred_world::{Kind, Resource, ResourceValue};
 
 /// What the tests' worlds hold.
 #[derive(Debug, Drop, PartialEq)]

@@ -1,8 +1,8 @@
 //! The world and its views.
 use crate::values::{Count, Name, Value};
-use shred::{
-    DataError, DefaultProvider, Kind, PanicHandler, ReplaceError, ResourceId, Resources,
-    SetupHandler, World, WorldError, check_intersection,
+use shred_world::{
+    DefaultProvider, Kind, PanicHandler, ReplaceError, ResourceId, Resources, SetupHandler, World,
+    WorldError, check_intersection,
 };
 use std::test::Fail;
 
@@ -58,38 +58,15 @@ fn the_kind_is_tested_first(rt: HostRuntime) -> Result<(), Fail> {
     };
     assert_eq!(rt; world.insert_by_id(number(0), Name(1)), Err(refused));
     assert!(rt; !world.has_value_raw(number(0)));
-    assert!(rt;
-        matches!(
-            world.try_fetch_by_id::<Name>(number(0)),
-            Err(WorldError::WrongKind {
-                asked: Kind(1),
-                found: Kind(0)
-            })
-        )
-    );
-    Ok(())
-}
-
-#[test]
-fn a_view_shows_what_is_declared(rt: HostRuntime) -> Result<(), Fail> {
-    let mut world: World<Value> = World::empty(rt.alloc());
-    world
-        .insert_by_id(number(0), Count(1))
-        .map_err(|_| "memory")?;
-    let x = number(0);
-    let y = number(1);
-    let reads = [x];
-    let writes = [y];
-    let view = world.lend(&reads, &writes);
-    assert_eq!(rt; view.read::<Count>(x).map(|count| count.0), Ok(1));
-    assert_eq!(rt;
-        view.read::<Count>(number(2)).map(|count| count.0),
-        Err(DataError::Undeclared(number(2)))
-    );
-    assert_eq!(rt;
-        view.read::<Count>(y).map(|count| count.0),
-        Err(DataError::Missing(y))
-    );
+    assert_eq!(rt; world.insert_by_id(number(1), Count(5)), Ok(()));
+    for dynamic_id in [0, 1] {
+        let found = world
+            .try_fetch_by_id::<Name>(number(dynamic_id))
+            .map(|name| name.is_some());
+        assert_eq!(rt; found, Err(refused));
+    }
+    assert_eq!(rt; world.remove_by_id::<Name>(number(1)), Err(refused));
+    assert!(rt; world.has_value_raw(number(1)));
     Ok(())
 }
 
@@ -165,32 +142,6 @@ fn what_is_removed_can_be_inserted_again(rt: HostRuntime) -> Result<(), Fail> {
     assert_eq!(rt; world.remove_by_id::<Count>(number(1)), Ok(Some(Count(15))));
     assert_eq!(rt; world.remove_by_id::<Count>(number(1)), Ok(None));
     assert_eq!(rt; count_in(&world), Some(6));
-    Ok(())
-}
-
-#[test]
-fn a_wrong_kind_is_refused_by_every_call_with_an_id(rt: HostRuntime) -> Result<(), Fail> {
-    let mut world = world_of(&rt, 5)?;
-    let refused = WorldError::WrongKind {
-        asked: Kind(1),
-        found: Kind(0),
-    };
-    assert_eq!(rt;
-        world
-            .try_fetch_by_id::<Name>(number(0))
-            .map(|found| found.is_some()),
-        Err(refused)
-    );
-    assert_eq!(rt;
-        world
-            .try_fetch_mut_by_id::<Name>(number(0))
-            .map(|name| name.0),
-        Err(refused)
-    );
-    assert_eq!(rt; world.insert_by_id(number(0), Name(1)), Err(refused));
-    assert_eq!(rt; world.remove_by_id::<Name>(number(0)), Err(refused));
-    assert_eq!(rt; world.remove_by_id::<Name>(number(9)), Err(refused));
-    assert_eq!(rt; count_in(&world), Some(5));
     Ok(())
 }
 

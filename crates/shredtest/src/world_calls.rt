@@ -9,7 +9,7 @@ ghost use Rattle.shredtest.specs.Values.{kind_of, count_kind};
 ghost use Rattle.shredtest.specs.declared.values.Value.TheVariants.{Count as counted};
 
 use crate::values::{Count, Value};
-use shred::{
+use shred_world::{
     DefaultProvider, Resource, ResourceId, ResourceValue, SetupHandler, World, WorldError,
 };
 

@@ -1,2 +1,1 @@
-pub mod Fits
-pub mod PlainReads
+pub mod SameViews

@@ -1,13 +1,13 @@
 //! The builder of dispatchers: names, refusals and the printed plan.
 
-use crate::plain_plan::PlainPlan;
 use crate::planner_tests::{Case, OnlyPlanned, described, next, numbered, plain_entry, system_of};
-use crate::slow_placement::slow_placement;
 use crate::stopping::{Stop, StoppingWriter};
 use shred::{
     AddError, DispatcherBuilder, PrintError, RunningTime, StagesBuilder, SystemId, ToWriter,
 };
 use shredtest::values::Value;
+use shredtest_planner::plain_plan::PlainPlan;
+use shredtest_planner::slow_placement::slow_placement;
 use std::alloc::{AllocError, Global};
 use std::collections::HashMap;
 use std::process::Abort;

@@ -1,12 +1,12 @@
 //! Plans with dependencies and barriers, by the planner and by the slow program.
 
-use crate::plain_plan::PlainPlan;
 use crate::planner_tests::{
     Case, OnlyPlanned, described, plain_entry, system_of, text_of_plain, text_of_stages,
 };
-use crate::slow_placement::slow_placement;
 use shred::{Kind, ResourceId, RunningTime, StagesBuilder, SystemId};
 use shredtest::values::Value;
+use shredtest_planner::plain_plan::PlainPlan;
+use shredtest_planner::slow_placement::slow_placement;
 use std::alloc::Global;
 use std::process::Abort;
 use std::test::Fail;

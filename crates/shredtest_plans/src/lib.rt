@@ -1,4 +1,4 @@
-//! Tests of the planner, the builder and dispatches, and a plain, slow planner beside them.
+//! Tests of the planner, the builder and dispatches.
 #![tactic(auto)]
 
 #[cfg(test)]
@@ -10,10 +10,12 @@ mod builder_tests;
 #[cfg(test)]
 mod dependency_tests;
 #[cfg(test)]
+mod error_tests;
+#[cfg(test)]
 mod gate;
-pub mod plain_plan;
 #[cfg(test)]
 mod planner_tests;
-pub mod slow_placement;
+#[cfg(test)]
+mod shared_reads;
 #[cfg(test)]
 mod stopping;

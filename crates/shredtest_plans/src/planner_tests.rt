@@ -1,13 +1,13 @@
 //! The planner, beside the slow program and on plans that were worked out by hand.
 ghost use Rattle.std.specs.Prelude.{◌≡◌, IfOk};
 
-use crate::plain_plan::{PlainEntry, PlainPlan};
-use crate::slow_placement::slow_placement;
 use shred::{
     Accessor, Fault, Kind, OutOfMemory, ResourceId, RunningTime, Stage, StagesBuilder, System,
     SystemId, View, World,
 };
 use shredtest::values::Value;
+use shredtest_planner::plain_plan::{PlainEntry, PlainPlan};
+use shredtest_planner::slow_placement::slow_placement;
 use std::alloc::{AllocError, Global};
 use std::process::Abort;
 use std::test::Fail;
@@ -335,103 +335,4 @@ fn a_group_is_joined_while_that_balances(rt: HostRuntime) -> Result<(), Fail> {
     expect(&rt, rt.alloc(), &average, "[[0],[1,2]]")?;
     let longer = [long, writer, described(&[], A, RunningTime::Long)];
     expect(&rt, rt.alloc(), &longer, "[[0],[1]] [[2]]")
-}
-
-/// A system with its dependencies, placed after a barrier.
-#[derive(Clone, Copy)]
-struct Dependent {
-    case: Case,
-    dependencies: &'static [usize],
-    barrier: usize,
-}
-
-fn placed(case: Case, dependencies: &'static [usize]) -> Dependent {
-    Dependent {
-        case,
-        dependencies,
-        barrier: 0,
-    }
-}
-
-/// The rule plans these systems so.
-fn expect_by_rule(
-    rt: &impl Abort,
-    alloc: Global,
-    systems: &[Dependent],
-    text: &str,
-) -> Result<(), Fail> {
-    let mut plan = PlainPlan {
-        stages: Vec::new(alloc),
-    };
-    for (id, system) in systems.iter().enumerate() {
-        let entry = plain_entry(alloc, id, system.case)?;
-        slow_placement(
-            alloc,
-            &mut plan,
-            system.barrier,
-            system.barrier,
-            system.dependencies,
-            entry,
-        )?;
-    }
-    assert_eq!(rt; text_of_plain(alloc, &plan)?.as_str(), text);
-    Ok(())
-}
-
-const PLAIN: Case = Case {
-    reads: &[],
-    writes: &[],
-    time: RunningTime::Average,
-};
-
-#[test]
-fn the_rule_puts_a_system_after_its_dependencies(rt: HostRuntime) -> Result<(), Fail> {
-    let alloc = rt.alloc();
-    let reader = described(A, &[], RunningTime::Average);
-    let systems = [
-        placed(reader, &[]),
-        placed(reader, &[0]),
-        placed(reader, &[0]),
-        placed(reader, &[]),
-        placed(reader, &[2, 3]),
-    ];
-    expect_by_rule(&rt, alloc, &systems, "[[0],[3]] [[1],[2]] [[4]]")?;
-    let chain = [placed(PLAIN, &[]), placed(PLAIN, &[0]), placed(PLAIN, &[1])];
-    expect_by_rule(&rt, alloc, &chain, "[[0]] [[1]] [[2]]")?;
-    let doubled = [
-        placed(PLAIN, &[]),
-        placed(PLAIN, &[0, 0]),
-        placed(PLAIN, &[0, 0]),
-        placed(PLAIN, &[0]),
-    ];
-    expect_by_rule(&rt, alloc, &doubled, "[[0]] [[1],[3]] [[2]]")
-}
-
-#[test]
-fn the_rule_joins_the_one_dependency(rt: HostRuntime) -> Result<(), Fail> {
-    let alloc = rt.alloc();
-    let long = described(&[], &[], RunningTime::VeryLong);
-    let free = [
-        placed(long, &[]),
-        placed(described(&[], &[], RunningTime::VeryShort), &[]),
-        placed(described(&[], &[], RunningTime::Short), &[1]),
-    ];
-    expect_by_rule(&rt, alloc, &free, "[[0],[1,2]]")?;
-    let writing = [
-        placed(long, &[]),
-        placed(described(&[], A, RunningTime::VeryShort), &[]),
-        placed(described(&[], A, RunningTime::Short), &[1]),
-    ];
-    expect_by_rule(&rt, alloc, &writing, "[[0],[1]] [[2]]")
-}
-
-#[test]
-fn the_rule_starts_at_the_barrier(rt: HostRuntime) -> Result<(), Fail> {
-    let after = |dependencies| Dependent {
-        case: PLAIN,
-        dependencies,
-        barrier: 1,
-    };
-    let systems = [placed(PLAIN, &[]), after(&[0]), after(&[0])];
-    expect_by_rule(&rt, rt.alloc(), &systems, "[[0]] [[1]] [[2]]")
 }

@@ -1,0 +1,5 @@
+//! Tests of the example.
+#![tactic(auto)]
+
+#[cfg(test)]
+mod own_bundle;

@@ -1,7 +1,0 @@
-use Rattle.std.proofs.Common.{◌≡◌}
-use Rattle.shred.specs.Placement.{NoneAdmits}
-use Rattle.shredtest_plans.specs.Plain.{entry_of, plan_of}
-use Rattle.shredtest_plans.proofs.slow_placement.find.Given as goal
-
-abbrev pub invariant-loop-stage : goal.invariant-loop-stage
-invariant-loop-stage l = NoneAdmits (plan_of l.plan) l.barrier l.start l.dependencies (entry_of l.entry) l.stage

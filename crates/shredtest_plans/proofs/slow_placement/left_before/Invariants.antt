@@ -1,7 +1,0 @@
-use Rattle.std.proofs.Common.{◌≡◌, ◌≤◌}
-use Rattle.shred.specs.Placement.{dependencies_left}
-use Rattle.shredtest_plans.specs.Plain.{plan_of}
-use Rattle.shredtest_plans.proofs.slow_placement.left_before.Given as goal
-
-abbrev pub invariant-loop-passed : goal.invariant-loop-passed
-invariant-loop-passed l = record { left_there : l.left.items ≡ dependencies_left (plan_of l.plan) l.barrier l.dependencies l.passed; at_start : l.stage ≤ l.barrier → l.passed ≡ l.barrier }

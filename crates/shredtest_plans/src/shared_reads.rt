@@ -1,0 +1,195 @@
+//! What a system only reads goes out in bundles any number of times, also where another system of its group writes it.
+ghost use Rattle.std.specs.Prelude.{◌≡◌, false, is_some};
+ghost use Rattle.shred_world.specs.Views.{may_write, table_of, view_held, IsSameView};
+ghost use Rattle.shred_world.specs.declared.id.ResourceId.{ResourceId};
+ghost use Rattle.shredtest.specs.Values.{kind_of};
+
+use shred::{
+    BatchAccessor, DataError, DispatcherBuilder, Fault, Kind, OutOfMemory, ReadExpect, Resource,
+    ResourceId, RunningTime, System, View, World,
+};
+use shredtest::values::{Count, Flag, Name, Value};
+use std::alloc::Global;
+use std::test::Fail;
+
+#[derive(Clone, Copy)]
+enum Act {
+    CountOn,
+    NameAfterTwoReads,
+    Raise,
+}
+
+/// What one of the systems declares and does.
+#[derive(Drop)]
+struct Task {
+    reads: Vec<ResourceId>,
+    writes: Vec<ResourceId>,
+    time: RunningTime,
+    act: Act,
+}
+
+fn id(kind: u32) -> ResourceId {
+    ResourceId::from_type_id(Kind(kind))
+}
+
+// The sum of the count and the count, from a bundle of two parts for the one id.
+fn read_twice(view: &mut View<Value>) -> Result<i64, DataError>
+    ensures view { IsSameView view.old view.new }
+    ensures table { table_of view.new ≡ table_of view.old }
+    ensures shown { (q : ResourceId) → view_held kind_of view.new q ≡ view_held kind_of view.old q }
+{
+    match view.system_data::<(ReadExpect<Count>, ReadExpect<Count>)>() {
+        Ok(counts) => {
+            let sum = counts.0.0.wrapping_add(counts.1.0);
+            view.give_back(counts);
+            Ok(sum)
+        }
+        Err(error) => Err(error),
+    }
+}
+
+// Puts the resource in the place of the one that is held.
+fn put<R: Resource<Value> + Drop>(
+    view: &mut View<Value>,
+    id: ResourceId,
+    resource: R,
+) -> Result<(), DataError>
+    ensures view { IsSameView view.old view.new }
+    ensures table { table_of view.new ≡ table_of view.old }
+    ensures ids { (q : ResourceId) → is_some (view_held kind_of view.new q) ≡ is_some (view_held kind_of view.old q) }
+    ensures frame { (q : ResourceId) → may_write view.old q ≡ false → view_held kind_of view.new q ≡ view_held kind_of view.old q }
+{
+    match view.write::<R>(id) {
+        Ok(held) => {
+            *held = resource;
+            Ok(())
+        }
+        Err(error) => Err(error),
+    }
+}
+
+// Reads the count twice, and names the sum.
+fn name_after_two_reads(view: &mut View<Value>) -> Result<(), DataError>
+    ensures view { IsSameView view.old view.new }
+    ensures table { table_of view.new ≡ table_of view.old }
+    ensures ids { (q : ResourceId) → is_some (view_held kind_of view.new q) ≡ is_some (view_held kind_of view.old q) }
+    ensures frame { (q : ResourceId) → may_write view.old q ≡ false → view_held kind_of view.new q ≡ view_held kind_of view.old q }
+{
+    match read_twice(view) {
+        Ok(sum) => put(view, id(1), Name((sum & 255) as u8)),
+        Err(error) => Err(error),
+    }
+}
+
+// Counts one more.
+fn count_on(view: &mut View<Value>) -> Result<(), DataError>
+    ensures view { IsSameView view.old view.new }
+    ensures table { table_of view.new ≡ table_of view.old }
+    ensures ids { (q : ResourceId) → is_some (view_held kind_of view.new q) ≡ is_some (view_held kind_of view.old q) }
+    ensures frame { (q : ResourceId) → may_write view.old q ≡ false → view_held kind_of view.new q ≡ view_held kind_of view.old q }
+{
+    match view.read::<Count>(id(0)) {
+        Ok(count) => {
+            let next = count.0.wrapping_add(1);
+            put(view, id(0), Count(next))
+        }
+        Err(error) => Err(error),
+    }
+}
+
+impl System<Value> for Task {
+    type Error = DataError;
+
+    type Accessor = BatchAccessor;
+
+    ghost reads = { λ task. task.reads.items };
+
+    ghost writes = { λ task. task.writes.items };
+
+    ghost time = { λ task. task.time };
+
+    ghost step = { λ _ _ _ _ _. Unit {0} };
+
+    ghost sets_up = { λ _ _ _ _ _. Unit {0} };
+
+    ghost disposes = { λ _ _ _ _. Unit {0} };
+
+    fn run(&mut self, view: &mut View<Value>) -> Result<(), Fault<DataError>> {
+        let done = match self.act {
+            Act::CountOn => count_on(view),
+            Act::NameAfterTwoReads => name_after_two_reads(view),
+            Act::Raise => put(view, id(2), Flag(true)),
+        };
+        match done {
+            Ok(()) => Ok(()),
+            Err(error) => Err(Fault::from(error)),
+        }
+    }
+
+    fn running_time(&self) -> RunningTime {
+        self.time
+    }
+
+    fn accessor(&self, alloc: Global) -> Result<BatchAccessor, OutOfMemory> {
+        let reads = Vec::from_slice(alloc, self.reads.as_slice()).map_err(|_| OutOfMemory)?;
+        let writes = Vec::from_slice(alloc, self.writes.as_slice()).map_err(|_| OutOfMemory)?;
+        Ok(BatchAccessor::new(reads, writes))
+    }
+
+    fn setup(&mut self, _world: &mut World<Value>) -> Result<(), Fault<DataError>> {
+        Ok(())
+    }
+
+    fn dispose(self, _world: &mut World<Value>) -> Result<(), Fault<DataError>> {
+        Ok(())
+    }
+}
+
+fn task_of(
+    alloc: Global,
+    reads: &[ResourceId],
+    writes: &[ResourceId],
+    time: RunningTime,
+    act: Act,
+) -> Result<Task, Fail> {
+    Ok(Task {
+        reads: Vec::from_slice(alloc, reads).map_err(|_| "memory")?,
+        writes: Vec::from_slice(alloc, writes).map_err(|_| "memory")?,
+        time,
+        act,
+    })
+}
+
+#[test]
+fn what_the_group_writes_is_read_twice(rt: HostRuntime) -> Result<(), Fail> {
+    let alloc = rt.alloc();
+    let mut builder: DispatcherBuilder<Value, Task> = DispatcherBuilder::new(alloc);
+    let raise = task_of(alloc, &[], &[id(2)], RunningTime::VeryLong, Act::Raise)?;
+    let count = task_of(alloc, &[], &[id(0)], RunningTime::VeryShort, Act::CountOn)?;
+    let name = task_of(
+        alloc,
+        &[id(0)],
+        &[id(1)],
+        RunningTime::VeryShort,
+        Act::NameAfterTwoReads,
+    )?;
+    builder.add(raise, "", &[]).map_err(|_| "not added")?;
+    builder.add(count, "", &[]).map_err(|_| "not added")?;
+    builder.add(name, "", &[]).map_err(|_| "not added")?;
+    let mut dispatcher = builder.build();
+    assert_eq!(rt; dispatcher.max_threads(), 2);
+    let mut world: World<Value> = World::empty(alloc);
+    world.insert(Count(4)).map_err(|_| "memory")?;
+    world.insert(Name(0)).map_err(|_| "memory")?;
+    world.insert(Flag(false)).map_err(|_| "memory")?;
+    dispatcher
+        .dispatch_seq(&mut world)
+        .map_err(|_| "not dispatched")?;
+    assert_eq!(rt; world.fetch::<Name>().map(|name| name.0), Ok(10));
+    dispatcher
+        .dispatch_par(&rt, &mut world)
+        .map_err(|_| "not dispatched")?;
+    assert_eq!(rt; world.fetch::<Name>().map(|name| name.0), Ok(12));
+    assert_eq!(rt; world.fetch::<Flag>().map(|flag| flag.0), Ok(true));
+    Ok(())
+}

@@ -1,4 +1,3 @@
-pub mod KeptIds
 pub mod GivenBack
 pub mod Turned
 mod BothHands

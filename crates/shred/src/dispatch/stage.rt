@@ -210,8 +210,8 @@ impl<V: ResourceValue + Drop, S: System<V, Error = E>, E: Drop> Stage<V, S> {
     ghost use Rattle.shred.specs.Plans.{StageTurn};
 
     /// Runs every group, one after the other, each up to its first system that is not Done, on the caller's thread. The
-    /// answer is that of the first group, in order, that is not Done. The memory that the stage needs is taken before any
-    /// group begins; where it is refused, the answer is `Memory`, and nothing has run.
+    /// answer is that of the first group, in order, that is not Done. Where it is `Memory`,
+    /// the stage was refused for memory, and nothing has run; no stage of today asks for any.
     pub fn execute_seq(&mut self, world: &mut World<V>) -> Result<(), StageFault<E>>
         ensures { Dispatched V.kind_of (StageTurn V.kind_of S.step) (stage_over V.kind_of self.old world.old) result (stage_over V.kind_of self.new world.new) }
     {
@@ -234,9 +234,9 @@ where
 
     /// Runs every group, each up to its first system that is not Done, beside each other in two halves on two threads. A
     /// half whose thread cannot be started runs on the caller's thread, and so does a stage of one group. The answer is
-    /// that of the first group, in order, that is not Done, whichever refused first in time. The memory that the stage
-    /// needs, but that of a thread's start, is taken before any group begins; where it is refused, the answer is
-    /// `Memory`, and nothing has run.
+    /// that of the first group, in order, that is not Done, whichever refused first in time. Where it is `Memory`, the
+    /// stage was refused for memory, and nothing has run; no stage of today asks for any but that of a thread's start,
+    /// whose refusal is no answer.
     pub fn execute<R: Threads + Sync>(
         &mut self,
         rt: &R,

@@ -16,7 +16,7 @@ pub use dispatch::stages_builder::StagesBuilder;
 pub use shred_world::{
     Accessor, BatchAccessor, Behind, DataError, DefaultProvider, DynamicSystemData, Entry, Fetch,
     FetchMut, Kind, Lent, OutOfMemory, PanicHandler, Parts, Read, ReadExpect, ReplaceError,
-    Resource, ResourceId, ResourceValue, Resources, SetupHandler, Shelf, Slot, SystemData, Table,
-    View, ViewWork, World, WorldError, Write, WriteExpect, check_intersection,
+    Resource, ResourceId, ResourceValue, Resources, SetupHandler, SystemData, Table, View,
+    ViewWork, World, WorldError, Write, WriteExpect, check_intersection,
 };
 pub use system::{Fault, RunningTime, System};

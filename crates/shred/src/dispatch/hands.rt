@@ -8,6 +8,7 @@ ghost use Rattle.shred.specs.Hands.{HasEmptyHand, WriteApart, some_writes, Fits,
 
 use crate::dispatch::entry::Group;
 use shred_world::Table;
+use shred_world::parting::move_each;
 
 impl<V: Drop, S> Group<V, S> {
     // Moves what the group writes into its hand.
@@ -16,7 +17,7 @@ impl<V: Drop, S> Group<V, S> {
         ensures hand { IsMovedOut table.old self.old self.new }
         ensures left { (q : ResourceId) → slot_at table.new q ≡ cond (among self.old.written.items q) (emptied (slot_at table.old q)) (slot_at table.old q) }
     {
-        table.move_each(self.written.as_slice(), &mut self.hand);
+        move_each(table, self.written.as_slice(), &mut self.hand);
     }
 
     // Moves what is in the group's hand back.
@@ -25,7 +26,7 @@ impl<V: Drop, S> Group<V, S> {
         ensures hand { IsLeftEmpty self.old self.new }
         ensures back { (q : ResourceId) → slot_at table.new q ≡ cond (among self.old.written.items q) (given (slot_value (slot_at self.old.hand q)) (slot_at table.old q)) (slot_at table.old q) }
     {
-        self.hand.move_each(self.written.as_slice(), table);
+        move_each(&mut self.hand, self.written.as_slice(), table);
     }
 }
 

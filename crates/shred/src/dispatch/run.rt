@@ -17,6 +17,7 @@ ghost use Rattle.shred_world.specs.Views.{lent_slot, shelf_slot};
 
 use crate::dispatch::entry::{Entry, SystemId};
 use crate::system::{Fault, System};
+use shred_world::parting::{move_back, move_out};
 use shred_world::{ResourceId, ResourceValue, Shelf, Table, View};
 use std::fmt::Display;
 use thiserror::Error;
@@ -109,9 +110,9 @@ fn step<V: ResourceValue + Drop, S: System<V>>(
     ensures own_lists { IsOwnEntry S.reads S.writes entry.new }
     ensures room { HasEntryRoom own.new entry.new }
 {
-    own.move_out(entry.writes.as_slice(), &mut entry.hand);
+    move_out(own, entry.writes.as_slice(), &mut entry.hand);
     let outcome = step_in_hand(entry, shelf, own);
-    own.move_back(entry.writes.as_slice(), &mut entry.hand);
+    move_back(own, entry.writes.as_slice(), &mut entry.hand);
     outcome
 }
 

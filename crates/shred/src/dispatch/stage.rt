@@ -16,6 +16,7 @@ use crate::dispatch::beside::{take_turn, take_turn_beside};
 use crate::dispatch::entry::{Entry, Group, Side, SystemId};
 use crate::dispatch::run::StageFault;
 use crate::system::System;
+use shred_world::parting::table_of;
 use shred_world::{OutOfMemory, ResourceId, ResourceValue, World};
 use smallvec::SmallVec;
 use std::alloc::Global;
@@ -215,7 +216,7 @@ impl<V: ResourceValue + Drop, S: System<V, Error = E>, E: Drop> Stage<V, S> {
     pub fn execute_seq(&mut self, world: &mut World<V>) -> Result<(), StageFault<E>>
         ensures { Dispatched V.kind_of (StageTurn V.kind_of S.step) (stage_over V.kind_of self.old world.old) result (stage_over V.kind_of self.new world.new) }
     {
-        take_turn(&mut self.groups, world.table_mut())
+        take_turn(&mut self.groups, table_of(world))
     }
 }
 
@@ -247,6 +248,6 @@ where
         if self.groups.len() < 2 {
             return self.execute_seq(world);
         }
-        take_turn_beside(rt, &mut self.groups, world.table_mut(), WORKERS)
+        take_turn_beside(rt, &mut self.groups, table_of(world), WORKERS)
     }
 }

@@ -60,7 +60,7 @@ pub enum ReplaceError<V> {
 /// Values, each held under an id of its kind.
 #[derive(Drop)]
 pub struct World<V> {
-    table: Table<V>,
+    pub(crate) table: Table<V>,
 }
 
 /// Another name of `World`.
@@ -87,7 +87,7 @@ impl<V: ResourceValue> World<V> {
     ghost use Rattle.shred_world.specs.Slots.{slot_at, with_at, without_at, among};
     ghost use Rattle.shred_world.specs.Entries.{lent_world, entry_world};
     ghost use Rattle.shred_world.specs.Views.{view_held, may_read, may_write, is_out, table_in, shelves_of};
-    ghost use Rattle.shred_world.specs.Lent.{LendsTable, LendsWorld, LendsGot, LendsGotOk};
+    ghost use Rattle.shred_world.specs.Lent.{LendsWorld, LendsGot, LendsGotOk};
 
     /// Holds nothing.
     pub fn empty(alloc: Global) -> Self
@@ -346,14 +346,6 @@ impl<V: ResourceValue> World<V> {
             return Err(WorldError::Missing(id));
         };
         Ok(resource)
-    }
-
-    /// The table behind the world, for those who lend views of it.
-    pub fn table_mut(&mut self) -> &mut Table<V>
-        ensures shown { result.now ≡ table_of_world self.old }
-        ensures* back { sem 𝓛 (LendsTable V.row self.entry result) }
-    {
-        &mut self.table
     }
 
     /// The view of what is held under the ids: those of `reads` may be read, and those of `writes` be written too.

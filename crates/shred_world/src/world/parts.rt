@@ -11,6 +11,7 @@ ghost use Rattle.shred_world.specs.OwnViews.{IsLent};
 
 use crate::accessor::OutOfMemory;
 use crate::id::ResourceId;
+use crate::parting::{move_back, move_out};
 use crate::resource::ResourceValue;
 use crate::table::Table;
 use crate::world::data::{Shelf, View};
@@ -69,7 +70,7 @@ impl<V: Drop> Table<V> {
     {
         for i in 0..pairs.len() {
             let hand = &mut hands[i];
-            self.move_out(pairs[i].1, hand);
+            move_out(self, pairs[i].1, hand);
             hand.forget_notes();
         }
     }
@@ -85,7 +86,7 @@ impl<V: Drop> Table<V> {
         ensures noted { (q : ResourceId) → noted_in self.new q ≡ false }
     {
         for i in 0..pairs.len() {
-            self.move_back(pairs[i].1, &mut hands[i]);
+            move_back(self, pairs[i].1, &mut hands[i]);
         }
         self.forget_notes();
     }

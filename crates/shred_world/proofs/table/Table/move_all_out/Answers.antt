@@ -36,7 +36,7 @@ loop-i-preserved g c =
     let pair = slice_index_or pairs i d in
     record {
       long = c.loop-i.invariant.long ∙ sym (length-set c.loop-i.hands i c.forget_notes.new.self);
-      left = λ q. left-or (written_by (take i pairs) q) (among (writes_of pair) q) (slot_at c.args.self.now q) (slot_at c.loop-i.self q) (slot_at c.move_out.new.self q) (c.loop-i.invariant.left q) (c.move_out.ensures.left q)
+      left = λ q. left-or (written_by (take i pairs) q) (among (writes_of pair) q) (slot_at c.args.self.now q) (slot_at c.loop-i.self q) (slot_at c.move_out.new.table q) (c.loop-i.invariant.left q) (c.move_out.ensures.left q)
           ∙ ap (λ (b : Bool). cond b (emptied (slot_at c.args.self.now q)) (slot_at c.args.self.now q)) (sym (list_any_more (λ p. among (writes_of p) q) pairs i d c.loop-i-test.true));
       hands = zip-more (IsFilled c.args.self.now) (HasRoom c.args.self.now) i pairs c.loop-i.hands d c.forget_notes.new.self c.loop-i-test.true c.loop-i.invariant.hands (
         λ q. (λ i. kept_at (c.forget_notes.ensures.slots i) q) ∙ held-now (written_by (take i pairs) q) (among (writes_of pair) q) (slot_at c.args.self.now q) (slot_at c.loop-i.self q) (slot_at c.move_out.new.hand q)

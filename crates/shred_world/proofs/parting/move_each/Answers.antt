@@ -1,10 +1,10 @@
-use Rattle.std.proofs.Common.{◌≡◌, true, slice_index_or, take, sym, ◌∙◌, ap, arith}
+use Rattle.std.proofs.Common.{slice_index_or, take, ◌∙◌, ap, arith}
 use Rattle.shred_world.specs.declared.id.ResourceId.{ResourceId}
 use Rattle.shred_world.specs.Parting.{emptied, slot_value, given}
 use Rattle.shred_world.specs.Slots.{slot_at, among}
 use Rattle.shred_world.proofs.Slots.{same_id-true}
-use Rattle.shred_world.proofs.Moves.{among-at, cond-more, cond-all, with_at-here, with_at-there, left-more, given-more}
-use Rattle.shred_world.proofs.table.Table.move_each.Goals as goal
+use Rattle.shred_world.proofs.Moves.{cond-more, cond-all, with_at-here, with_at-there, left-more, given-more}
+use Rattle.shred_world.proofs.parting.move_each.Goals as goal
 
 pub loop-id-preserved : goal.loop-id-preserved
 loop-id-preserved g c =
@@ -12,9 +12,9 @@ loop-id-preserved g c =
     let k = c.loop-id.id-index in
     let d : ResourceId = record { kind = record { 0 = 0 }; dynamic_id = 0 } in
     let id = slice_index_or ids k d in
-    let from = slot_at c.loop-id.self in
+    let from = slot_at c.loop-id.from in
     let to = slot_at c.loop-id.to in
-    let first = slot_at c.args.self.now in
+    let first = slot_at c.args.from.now in
     record {
       from = cond-more (λ q. emptied (first q)) first k ids d c.loop-id-test.true from (slot_at c.move_one.new.self)
           (λ q e. c.move_one.ensures.from q ∙ with_at-here from id _ q e ∙ ap (λ (x : ResourceId). emptied (from x)) (same_id-true id q e) ∙ left-more (among (take k ids) q) (from q) (first q) (c.loop-id.invariant.from q))
@@ -29,7 +29,7 @@ loop-id-preserved g c =
     }
 
 pub returns-clause-from : goal.returns-clause-from
-returns-clause-from g c = cond-all (λ q. emptied (slot_at c.args.self.now q)) (slot_at c.args.self.now) (slot_at c.loop-id.self) c.loop-id.id-index c.args.ids.now (omega arith) c.loop-id.invariant.from
+returns-clause-from g c = cond-all (λ q. emptied (slot_at c.args.from.now q)) (slot_at c.args.from.now) (slot_at c.loop-id.from) c.loop-id.id-index c.args.ids.now (omega arith) c.loop-id.invariant.from
 
 pub returns-clause-to : goal.returns-clause-to
-returns-clause-to g c = cond-all (λ q. given (slot_value (slot_at c.args.self.now q)) (slot_at c.args.to.now q)) (slot_at c.args.to.now) (slot_at c.loop-id.to) c.loop-id.id-index c.args.ids.now (omega arith) c.loop-id.invariant.to
+returns-clause-to g c = cond-all (λ q. given (slot_value (slot_at c.args.from.now q)) (slot_at c.args.to.now q)) (slot_at c.args.to.now) (slot_at c.loop-id.to) c.loop-id.id-index c.args.ids.now (omega arith) c.loop-id.invariant.to

@@ -5,11 +5,11 @@
 -- `Stage::execute_seq` and `execute` ensure this of a stage and its turn (`Plans`: `StageTurn`), `Dispatcher::dispatch_seq` and `dispatch_par` of a dispatcher and its run (`Plans`: `PlanRun`).
 use Rattle.std.specs.Prelude.{◌≡◌, List, Option}
 use Rattle.std.specs.Option.{option_map}
-use Rattle.shred_model.specs.OneThread.{LeavesAsOneThread}
+use Rattle.shred_model.specs.Serializable.{IsSerializable}
 use Rattle.shred_model.specs.Plan as model
 use Rattle.shred_model.specs.Record.{Record, Agent}
 use Rattle.shred_model.specs.Runs.{Answer}
-use Rattle.shred_model.specs.States.{setting_of}
+use Rattle.shred_model.specs.States.{configuration_of}
 use Rattle.shred_world.specs.declared.id.Kind.{Kind}
 use Rattle.shred_world.specs.declared.id.ResourceId.{ResourceId}
 use Rattle.shred_world.specs.declared.world.World.{World}
@@ -28,7 +28,7 @@ pub record Situation (P V S : Type 0) : Type 0 where
 
 -- The dispatch left what one thread leaves that runs the plan with this answer; the plan is the same after, and so are the ids that are held and the kinds of their values.
 pub record Dispatched {P V S O F : Type 0} (kind : V → Kind) (Run : P → List (Record Agent ResourceId V S O) → Answer F → Type 0) (before : Situation P V S) (answer : Answer F) (after : Situation P V S) : Type 0 where
-  pub ran : LeavesAsOneThread (λ list. Run before.plan list answer) (setting_of before.states before.values) (setting_of after.states after.values)
+  pub ran : IsSerializable (λ list. Run before.plan list answer) (configuration_of before.states before.values) (configuration_of after.states after.values)
   pub plan : after.plan ≡ before.plan
   pub kinds : (id : ResourceId) → option_map kind (after.values id) ≡ option_map kind (before.values id)
 

@@ -1,7 +1,7 @@
 -- Faults, made of what a view refuses.
 use Rattle.std.specs.Prelude.{◌≡◌}
-use Rattle.shred_world.specs.declared.world.data.DataError.{DataError}
-use Rattle.shred_world.specs.declared.world.data.DataError.TheVariants.{OutOfMemory as NoMemory}
+use Rattle.shred_world.specs.declared.world.view.DataError.{DataError}
+use Rattle.shred_world.specs.declared.world.view.DataError.TheVariants.{OutOfMemory as NoMemory}
 use Rattle.shred.specs.declared.system.Fault.{Fault}
 use Rattle.shred.specs.declared.system.Fault.TheVariants.{Refused, OutOfMemory}
 

@@ -2,7 +2,7 @@
 use Rattle.std.specs.Prelude.{◌≡◌, List}
 use Rattle.std.specs.Option.{option_map}
 use Rattle.shred_model.specs.Runs.{Answer, Ran}
-use Rattle.shred_model.specs.States.{setting_of}
+use Rattle.shred_model.specs.States.{configuration_of}
 use Rattle.shred_world.specs.declared.id.Kind.{Kind}
 use Rattle.shred_world.specs.declared.id.ResourceId.{ResourceId}
 use Rattle.shred_world.specs.Shown.{Lent, shown, IsSameSlots}
@@ -23,7 +23,7 @@ pub record IsReady {V S : Type 0} (reads writes : S → List ResourceId) (lent :
 
 -- The group ran over what its table shows; all beside its systems and the values in its table stayed.
 pub record GroupWent {V S E : Type 0} (kind : V → Kind) (step : Step V S E) (reads writes : S → List ResourceId) (lent : Lent V) (old : Group V S) (answer : Answer (StageFault E)) (new : Group V S) : Type 0 where
-  pub ran : Ran (GroupRun kind step 0 (group_plan old)) (setting_of (group_states old) (shown kind lent old.hand)) answer (setting_of (group_states new) (shown kind lent new.hand))
+  pub ran : Ran (GroupRun kind step 0 (group_plan old)) (configuration_of (group_states old) (shown kind lent old.hand)) answer (configuration_of (group_states new) (shown kind lent new.hand))
   pub plan : group_plan new ≡ group_plan old
   pub own_lists : IsOwnGroup reads writes new
   pub ids : new.ids ≡ old.ids

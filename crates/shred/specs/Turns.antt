@@ -2,7 +2,7 @@
 use Rattle.std.specs.Prelude.{◌≡◌, List, All, map}
 use Rattle.std.specs.Option.{option_map}
 use Rattle.shred_model.specs.Runs.{Answer, Ran}
-use Rattle.shred_model.specs.States.{setting_of, listed_states}
+use Rattle.shred_model.specs.States.{configuration_of, listed_states}
 use Rattle.shred_world.specs.declared.id.Kind.{Kind}
 use Rattle.shred_world.specs.declared.id.ResourceId.{ResourceId}
 use Rattle.shred_world.specs.Worked.{Held}
@@ -17,7 +17,7 @@ use Rattle.shred.specs.Steps.{Step}
 
 -- The groups took their stage's turn, from these values to those; all beside their systems is as before, and their hands have empty slots again.
 pub record TookTurn {V S E : Type 0} (kind : V → Kind) (step : Step V S E) (reads writes : S → List ResourceId) (old : List (Group V S)) (before : Held V) (answer : Answer (StageFault E)) (new : List (Group V S)) (after : Held V) : Type 0 where
-  pub ran : Ran (StageTurn kind step (groups_plan old)) (setting_of (listed_states group_states old) before) answer (setting_of (listed_states group_states new) after)
+  pub ran : Ran (StageTurn kind step (groups_plan old)) (configuration_of (listed_states group_states old) before) answer (configuration_of (listed_states group_states new) after)
   pub plan : groups_plan new ≡ groups_plan old
   pub own_lists : All (IsOwnGroup reads writes) new
   pub ids : map group_numbers new ≡ map group_numbers old

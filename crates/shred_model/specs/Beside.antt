@@ -4,7 +4,7 @@ use Rattle.std.specs.List.{AllPairs, AllZip, Any}
 use Rattle.shred_model.specs.Access.{Access, Declares, Conflicts}
 use Rattle.shred_model.specs.Record.{Record, Agent}
 use Rattle.shred_model.specs.Runs.{Answer, first_fault, Ran}
-use Rattle.shred_model.specs.States.{setting_of}
+use Rattle.shred_model.specs.States.{configuration_of}
 
 -- no two elements conflict
 abbrev pub AreApart : {X I : Type 0} → (X → Access I) → List X → Type 0
@@ -27,7 +27,7 @@ abbrev pub RanBeside : {X Y I V S O F P : Type 0} → (X → List (Record Agent 
     → List Y → List P → Answer F → List Y → List P → Type 0
 RanBeside Run view states seen [] [] answer [] [] = answer ≡ Ok tt
 RanBeside {F = F} Run view states seen (y ∷ ys) (p ∷ ps) answer (z ∷ zs) (q ∷ qs) = (a : Answer F) × (b : Answer F)
-    × Ran (Run (view y)) (setting_of (states y) (seen p)) a (setting_of (states z) (seen q)) × (view z ≡ view y)
+    × Ran (Run (view y)) (configuration_of (states y) (seen p)) a (configuration_of (states z) (seen q)) × (view z ≡ view y)
     × RanBeside Run view states seen ys ps b zs qs × (answer ≡ first_fault a b)
 RanBeside Run view states seen _ _ answer _ _ = ⊥
 

@@ -2,8 +2,8 @@ pub mod Access
 pub mod Plan
 pub mod Record
 pub mod Replay
-pub mod KeptOrder
+pub mod ConflictEquivalence
 pub mod Runs
 pub mod States
-pub mod OneThread
+pub mod Serializable
 pub mod Beside

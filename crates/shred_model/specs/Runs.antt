@@ -1,7 +1,7 @@
 -- Which lists of records are runs of a list of elements, where it is known which are runs of one.
 use Rattle.std.specs.Prelude.{◌≡◌, ℕ, suc, List, [], ◌∷◌, ◌++◌, map, Result, Ok, Err, MatchResult}
 use Rattle.shred_model.specs.Record.{Record, Agent, under}
-use Rattle.shred_model.specs.Replay.{Setting, Replays}
+use Rattle.shred_model.specs.Replay.{Configuration, Replays}
 
 -- how a run ended: Done, or with a fault
 abbrev pub Answer : Type 0 → Type 0
@@ -27,7 +27,7 @@ RunsEach {I = I} {V = V} {S = S} {O = O} {F = F} Run n (x ∷ rest) list answer 
     × Run n x first a × RunsEach Run (suc n) rest others b × (list ≡ map (under n) first ++ others) × (answer ≡ first_fault a b)
 
 -- some list of records is a run with this answer, and leads from x to y
-pub record Ran {A I V S O F : Type 0} (Run : List (Record A I V S O) → Answer F → Type 0) (x : Setting A I V S) (answer : Answer F) (y : Setting A I V S) : Type 0 where
+pub record Ran {A I V S O F : Type 0} (Run : List (Record A I V S O) → Answer F → Type 0) (x : Configuration A I V S) (answer : Answer F) (y : Configuration A I V S) : Type 0 where
   pub list : List (Record A I V S O)
   pub run : Run list answer
   pub replays : Replays x list y

@@ -3,7 +3,7 @@ use Rattle.std.specs.Prelude.{◌≡◌, ℕ, IsTrue, None, Option, cond, List, 
 use Rattle.shred_world.specs.declared.id.ResourceId.{ResourceId}
 use Rattle.shred_world.specs.declared.table.Slot.{Slot}
 use Rattle.shred_world.specs.declared.table.Table.{Table}
-use Rattle.shred_world.specs.declared.world.data.Shelf.{Shelf}
+use Rattle.shred_world.specs.declared.world.view.Shelf.{Shelf}
 use Rattle.shred_world.specs.declared.world.parts.Behind.{Behind}
 use Rattle.shred_world.specs.declared.world.parted.Parts.{Parts}
 use Rattle.shred_world.specs.Parts.{Pair, writes_of, declares}

@@ -3,8 +3,8 @@ use Rattle.std.specs.Prelude.{◌≡◌, Bool, false, ◌&&◌, ◌||◌, ◌⊎
 use Rattle.shred_world.specs.declared.id.Kind.{Kind}
 use Rattle.shred_world.specs.declared.id.ResourceId.{ResourceId}
 use Rattle.shred_world.specs.declared.world.WorldError.{WorldError}
-use Rattle.shred_world.specs.declared.world.data.DataError.{DataError}
-use Rattle.shred_world.specs.declared.world.data.DataError.TheVariants.{OutOfMemory}
+use Rattle.shred_world.specs.declared.world.view.DataError.{DataError}
+use Rattle.shred_world.specs.declared.world.view.DataError.TheVariants.{OutOfMemory}
 use Rattle.shred_world.specs.Grants.{Grant, without, Moved}
 use Rattle.shred_world.specs.Slots.{among}
 use Rattle.shred_world.specs.Views.{refusal}

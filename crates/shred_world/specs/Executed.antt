@@ -5,8 +5,8 @@ use Rattle.std.specs.Fn.{FnOnceReturnsAtMut, Once}
 use Rattle.shred_world.specs.declared.id.ResourceId.{ResourceId}
 use Rattle.shred_world.specs.declared.world.WorldError.{WorldError}
 use Rattle.shred_world.specs.declared.world.WorldError.TheVariants as world
-use Rattle.shred_world.specs.declared.world.data.DataError.{DataError}
-use Rattle.shred_world.specs.declared.world.data.DataError.TheVariants as of_data
+use Rattle.shred_world.specs.declared.world.view.DataError.{DataError}
+use Rattle.shred_world.specs.declared.world.view.DataError.TheVariants as of_data
 use Rattle.shred_world.specs.Bundles.{Part, IsRefused, bundle_refusal, shown_parts, moved_parts, after_parts, Setup, ids_of}
 use Rattle.shred_world.specs.Grants.{Grant, map_grant, Moved, given_back}
 

@@ -3,7 +3,7 @@ use Rattle.std.specs.Prelude.{true, false, Bool, not, ◌&&◌, ◌||◌, Option
 use Rattle.shred_world.specs.declared.id.Kind.{Kind}
 use Rattle.shred_world.specs.declared.id.ResourceId.{ResourceId}
 use Rattle.shred_world.specs.declared.table.Table.{Table}
-use Rattle.shred_world.specs.declared.world.data.View.{View}
+use Rattle.shred_world.specs.declared.world.view.View.{View}
 use Rattle.shred_world.specs.Id.{same_id}
 use Rattle.shred_world.specs.Slots.{slot_at, noted_in, held, with_at}
 use Rattle.shred_world.specs.Views.{may_read, may_write, is_own, is_vacant, is_out, view_held}

@@ -2,7 +2,7 @@
 use Rattle.std.specs.Prelude.{Option, Some, None, cond}
 use Rattle.shred_world.specs.declared.id.Kind.{Kind}
 use Rattle.shred_world.specs.declared.id.ResourceId.{ResourceId}
-use Rattle.shred_world.specs.declared.world.data.View.{View}
+use Rattle.shred_world.specs.declared.world.view.View.{View}
 use Rattle.shred_world.specs.declared.world.handing.Handed.{Handed}
 use Rattle.shred_world.specs.declared.world.handing.Handed.TheVariants.{Lent, Moved}
 use Rattle.shred_world.specs.Views.{is_own, view_held}

@@ -11,8 +11,8 @@ use Rattle.shred_world.specs.declared.table.Slot.{Slot}
 use Rattle.shred_world.specs.declared.table.Table.{Table}
 use Rattle.shred_world.specs.contracts.table.Slot.{the_row as slot_row}
 use Rattle.shred_world.specs.contracts.table.Table.{the_row as table_row}
-use Rattle.shred_world.specs.declared.world.data.View.{View}
-use Rattle.shred_world.specs.contracts.world.data.View.{the_row as view_row}
+use Rattle.shred_world.specs.declared.world.view.View.{View}
+use Rattle.shred_world.specs.contracts.world.view.View.{the_row as view_row}
 use Rattle.shred_world.specs.declared.listed.Listed.{Listed}
 use Rattle.shred_world.specs.declared.store.Slots.{Slots}
 use Rattle.shred_world.specs.contracts.listed.Listed.{the_row as listed_row}

@@ -1,7 +1,7 @@
 -- Views of just some ids.
 use Rattle.std.specs.Prelude.{◌≡◌, false, ◌||◌, List}
 use Rattle.shred_world.specs.declared.id.ResourceId.{ResourceId}
-use Rattle.shred_world.specs.declared.world.data.View.{View}
+use Rattle.shred_world.specs.declared.world.view.View.{View}
 use Rattle.shred_world.specs.Slots.{among}
 use Rattle.shred_world.specs.Views as views
 

@@ -4,10 +4,10 @@ use Rattle.shred_world.specs.declared.id.Kind.{Kind}
 use Rattle.shred_world.specs.declared.id.ResourceId.{ResourceId}
 use Rattle.shred_world.specs.declared.table.Slot.{Slot}
 use Rattle.shred_world.specs.declared.table.Table.{Table}
-use Rattle.shred_world.specs.declared.world.data.DataError.{DataError}
-use Rattle.shred_world.specs.declared.world.data.DataError.TheVariants.{Missing, Undeclared, Taken, WrongKind}
-use Rattle.shred_world.specs.declared.world.data.Shelf.{Shelf, Last, Before'}
-use Rattle.shred_world.specs.declared.world.data.View.{View}
+use Rattle.shred_world.specs.declared.world.view.DataError.{DataError}
+use Rattle.shred_world.specs.declared.world.view.DataError.TheVariants.{Missing, Undeclared, Taken, WrongKind}
+use Rattle.shred_world.specs.declared.world.view.Shelf.{Shelf, Last, Before'}
+use Rattle.shred_world.specs.declared.world.view.View.{View}
 use Rattle.shred_world.specs.Slots.{among, noted_in, slot_at, slot_held, or_slot}
 
 -- the slot that a shelf shows for an id: that of the nearest table which has one, where no table before it owns the id

@@ -17,7 +17,7 @@ pub use resource::{Resource, ResourceValue};
 pub use table::{Slot, Table};
 pub use util::check_intersection;
 pub use world::bundle::SystemData;
-pub use world::data::{DataError, Shelf, View};
+pub use world::view::{DataError, Shelf, View};
 pub use world::dynamic::DynamicSystemData;
 pub use world::each::ViewWork;
 pub use world::entry::Entry;

@@ -5,14 +5,14 @@ use Rattle.std.specs.Prelude.{is_err, OnOk}
 use Rattle.std.specs.List.{AllZip, Contains}
 use Rattle.std.proofs.lemmas.Bool.Decides.{nat_tests}
 use Rattle.shred_model.specs.Access.{Declares}
-use Rattle.shred_model.specs.OneThread.{LeavesAsOneThread}
+use Rattle.shred_model.specs.Serializable.{IsSerializable}
 use Rattle.shred_model.specs.Plan.{Entry, Plan}
 use Rattle.shred_model.specs.Record.{Agent}
-use Rattle.shred_model.specs.Replay.{Setting}
-use Rattle.shred_model.proofs.Membership.{is_contained, is_declared}
+use Rattle.shred_model.specs.Replay.{Configuration}
+use Rattle.shred_model.proofs.Records.Membership.{is_contained, is_declared}
 use Rattle.shred_world.specs.declared.id.ResourceId.{ResourceId}
-use Rattle.shred_world.specs.declared.world.data.DataError.{DataError}
-use Rattle.shred_world.proofs.Ids.{tell_ids}
+use Rattle.shred_world.specs.declared.world.view.DataError.{DataError}
+use Rattle.shred_world.proofs.Tables.Ids.{tell_ids}
 use Rattle.shred.specs.declared.dispatch.dispatcher.DispatchError.{DispatchError}
 use Rattle.shred.specs.Placement.{IsPlaced}
 use Rattle.shred.specs.Plans.{PlanRun}
@@ -104,8 +104,8 @@ miss : (k n : ℕ) (r : Written Value AddOne DataError) → n ≢ k → Made n r
 miss k n r other made declared = made.step.is_step.frame (count_id k) (λ has. other (ap (λ (id : ResourceId). id.dynamic_id) (written n r (count_id k) made has)))
 
 -- where a dispatch is Done, each count from 1 to the number of systems is one more
-dispatched_one_more : (most : ℕ) (plan : Plan ResourceId) (x y : Setting Agent ResourceId Value AddOne) (k : ℕ) (number : ℤ) → HasOneForEach most plan → 0 < k → k ≤ most
-    → LeavesAsOneThread (λ list. PlanRun kind_of adds_one plan list (Ok tt)) x y → x.values (count_id k) ≡ Some (count_of number) → y.values (count_id k) ≡ Some (count_of (int_wrapping_add w64 number (pos 1)))
+dispatched_one_more : (most : ℕ) (plan : Plan ResourceId) (x y : Configuration Agent ResourceId Value AddOne) (k : ℕ) (number : ℤ) → HasOneForEach most plan → 0 < k → k ≤ most
+    → IsSerializable (λ list. PlanRun kind_of adds_one plan list (Ok tt)) x y → x.values (count_id k) ≡ Some (count_of number) → y.values (count_id k) ≡ Some (count_of (int_wrapping_add w64 number (pos 1)))
 dispatched_one_more most plan x y k number have above below ran here =
     stepped Made more (count_id k) k (hit k) (miss k) (λ r. is_declared tell_ids r.access (count_id k)) have.numbers ran.list x y (count_of number)
     (all_made have.numbers (plan_entries plan) ran.list have.entries (plan_done kind_of adds_one plan ran.list ran.run)) ran.replays here
@@ -122,10 +122,10 @@ at_ok P (Ok value) is none h = h
 at_ok P (Err error) is none h = absurd (cc)
 
 -- one more dispatch that is no error leaves a plan with one system for each count, and each count one more
-pub dispatched_again : {failed : Bool} (most times : ℕ) (plan left : Plan ResourceId) (x y : Setting Agent ResourceId Value AddOne) (result : Result (Unit {0}) (DispatchError DataError)) → failed ≡ is_err result → failed ≡ false → left ≡ plan
-    → LeavesAsOneThread (λ list. PlanRun kind_of adds_one plan list result) x y → HasOneForEach most plan × HasCountEach most times x.values → HasOneForEach most left × HasCountEach most (times + 1) y.values
+pub dispatched_again : {failed : Bool} (most times : ℕ) (plan left : Plan ResourceId) (x y : Configuration Agent ResourceId Value AddOne) (result : Result (Unit {0}) (DispatchError DataError)) → failed ≡ is_err result → failed ≡ false → left ≡ plan
+    → IsSerializable (λ list. PlanRun kind_of adds_one plan list result) x y → HasOneForEach most plan × HasCountEach most times x.values → HasOneForEach most left × HasCountEach most (times + 1) y.values
 dispatched_again most times plan left x y result is none same ran (have, counts) =
-    let done = at_ok (λ (r : Result (Unit {0}) (DispatchError DataError)). LeavesAsOneThread (λ list. PlanRun kind_of adds_one plan list r) x y) result is none ran in (
+    let done = at_ok (λ (r : Result (Unit {0}) (DispatchError DataError)). IsSerializable (λ list. PlanRun kind_of adds_one plan list r) x y) result is none ran in (
       subst (λ (p : Plan ResourceId). HasOneForEach most p) (sym same) have,
       λ k above below. dispatched_one_more most plan x y k (int_wrap w64 (pos times)) have above below done (counts k above below) ∙ ap (λ n. Some (count_of n)) (one_more_time times),
     )

@@ -4,7 +4,7 @@ use Rattle.std.proofs.Math.Path.{fun_ext}
 use Rattle.indexmap.specs.IndexMap.{values}
 use Rattle.shred_model.specs.Plan.{Plan}
 use Rattle.shred_model.specs.Record.{Agent}
-use Rattle.shred_model.specs.States.{setting_of}
+use Rattle.shred_model.specs.States.{configuration_of}
 use Rattle.shred_world.specs.declared.id.ResourceId.{ResourceId}
 use Rattle.shred_world.specs.Worked.{Held}
 use Rattle.shred.specs.Built.{Built}
@@ -24,7 +24,7 @@ use Rattle.shredscript.specs.Runs.{IsDispatch, IsNotRun, IsRunOf}
 -- the dispatcher has the plan and the systems that were built, and the world has the first values
 pub run-of : (script : Script) (built : Built ScriptSystem) (names : List Pair) (begins : List ℕ) (plan : Plan ResourceId) (states : Agent → Option ScriptSystem) (held : Held Value) → IsBuiltBy script.plan.items built
     → AreNames names built.known → IsPlanPart script.prints_plan names built.plan begins → plan ≡ built.plan → ((path : Agent) → states path ≡ built.states path) → ((id : ResourceId) → held id ≡ first_held (values script.resources) id)
-    → (outcome : Outcome) (text : List ℕ) → IsDispatch plan (setting_of states held) (names_of script.resources) begins outcome text → IsRunOf script outcome text
+    → (outcome : Outcome) (text : List ℕ) → IsDispatch plan (configuration_of states held) (names_of script.resources) begins outcome text → IsRunOf script outcome text
 run-of script built names begins plan states held made known planned same_plan same_states same_held outcome text ran =
     let s : states ≡ built.states = fun_ext same_states in
     let h : held ≡ first_held (values script.resources) = fun_ext same_held in
@@ -35,9 +35,9 @@ run-of script built names begins plan states held made known planned same_plan s
       known = known;
       begins = begins;
       planned = planned;
-      dispatch = subst (λ p. IsDispatch p (setting_of built.states (first_held (values script.resources))) (names_of script.resources) begins outcome text) same_plan
-          (subst (λ v. IsDispatch plan (setting_of built.states v) (names_of script.resources) begins outcome text) h
-          (subst (λ v. IsDispatch plan (setting_of v held) (names_of script.resources) begins outcome text) s ran));
+      dispatch = subst (λ p. IsDispatch p (configuration_of built.states (first_held (values script.resources))) (names_of script.resources) begins outcome text) same_plan
+          (subst (λ v. IsDispatch plan (configuration_of built.states v) (names_of script.resources) begins outcome text) h
+          (subst (λ v. IsDispatch plan (configuration_of v held) (names_of script.resources) begins outcome text) s ran));
     }
 
 -- what is said of an answer implies more of it

@@ -2,7 +2,7 @@
 use Rattle.std.specs.Prelude.{ℕ, Option, Some, None, List, [], ◌∷◌, ◌++◌, IsTrue, IfSome}
 use Rattle.std.specs.Option.{option_map, option_to_list}
 use Rattle.shred_world.specs.declared.id.ResourceId.{ResourceId}
-use Rattle.shred_world.specs.declared.world.data.View.{View}
+use Rattle.shred_world.specs.declared.world.view.View.{View}
 use Rattle.shred_world.specs.Views.{may_write}
 use Rattle.shredscript.specs.declared.step.Operand.{Operand}
 use Rattle.shredscript.specs.declared.step.Operand.TheVariants.{Number, Resource}

@@ -2,7 +2,7 @@
 use Rattle.std.specs.Prelude.{ℕ, ℤ, Option}
 use Rattle.std.specs.Option.{option_map}
 use Rattle.shred_world.specs.declared.id.ResourceId.{ResourceId}
-use Rattle.shred_world.specs.declared.world.data.View.{View}
+use Rattle.shred_world.specs.declared.world.view.View.{View}
 use Rattle.shred_world.specs.Id.{id_of}
 use Rattle.shred_world.specs.Views.{declared_held}
 use Rattle.shred_world.specs.Worked.{Held}

@@ -2,12 +2,12 @@
 use Rattle.std.specs.Prelude.{◌≡◌, ℕ, ◌≤◌, true, List, ◌++◌, length, Option, Some, Result, Ok, Err, OnOk, IfErr}
 use Rattle.std.specs.Io.KnownBytes.{Appends, Consumes, IsAtEnd, Keeps}
 use Rattle.indexmap.specs.IndexMap.{values}
-use Rattle.shred_model.specs.OneThread.{LeavesAsOneThread}
+use Rattle.shred_model.specs.Serializable.{IsSerializable}
 use Rattle.shred_model.specs.Plan.{Plan, plan_ids}
 use Rattle.shred_model.specs.Record.{Agent}
-use Rattle.shred_model.specs.Replay.{Setting}
+use Rattle.shred_model.specs.Replay.{Configuration}
 use Rattle.shred_model.specs.Runs.{Answer}
-use Rattle.shred_model.specs.States.{setting_of}
+use Rattle.shred_model.specs.States.{configuration_of}
 use Rattle.shred_world.specs.declared.id.ResourceId.{ResourceId}
 use Rattle.shred_world.specs.Worked.{Held}
 use Rattle.shred.specs.Built.{Built}
@@ -38,11 +38,11 @@ abbrev pub script_step : ScriptSystem → Held Value → Ends Refusal → Script
 script_step before seen outcome after left = (after ≡ before) × (outcome ≡ steps_outcome before.steps.items seen) × (left ≡ steps_left before.steps.items seen)
 
 -- The plan runs once from this start, and the text goes on with what the run left and how it ended.
-pub record IsDispatch (plan : Plan ResourceId) (start : Setting Agent ResourceId Value ScriptSystem) (resources : List (List ℕ)) (begins : List ℕ) (outcome : Outcome) (text : List ℕ) : Type 0 where
+pub record IsDispatch (plan : Plan ResourceId) (start : Configuration Agent ResourceId Value ScriptSystem) (resources : List (List ℕ)) (begins : List ℕ) (outcome : Outcome) (text : List ℕ) : Type 0 where
   pub answer : Answer (DispatchError Refusal)
   pub states : Agent → Option ScriptSystem
   pub left : Held Value
-  pub ran : LeavesAsOneThread (λ list. PlanRun kind_of script_step plan list answer) start (setting_of states left)
+  pub ran : IsSerializable (λ list. PlanRun kind_of script_step plan list answer) start (configuration_of states left)
   pub outcome_is : outcome ≡ outcome_of answer
   pub text_is : text ≡ begins ++ report resources left outcome
 
@@ -54,7 +54,7 @@ pub record IsRunOf (script : Script) (outcome : Outcome) (text : List ℕ) : Typ
   pub known : AreNames names built.known
   pub begins : List ℕ
   pub planned : IsPlanPart script.prints_plan names built.plan begins
-  pub dispatch : IsDispatch built.plan (setting_of built.states (first_held (values script.resources))) (names_of script.resources) begins outcome text
+  pub dispatch : IsDispatch built.plan (configuration_of built.states (first_held (values script.resources))) (names_of script.resources) begins outcome text
 
 -- A script is not run, since its plan is asked for and a system has no name, of which the first in the plan's order has this id.
 pub record IsUnnamed (script : Script) (id : ℕ) : Type 0 where

@@ -5,7 +5,7 @@ ghost use Rattle.indexmap.specs.IndexMap.{values};
 ghost use Rattle.shred_world.specs.declared.id.ResourceId.{ResourceId};
 ghost use Rattle.shred_world.specs.Worlds.{world_held};
 ghost use Rattle.shred_model.specs.Record.{Agent};
-ghost use Rattle.shred_model.specs.States.{setting_of};
+ghost use Rattle.shred_model.specs.States.{configuration_of};
 ghost use Rattle.shred.specs.Builders.{built, builder_pairs};
 ghost use Rattle.shred.specs.Dispatchers.{dispatcher_plan, dispatcher_states};
 ghost use Rattle.shredscript.specs.declared.error.ScriptError.TheVariants.{OutOfMemory};
@@ -67,7 +67,7 @@ fn dispatch<T: Threads + Sync>(
     resources: &Resources<'_>,
     mut text: Vec<u8>,
 ) -> Result<(Outcome, Vec<u8>), ScriptError>
-    ensures dispatch { IfOk result (λ ran. IsDispatch (dispatcher_plan dispatcher) (setting_of (dispatcher_states dispatcher) (world_held kind_of world)) (names_of resources.now) text.items ran.0 ran.1.items) }
+    ensures dispatch { IfOk result (λ ran. IsDispatch (dispatcher_plan dispatcher) (configuration_of (dispatcher_states dispatcher) (world_held kind_of world)) (names_of resources.now) text.items ran.0 ran.1.items) }
     ensures err { IfErr result (λ error. error ≡ OutOfMemory) }
 {
     text.reserve(most_bytes(resources))?;

@@ -10,11 +10,11 @@ use Rattle.shred_model.specs.Access.{Access}
 use Rattle.shred_model.specs.Plan.{Plan, group_ids, group_time}
 use Rattle.shred.specs.Placement.{greatest_time, difference, dependencies_left, without}
 use Rattle.shred.specs.Search.{holds_any}
-use Rattle.shred.proofs.Membership.{list_any-map}
-use Rattle.shred.proofs.Times.{greatest_time-push, group_time-le-greatest}
-use Rattle.shred.proofs.Ids.{without-first, without-absent}
-use Rattle.shred.proofs.Left.{difference-append}
-use Rattle.shred.proofs.Touching.{read_more}
+use Rattle.shred.proofs.Planner.Membership.{list_any-map}
+use Rattle.shred.proofs.Planner.Times.{greatest_time-push, group_time-le-greatest}
+use Rattle.shred.proofs.Planner.Ids.{without-first, without-absent}
+use Rattle.shred.proofs.Planner.Left.{difference-append}
+use Rattle.shred.proofs.Planner.Touching.{read_more}
 use Rattle.shredtest_planner.specs.Plain.{entry_of, group_of}
 use Rattle.shredtest_planner.specs.Slow.{any_touched, others_touched}
 use Rattle.shredtest_planner.specs.declared.plain_plan.PlainEntry.{PlainEntry}

@@ -1,7 +1,7 @@
 -- Views that stay the same.
 use Rattle.std.proofs.Common.{◌≡◌, ◌∙◌}
 use Rattle.shred_world.specs.declared.id.Kind.{Kind}
-use Rattle.shred_world.specs.declared.world.data.View.{View}
+use Rattle.shred_world.specs.declared.world.view.View.{View}
 use Rattle.shred_world.specs.Grants.{grant_of}
 use Rattle.shred_world.specs.Views.{IsSameLoan, IsSameView}
 

@@ -59,7 +59,7 @@ where
 }
 
 // The turn of the groups, one after the other on the caller's thread.
-fn turn_in_order<V: ResourceValue + Drop, S: System<V, Error = E>, E: Drop>(
+pub(crate) fn turn_in_order<V: ResourceValue + Drop, S: System<V, Error = E>, E: Drop>(
     groups: &mut [Group<V, S>],
     table: &mut Table<V>,
 ) -> Result<(), StageFault<E>>
@@ -75,7 +75,7 @@ fn turn_in_order<V: ResourceValue + Drop, S: System<V, Error = E>, E: Drop>(
 }
 
 // The turn of the groups, beside each other on threads.
-fn turn_beside<
+pub(crate) fn turn_beside<
     R: Threads + Sync,
     V: ResourceValue + Drop + Send + Sync,
     S: System<V, Error = E> + Send,
@@ -97,39 +97,4 @@ where
     let answer = run_beside(rt, table, groups, workers);
     move_all_back(groups, table);
     answer
-}
-
-// The same, of the groups of a stage.
-pub(crate) fn take_turn<V: ResourceValue + Drop, S: System<V, Error = E>, E: Drop>(
-    groups: &mut Vec<Group<V, S>>,
-    table: &mut Table<V>,
-) -> Result<(), StageFault<E>>
-    requires own_lists { All (IsOwnGroup S.reads S.writes) groups.old.items }
-    requires room { All KeepsRoom groups.old.items }
-    requires apart { AreApart group_access (groups_plan groups.old.items) }
-    ensures { TookTurn V.kind_of S.step S.reads S.writes groups.old.items (held V.kind_of table.old) result groups.new.items (held V.kind_of table.new) }
-{
-    turn_in_order(groups.as_mut_slice(), table)
-}
-
-// The same, on threads.
-pub(crate) fn take_turn_beside<
-    R: Threads + Sync,
-    V: ResourceValue + Drop + Send + Sync,
-    S: System<V, Error = E> + Send,
-    E: Drop + Send,
->(
-    rt: &R,
-    groups: &mut Vec<Group<V, S>>,
-    table: &mut Table<V>,
-    workers: usize,
-) -> Result<(), StageFault<E>>
-where
-    S::Accessor: Send,
-    requires own_lists { All (IsOwnGroup S.reads S.writes) groups.old.items }
-    requires room { All KeepsRoom groups.old.items }
-    requires apart { AreApart group_access (groups_plan groups.old.items) }
-    ensures { TookTurn V.kind_of S.step S.reads S.writes groups.old.items (held V.kind_of table.old) result groups.new.items (held V.kind_of table.new) }
-{
-    turn_beside(rt, groups.as_mut_slice(), table, workers)
 }

@@ -2,7 +2,7 @@
 ghost use Rattle.std.specs.Prelude.{◌≡◌, false, map, All};
 ghost use Rattle.std.specs.Option.{option_map};
 ghost use Rattle.shred_model.specs.Runs.{Ran, first_fault};
-ghost use Rattle.shred_model.specs.States.{setting_of, listed_states};
+ghost use Rattle.shred_model.specs.States.{configuration_of, listed_states};
 ghost use Rattle.shred.specs.Entries.{EntryRun, GroupRun, entry_states};
 ghost use Rattle.shred.specs.Kept.{AreOwnLists};
 ghost use Rattle.shred.specs.Hands.{HasEntryRoom, HasPlace};
@@ -55,16 +55,6 @@ fn step_over<'s, V: ResourceValue, S: System<V>>(
     system.run(&mut view)
 }
 
-// The shelf on which a table stands before what is lent behind it.
-fn shelf_before<'s, V>(own: &'s Table<V>, shelf: &'s [Shelf<'s, V>]) -> Shelf<'s, V>
-    ensures { (id : ResourceId) → shelf_slot result id ≡ lent_before own.now (lent_slot shelf.now) id }
-{
-    match shelf.first() {
-        Some(rest) => Shelf::Before(own, &[], rest),
-        None => Shelf::Last(own),
-    }
-}
-
 // One step of the entry's system, over the entry's hand, while the table is lent shared.
 fn step_in_hand<V: ResourceValue, S: System<V>>(
     entry: &mut Entry<V, S>,
@@ -82,7 +72,7 @@ fn step_in_hand<V: ResourceValue, S: System<V>>(
     ensures writes { entry.new.writes ≡ entry.old.writes }
     ensures own_lists { AreOwnLists (S.reads entry.new.system) (S.writes entry.new.system) entry.new.reads.items entry.new.writes.items }
 {
-    let behind = [shelf_before(own, shelf)];
+    let behind = [Shelf::before(own, &[], shelf)];
     step_over(
         entry.reads.as_slice(),
         entry.writes.as_slice(),
@@ -176,7 +166,7 @@ fn run_entry<V: ResourceValue + Drop, S: System<V>>(
     requires own_lists { IsOwnEntry S.reads S.writes entry.old }
     requires own_slots { HasOwnSlots entry.old.writes.items (lent_slot shelf.now) own.old }
     requires place { HasPlace single own.old entry.old }
-    ensures ran { Ran (EntryRun V.kind_of S.step 0 (entry_plan entry.old)) (setting_of (entry_states entry.old) (shown V.kind_of (lent_slot shelf.now) own.old)) result (setting_of (entry_states entry.new) (shown V.kind_of (lent_slot shelf.now) own.new)) }
+    ensures ran { Ran (EntryRun V.kind_of S.step 0 (entry_plan entry.old)) (configuration_of (entry_states entry.old) (shown V.kind_of (lent_slot shelf.now) own.old)) result (configuration_of (entry_states entry.new) (shown V.kind_of (lent_slot shelf.now) own.new)) }
     ensures plan { entry_plan entry.new ≡ entry_plan entry.old }
     ensures own_lists { IsOwnEntry S.reads S.writes entry.new }
     ensures place { HasPlace single own.new entry.new }
@@ -202,7 +192,7 @@ pub(crate) fn run_entries<V: ResourceValue + Drop, S: System<V>>(
     requires own_lists { All (IsOwnEntry S.reads S.writes) entries.old }
     requires own_slots { HasGroupSlots (lent_slot shelf.now) own.old (map entry_plan entries.old) }
     requires places { All (HasPlace single own.old) entries.old }
-    ensures ran { Ran (GroupRun V.kind_of S.step 0 (map entry_plan entries.old)) (setting_of (listed_states entry_states entries.old) (shown V.kind_of (lent_slot shelf.now) own.old)) result (setting_of (listed_states entry_states entries.new) (shown V.kind_of (lent_slot shelf.now) own.new)) }
+    ensures ran { Ran (GroupRun V.kind_of S.step 0 (map entry_plan entries.old)) (configuration_of (listed_states entry_states entries.old) (shown V.kind_of (lent_slot shelf.now) own.old)) result (configuration_of (listed_states entry_states entries.new) (shown V.kind_of (lent_slot shelf.now) own.new)) }
     ensures plan { map entry_plan entries.new ≡ map entry_plan entries.old }
     ensures own_lists { All (IsOwnEntry S.reads S.writes) entries.new }
     ensures kinds { (id : ResourceId) → option_map V.kind_of (shown V.kind_of (lent_slot shelf.now) own.new id) ≡ option_map V.kind_of (shown V.kind_of (lent_slot shelf.now) own.old id) }

@@ -12,7 +12,7 @@ ghost use Rattle.shred.specs.Search.{is_touched, may_end, OthersDoNotConflict, S
 ghost use Rattle.shred.specs.Sides.{stage_side};
 ghost use Rattle.shred.specs.Soundness.{IsSmallGroup};
 
-use crate::dispatch::beside::{take_turn, take_turn_beside};
+use crate::dispatch::beside::{turn_beside, turn_in_order};
 use crate::dispatch::entry::{Entry, Group, Side, SystemId};
 use crate::dispatch::run::StageFault;
 use crate::system::System;
@@ -216,7 +216,7 @@ impl<V: ResourceValue + Drop, S: System<V, Error = E>, E: Drop> Stage<V, S> {
     pub fn execute_seq(&mut self, world: &mut World<V>) -> Result<(), StageFault<E>>
         ensures { Dispatched V.kind_of (StageTurn V.kind_of S.step) (stage_over V.kind_of self.old world.old) result (stage_over V.kind_of self.new world.new) }
     {
-        take_turn(&mut self.groups, table_of(world))
+        turn_in_order(self.groups.as_mut_slice(), table_of(world))
     }
 }
 
@@ -248,6 +248,6 @@ where
         if self.groups.len() < 2 {
             return self.execute_seq(world);
         }
-        take_turn_beside(rt, &mut self.groups, table_of(world), WORKERS)
+        turn_beside(rt, self.groups.as_mut_slice(), table_of(world), WORKERS)
     }
 }

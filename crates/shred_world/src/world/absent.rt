@@ -9,7 +9,7 @@ use crate::accessor::OutOfMemory;
 use crate::id::ResourceId;
 use crate::resource::{Resource, ResourceValue};
 use crate::world::bundle::SystemData;
-use crate::world::data::{DataError, View};
+use crate::world::view::{DataError, View};
 use crate::world::read::Read;
 use crate::world::write::Write;
 use crate::world::{World, WorldError};

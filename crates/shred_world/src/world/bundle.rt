@@ -10,7 +10,7 @@ ghost use Rattle.shred_world.specs.Worlds.{world_held};
 use crate::accessor::OutOfMemory;
 use crate::id::ResourceId;
 use crate::resource::ResourceValue;
-use crate::world::data::{DataError, View};
+use crate::world::view::{DataError, View};
 use crate::world::{World, WorldError};
 use std::alloc::Global;
 
@@ -75,7 +75,7 @@ pub trait SystemData<'s, V: ResourceValue> {
 
 impl<'s, 'a, V: ResourceValue> View<'s, 'a, V> {
     /// Takes a bundle of the view; where a part is refused, the view is as before.
-    #[tactic(auto, using(crate::proofs::Bundles::taken_are_out, crate::proofs::Bundles::taken_as_before))]
+    #[tactic(auto, using(crate::proofs::Bundles::Parts::taken_are_out, crate::proofs::Bundles::Parts::taken_as_before))]
     pub fn system_data<D: SystemData<'s, V>>(&mut self) -> Result<D, DataError>
         ensures refused { IfErr result (IsRefused (grant_of V.kind_of self.old) D.parts) }
         ensures passed { OnOk result (bundle_refusal (grant_of V.kind_of self.old) D.parts ≡ None) }

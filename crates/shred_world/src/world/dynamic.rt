@@ -8,7 +8,7 @@ ghost use Rattle.shred_world.specs.Worlds.{world_held};
 use crate::accessor::{Accessor, BatchAccessor};
 use crate::resource::ResourceValue;
 use crate::world::bundle::SystemData;
-use crate::world::data::{DataError, View};
+use crate::world::view::{DataError, View};
 use crate::world::{World, WorldError};
 
 /// Resources that are taken of a view together, as an accessor says, and given back.

@@ -13,7 +13,7 @@ use crate::accessor::OutOfMemory;
 use crate::id::ResourceId;
 use crate::resource::ResourceValue;
 use crate::table::Table;
-use crate::world::data::View;
+use crate::world::view::View;
 use crate::world::parted::Parts;
 use crate::world::parts::Behind;
 use std::alloc::Global;

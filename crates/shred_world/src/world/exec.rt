@@ -10,7 +10,7 @@ ghost use Rattle.shred_world.specs.declared.id.ResourceId.{ResourceId};
 use crate::resource::ResourceValue;
 use crate::table::Table;
 use crate::world::bundle::SystemData;
-use crate::world::data::{DataError, View};
+use crate::world::view::{DataError, View};
 use crate::world::{World, WorldError};
 
 impl<V: ResourceValue> World<V> {

@@ -13,7 +13,7 @@ ghost use Rattle.shred_world.specs.Views.{view_held, is_out, is_own, noted, tabl
 use crate::accessor::OutOfMemory;
 use crate::id::ResourceId;
 use crate::resource::{Resource, ResourceValue};
-use crate::world::data::View;
+use crate::world::view::View;
 
 /// A resource that a view has handed out: lent shared, or moved out of its slot.
 pub(crate) enum Handed<'s, R> {
@@ -44,7 +44,7 @@ impl<'s, 'a, V: ResourceValue> View<'s, 'a, V> {
     }
 
     // Moves out what the view's own slot of an id of the resource's kind holds, if it holds something.
-    #[tactic(auto, using(crate::proofs::Refusals::own_held))]
+    #[tactic(auto, using(crate::proofs::Views::Refusals::own_held))]
     pub(crate) fn take_out<R: Resource<V>>(
         &mut self,
         id: ResourceId,
@@ -105,7 +105,7 @@ impl<'s, 'a, V: ResourceValue> View<'s, 'a, V> {
     }
 
     // Hands out what is held under an id of the resource's kind, if something is.
-    #[tactic(auto, using(crate::proofs::Grants::moved_shown, crate::proofs::Grants::shared_shown))]
+    #[tactic(auto, using(crate::proofs::Bundles::Grants::moved_shown, crate::proofs::Bundles::Grants::shared_shown))]
     pub(crate) fn hand_out<R: Resource<V>>(
         &mut self,
         id: ResourceId,

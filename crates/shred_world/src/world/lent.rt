@@ -13,7 +13,7 @@ use crate::resource::ResourceValue;
 use crate::table::Table;
 use crate::world::World;
 use crate::world::bundle::SystemData;
-use crate::world::data::{DataError, View};
+use crate::world::view::{DataError, View};
 use std::ops::{Deref, DerefMut};
 
 /// A bundle that was taken on a world. It goes back by `give_back`.

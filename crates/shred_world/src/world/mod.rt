@@ -10,7 +10,7 @@ use crate::accessor::OutOfMemory;
 use crate::id::{Kind, ResourceId};
 use crate::resource::{Resource, ResourceValue};
 use crate::table::Table;
-use crate::world::data::View;
+use crate::world::view::View;
 use crate::world::entry::Entry;
 use crate::world::fetch::{Fetch, FetchMut};
 use std::alloc::Global;
@@ -18,7 +18,7 @@ use thiserror::Error;
 
 pub mod absent;
 pub mod bundle;
-pub mod data;
+pub mod view;
 pub mod dynamic;
 pub mod each;
 pub mod entry;

@@ -14,7 +14,7 @@ use crate::id::ResourceId;
 use crate::parting::{move_back, move_out};
 use crate::resource::ResourceValue;
 use crate::table::Table;
-use crate::world::data::{Shelf, View};
+use crate::world::view::{Shelf, View};
 use crate::world::parted::Parts;
 use crate::world::tuples::joined;
 use std::alloc::Global;
@@ -125,20 +125,6 @@ impl<'p, 's, V> Behind<'p, 's, V> {
     }
 }
 
-// A table before a shelf, where there is one; the ids of the list are not looked for behind the table.
-pub(crate) fn shelf_before<'b, V>(
-    table: &'b Table<V>,
-    owned: &'b [ResourceId],
-    shelf: &'b [Shelf<'b, V>],
-) -> Shelf<'b, V>
-    ensures { (q : ResourceId) → shelf_slot result q ≡ or_slot (slot_at table.now q) (cond (among owned.now q) None (lent_slot shelf.now q)) }
-{
-    match shelf.first() {
-        Some(rest) => Shelf::Before(table, owned, rest),
-        None => Shelf::Last(table),
-    }
-}
-
 impl<'s, 'a, V: ResourceValue + Drop> View<'s, 'a, V> {
     /// Moves the values of the ids that each pair writes into a hand of the pair. The slots that they leave stay, and the
     /// ids of these slots are out until `Parts::join` moves the values back. If memory is refused, nothing was moved.
@@ -193,7 +179,7 @@ impl<'p, 'a, V: ResourceValue + Drop> Parts<'p, 'a, V> {
     {
         Behind {
             pairs: self.pairs,
-            shelf: [shelf_before(lender.own, lender.owned, lender.shelf)],
+            shelf: [Shelf::before(lender.own, lender.owned, lender.shelf)],
         }
     }
 

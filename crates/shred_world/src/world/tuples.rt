@@ -6,7 +6,7 @@ use crate::accessor::OutOfMemory;
 use crate::id::ResourceId;
 use crate::resource::ResourceValue;
 use crate::world::bundle::SystemData;
-use crate::world::data::{DataError, View};
+use crate::world::view::{DataError, View};
 use crate::world::{World, WorldError};
 use std::alloc::Global;
 

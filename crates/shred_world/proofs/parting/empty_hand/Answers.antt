@@ -1,7 +1,7 @@
 use Rattle.std.proofs.Common.{Some, None, slice_index_or, ◌∙◌, arith}
 use Rattle.shred_world.specs.declared.id.ResourceId.{ResourceId}
 use Rattle.shred_world.specs.Slots.{slot_at}
-use Rattle.shred_world.proofs.Moves.{cond-more, cond-all, with_at-here, with_at-there}
+use Rattle.shred_world.proofs.Tables.Moves.{cond-more, cond-all, with_at-here, with_at-there}
 use Rattle.shred_world.proofs.parting.empty_hand.Goals as goal
 
 pub loop-id-preserved : goal.loop-id-preserved

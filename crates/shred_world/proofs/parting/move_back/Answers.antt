@@ -1,7 +1,7 @@
 use Rattle.std.proofs.Common.{◌∙◌}
 use Rattle.std.specs.Prelude.{is_some}
 use Rattle.shred_world.specs.Slots.{slot_at, among}
-use Rattle.shred_world.proofs.Moves.{given-home, left-empty}
+use Rattle.shred_world.proofs.Tables.Moves.{given-home, left-empty}
 use Rattle.shred_world.proofs.parting.move_back.Goals as goal
 
 pub returns-clause-back : goal.returns-clause-back

@@ -2,8 +2,8 @@ use Rattle.std.proofs.Common.{slice_index_or, take, ◌∙◌, ap, arith}
 use Rattle.shred_world.specs.declared.id.ResourceId.{ResourceId}
 use Rattle.shred_world.specs.Parting.{emptied, slot_value, given}
 use Rattle.shred_world.specs.Slots.{slot_at, among}
-use Rattle.shred_world.proofs.Slots.{same_id-true}
-use Rattle.shred_world.proofs.Moves.{cond-more, cond-all, with_at-here, with_at-there, left-more, given-more}
+use Rattle.shred_world.proofs.Tables.Slots.{same_id-true}
+use Rattle.shred_world.proofs.Tables.Moves.{cond-more, cond-all, with_at-here, with_at-there, left-more, given-more}
 use Rattle.shred_world.proofs.parting.move_each.Goals as goal
 
 pub loop-id-preserved : goal.loop-id-preserved

@@ -1,6 +1,6 @@
 use Rattle.std.proofs.Common.{◌∙◌}
 use Rattle.shred_world.specs.Slots.{slot_at, among}
-use Rattle.shred_world.proofs.Moves.{given-room}
+use Rattle.shred_world.proofs.Tables.Moves.{given-room}
 use Rattle.shred_world.proofs.parting.move_out.Goals as goal
 
 pub returns-clause-hand : goal.returns-clause-hand

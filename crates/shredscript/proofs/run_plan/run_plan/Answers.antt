@@ -3,7 +3,7 @@ use Rattle.shred_world.specs.Worlds.{world_held}
 use Rattle.shred.specs.Builders.{built, builder_pairs}
 use Rattle.shred.specs.Dispatchers.{dispatcher_plan, dispatcher_states}
 use Rattle.shredscript.specs.Value.{kind_of}
-use Rattle.shred.proofs.KnownNames.{names-known}
+use Rattle.shred.proofs.Names.KnownNames.{names-known}
 use Rattle.shredscript.proofs.Runs.{run-of, not-run, ok-then}
 use Rattle.shredscript.proofs.run_plan.run_plan.Goals as goal
 

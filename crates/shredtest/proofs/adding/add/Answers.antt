@@ -2,7 +2,7 @@ use Rattle.std.proofs.Common.{◌≡◌, is_ok, IsOk, ap}
 use Rattle.std.specs.Prelude.{is_some}
 use Rattle.shred_world.specs.Views.{view_held}
 use Rattle.shredtest.specs.Values.{kind_of}
-use Rattle.shred_world.proofs.KeptIds.{ids-kept}
+use Rattle.shred_world.proofs.Views.KeptIds.{ids-kept}
 use Rattle.shredtest.proofs.adding.add.Goals as goal
 
 pub returns-clause-ids : goal.returns-clause-ids

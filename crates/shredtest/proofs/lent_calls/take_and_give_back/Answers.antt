@@ -1,7 +1,7 @@
 use Rattle.std.proofs.Common.{sym, ap, ◌∙◌}
 use Rattle.shred_world.specs.Grants.{Grant}
 use Rattle.shred_world.specs.Worlds.{world_held}
-use Rattle.shred_world.proofs.Bundles.{taken_as_before}
+use Rattle.shred_world.proofs.Bundles.Parts.{taken_as_before}
 use Rattle.shredtest.proofs.lent_calls.take_and_give_back.Goals as goal
 
 pub returns-in-Ok : goal.returns-in-Ok

@@ -2,7 +2,7 @@ use Rattle.std.proofs.Common.{IsOk, is_ok, ap}
 use Rattle.std.specs.Prelude.{is_some}
 use Rattle.shred_world.specs.Views.{view_held}
 use Rattle.shredtest.specs.Values.{kind_of}
-use Rattle.shred_world.proofs.KeptIds.{ids-kept}
+use Rattle.shred_world.proofs.Views.KeptIds.{ids-kept}
 use Rattle.shredtest.proofs.parted_calls.exchange.Goals as goal
 
 pub returns-in_default-write-clause-first_ids : goal.returns-in_default-write-clause-first_ids

@@ -6,9 +6,9 @@ use Rattle.shred_world.specs.Beside.{lent_behind, parted_of}
 use Rattle.shred_world.specs.Parts.{Pair, HasNothingOut, HoldsSameIds, HoldsIdsOf, HoldsWritten, Fits, IsHandOf, written_by}
 use Rattle.shred_world.specs.Shown.{Lent, IsSameSlots}
 use Rattle.shred_world.specs.Slots.{slot_at}
-use Rattle.shred_world.proofs.Beside.{held-kept, same-again}
-use Rattle.shred_world.proofs.Pairs.{zip-length, written-over}
-use Rattle.shred_world.proofs.Parted.{fit-again}
+use Rattle.shred_world.proofs.Parted.Beside.{held-kept, same-again}
+use Rattle.shred_world.proofs.Parted.Pairs.{zip-length, written-over}
+use Rattle.shred_world.proofs.Parted.Hands.{fit-again}
 use Rattle.shredtest.specs.Values.{kind_of}
 use Rattle.shredtest.specs.declared.values.Value.{Value}
 use Rattle.shredtest.proofs.parted_in_two.over_parts.Goals as goal

@@ -2,7 +2,7 @@ use Rattle.std.proofs.Common.{IsOk, is_ok, ap}
 use Rattle.std.specs.Prelude.{is_some}
 use Rattle.shred_world.specs.Views.{view_held}
 use Rattle.shredtest.specs.Values.{kind_of}
-use Rattle.shred_world.proofs.KeptIds.{ids-kept}
+use Rattle.shred_world.proofs.Views.KeptIds.{ids-kept}
 use Rattle.shredtest_plans.proofs.shared_reads.put.Goals as goal
 
 pub returns-in-Ok-clause-ids : goal.returns-in-Ok-clause-ids

@@ -1,6 +1,6 @@
-use Rattle.shred.proofs.Forked.{write-apart}
-use Rattle.shred.proofs.ForkedRuns.{ready-all, forked-apart, forked-fits}
-use Rattle.shred.proofs.TakenTurns.{turn-taken}
+use Rattle.shred.proofs.Runs.Forked.{write-apart}
+use Rattle.shred.proofs.Runs.ForkedRuns.{ready-all, forked-apart, forked-fits}
+use Rattle.shred.proofs.Runs.TakenTurns.{turn-taken}
 use Rattle.shred.proofs.dispatch.beside.turn_in_order.Goals as goal
 
 pub move_all_out-requires-clause-apart : goal.move_all_out-requires-clause-apart

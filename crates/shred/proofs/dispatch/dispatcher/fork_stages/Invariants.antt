@@ -1,7 +1,7 @@
 use Rattle.std.proofs.Common.{◌≡◌, map}
 use Rattle.std.specs.Option.{option_map}
-use Rattle.shred_model.specs.States.{setting_of, listed_states}
-use Rattle.shred_model.proofs.UpToFault.{SoFar}
+use Rattle.shred_model.specs.States.{configuration_of, listed_states}
+use Rattle.shred_model.proofs.Joined.UpToFault.{SoFar}
 use Rattle.shred_world.specs.declared.id.ResourceId.{ResourceId}
 use Rattle.shred_world.specs.Worlds.{world_held}
 use Rattle.shred.specs.Plans.{PlanTurn, stage_states}
@@ -13,5 +13,5 @@ invariant-loop-place g l = record {
   plan : map stage_plan l.stages ≡ map stage_plan l.initial.stages;
   kinds : (id : ResourceId) → option_map g.V.ResourceValue.kind_of (world_held g.V.ResourceValue.kind_of l.world id) ≡ option_map g.V.ResourceValue.kind_of (world_held g.V.ResourceValue.kind_of l.initial.world id);
   ran : SoFar (PlanTurn g.V.ResourceValue.kind_of g.S.System.step) l.place (map stage_plan l.initial.stages)
-      (setting_of (listed_states stage_states l.initial.stages) (world_held g.V.ResourceValue.kind_of l.initial.world)) (setting_of (listed_states stage_states l.stages) (world_held g.V.ResourceValue.kind_of l.world));
+      (configuration_of (listed_states stage_states l.initial.stages) (world_held g.V.ResourceValue.kind_of l.initial.world)) (configuration_of (listed_states stage_states l.stages) (world_held g.V.ResourceValue.kind_of l.world));
 }

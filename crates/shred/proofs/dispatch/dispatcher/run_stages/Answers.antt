@@ -1,12 +1,12 @@
 use Rattle.std.proofs.Common.{◌∙◌, get_or, Ok, Err, refl, arith}
 use Rattle.std.proofs.Math.Seq.{map-set_same}
-use Rattle.shred_model.proofs.UpToFault.{SoFar-start, SoFar-more, SoFar-fault, SoFar-end}
+use Rattle.shred_model.proofs.Joined.UpToFault.{SoFar-start, SoFar-more, SoFar-fault, SoFar-end}
 use Rattle.shred_world.specs.Worlds.{world_held}
 use Rattle.shred.specs.Dispatched.{stages_over}
 use Rattle.shred.specs.Plans.{PlanTurn, stage_states}
 use Rattle.shred.specs.StagePlan.{stage_plan}
-use Rattle.shred.proofs.Dispatched.{run-dispatched}
-use Rattle.shred.proofs.PlanTurns.{turn-ran}
+use Rattle.shred.proofs.Runs.Dispatched.{run-dispatched}
+use Rattle.shred.proofs.Runs.PlanTurns.{turn-ran}
 use Rattle.shred.proofs.dispatch.dispatcher.run_stages.Goals as goal
 
 pub loop-place-init : goal.loop-place-init

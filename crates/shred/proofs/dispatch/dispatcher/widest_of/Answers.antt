@@ -1,6 +1,6 @@
 use Rattle.std.proofs.Common.{arith}
 use Rattle.shred.specs.StagePlan.{stage_plan}
-use Rattle.shred.proofs.Widest.{widest-more}
+use Rattle.shred.proofs.Planner.Widest.{widest-more}
 use Rattle.shred.proofs.dispatch.dispatcher.widest_of.Goals as goal
 
 pub loop-place-preserved : goal.loop-place-preserved

@@ -2,7 +2,7 @@ use Rattle.std.proofs.Common.{◌<◌, ◌≤◌, length, arith, rules, below_mo
 use Rattle.std.proofs.lemmas.List.{length-map}
 use Rattle.shred.specs.declared.dispatch.entry.SystemId.{SystemId}
 use Rattle.shred.specs.PlanOf.{numbers_of}
-use Rattle.shred.proofs.Ids.{number_is, number_is_not, without-first, without-absent}
+use Rattle.shred.proofs.Planner.Ids.{number_is, number_is_not, without-first, without-absent}
 use Rattle.shred.proofs.dispatch.entry.place_of.Goals as goal
 
 pub returns-then-eq-clause-found : goal.returns-then-eq-clause-found

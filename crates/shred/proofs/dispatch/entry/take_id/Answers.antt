@@ -1,6 +1,6 @@
 use Rattle.std.proofs.Common.{◌∙◌, sym, ap}
 use Rattle.shred.specs.PlanOf.{numbers_of}
-use Rattle.shred.proofs.Ids.{numbers_of-remove}
+use Rattle.shred.proofs.Planner.Ids.{numbers_of-remove}
 use Rattle.shred.proofs.dispatch.entry.take_id.Goals as goal
 
 pub returns-in-Some : goal.returns-in-Some

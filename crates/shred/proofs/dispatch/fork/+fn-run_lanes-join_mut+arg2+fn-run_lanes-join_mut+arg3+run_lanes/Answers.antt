@@ -1,5 +1,5 @@
 use Rattle.std.proofs.Common.{rules}
-use Rattle.shred_model.proofs.AllWent.{AllWent-halves}
+use Rattle.shred_model.proofs.Joined.AllWent.{AllWent-halves}
 use Rattle.shred.proofs.dispatch.fork.+fn-run_lanes-join_mut+arg2+fn-run_lanes-join_mut+arg3+run_lanes.Goals as goal
 
 pub returns : goal.returns

@@ -1,7 +1,7 @@
 use Rattle.std.proofs.Common.{◌≡◌, ◌+◌, set, sym, ◌∙◌, ap, subst, arith}
 use Rattle.shred_model.specs.Runs.{first_fault}
-use Rattle.shred_model.proofs.FirstFault.{first_fault-Ok}
-use Rattle.shred_model.proofs.AllWent.{WentTo, WentTo-start, WentTo-length, WentTo-at, WentTo-more, WentTo-end}
+use Rattle.shred_model.proofs.Joined.FirstFault.{first_fault-Ok}
+use Rattle.shred_model.proofs.Joined.AllWent.{WentTo, WentTo-start, WentTo-length, WentTo-at, WentTo-more, WentTo-end}
 use Rattle.shred.proofs.dispatch.fork.run_each.Goals as goal
 use Rattle.shred.proofs.dispatch.fork.run_each.Goals.{in-Ok, in-Err}
 

@@ -1,4 +1,4 @@
-use Rattle.shred_model.proofs.AllWent.{WentTo}
+use Rattle.shred_model.proofs.Joined.AllWent.{WentTo}
 use Rattle.shred.proofs.dispatch.fork.run_each.Given as goal
 
 abbrev pub invariant-loop-lane : goal.invariant-loop-lane

@@ -4,10 +4,10 @@ use Rattle.shred_world.specs.declared.id.ResourceId.{ResourceId}
 use Rattle.shred_world.specs.declared.table.Slot.{Slot}
 use Rattle.shred_world.specs.Parting.{given, slot_value}
 use Rattle.shred_world.specs.Slots.{slot_at, among}
-use Rattle.shred_world.proofs.Pairs.{zip-at, zip-more, zip-end}
+use Rattle.shred_world.proofs.Parted.Pairs.{zip-at, zip-more, zip-end}
 use Rattle.shred.specs.Hands.{Fits, IsLeftEmpty, some_writes}
 use Rattle.shred.specs.declared.dispatch.entry.Group.{Group}
-use Rattle.shred.proofs.Sweeps.{Untouched, untouched-start, untouched-length, joined-more, joined-rest, joined-all}
+use Rattle.shred.proofs.Runs.Sweeps.{Untouched, untouched-start, untouched-length, joined-more, joined-rest, joined-all}
 use Rattle.shred.proofs.dispatch.hands.move_all_back.Goals as goal
 
 pub loop-group-init : goal.loop-group-init

@@ -1,9 +1,9 @@
 use Rattle.std.proofs.Common.{◌≡◌}
 use Rattle.shred_world.specs.declared.id.ResourceId.{ResourceId}
 use Rattle.shred_world.specs.Slots.{slot_at}
-use Rattle.shred_world.proofs.Pairs.{ZipTo}
+use Rattle.shred_world.proofs.Parted.Pairs.{ZipTo}
 use Rattle.shred.specs.Hands.{Fits, IsLeftEmpty}
-use Rattle.shred.proofs.Sweeps.{Untouched, joined}
+use Rattle.shred.proofs.Runs.Sweeps.{Untouched, joined}
 use Rattle.shred.proofs.dispatch.hands.move_all_back.Given as goal
 
 abbrev pub invariant-loop-group : goal.invariant-loop-group

@@ -4,10 +4,10 @@ use Rattle.std.proofs.lemmas.List.Folds.{list_any_more}
 use Rattle.shred_world.specs.declared.id.ResourceId.{ResourceId}
 use Rattle.shred_world.specs.Parting.{emptied}
 use Rattle.shred_world.specs.Slots.{slot_at, among}
-use Rattle.shred_world.proofs.Pairs.{zip-at, zip-more, zip-end, left-or}
+use Rattle.shred_world.proofs.Parted.Pairs.{zip-at, zip-more, zip-end, left-or}
 use Rattle.shred.specs.Hands.{HasEmptyHand, IsMovedOut, some_writes}
 use Rattle.shred.specs.declared.dispatch.entry.Group.{Group}
-use Rattle.shred.proofs.Sweeps.{carried-now, Untouched, untouched-start, untouched-length, written-before}
+use Rattle.shred.proofs.Runs.Sweeps.{carried-now, Untouched, untouched-start, untouched-length, written-before}
 use Rattle.shred.proofs.dispatch.hands.move_all_out.Goals as goal
 
 pub loop-group-init : goal.loop-group-init

@@ -2,9 +2,9 @@ use Rattle.std.proofs.Common.{◌≡◌, cond, take}
 use Rattle.shred_world.specs.declared.id.ResourceId.{ResourceId}
 use Rattle.shred_world.specs.Parting.{emptied}
 use Rattle.shred_world.specs.Slots.{slot_at}
-use Rattle.shred_world.proofs.Pairs.{ZipTo}
+use Rattle.shred_world.proofs.Parted.Pairs.{ZipTo}
 use Rattle.shred.specs.Hands.{HasEmptyHand, IsMovedOut, some_writes}
-use Rattle.shred.proofs.Sweeps.{Untouched}
+use Rattle.shred.proofs.Runs.Sweeps.{Untouched}
 use Rattle.shred.proofs.dispatch.hands.move_all_out.Given as goal
 
 abbrev pub invariant-loop-group : goal.invariant-loop-group

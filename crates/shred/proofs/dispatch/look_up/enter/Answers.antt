@@ -1,5 +1,5 @@
 use Rattle.std.proofs.Common.{◌≡◌, ◌==◌, ◌∙◌, true, false, length, sym, ap}
-use Rattle.shred.proofs.Known.{name-entered}
+use Rattle.shred.proofs.Names.Known.{name-entered}
 use Rattle.shred.proofs.dispatch.look_up.enter.Goals as goal
 use Rattle.shred.proofs.dispatch.look_up.enter.Goals.{in-Ok-insert, in-Err}
 

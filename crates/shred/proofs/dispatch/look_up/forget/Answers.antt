@@ -1,4 +1,4 @@
-use Rattle.shred.proofs.Known.{name-forgotten}
+use Rattle.shred.proofs.Names.Known.{name-forgotten}
 use Rattle.shred.proofs.dispatch.look_up.forget.Goals as goal
 
 pub returns-clause-forgotten : goal.returns-clause-forgotten

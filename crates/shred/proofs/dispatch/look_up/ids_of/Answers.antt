@@ -1,8 +1,8 @@
 use Rattle.std.proofs.Common.{◌≡◌, ◌≤◌, ◌∙◌, ap, ℕ, List, [], take, get_or, length, arith}
 use Rattle.shred.specs.Known.{texts_of}
 use Rattle.shred.specs.Names.{names_of}
-use Rattle.shred.proofs.Known.{known-number, ids-next}
-use Rattle.shred.proofs.Searching.{mapped_at}
+use Rattle.shred.proofs.Names.Known.{known-number, ids-next}
+use Rattle.shred.proofs.Planner.Searching.{mapped_at}
 use Rattle.shred.proofs.dispatch.look_up.ids_of.Goals as goal
 use denote.Ref.{Bor}
 use Rattle.std.proofs.lemmas.List.{length-map, take_all}

@@ -3,8 +3,8 @@ use Rattle.std.proofs.lemmas.List.{length-map}
 use Rattle.shred_model.specs.Plan.{stage_ids, plan_ids}
 use Rattle.shred.specs.Names.{first_unnamed, pairs_of}
 use Rattle.shred.specs.StagePlan.{plan_of, stage_plan}
-use Rattle.shred.proofs.Searching.{mapped_read}
-use Rattle.shred.proofs.Unnamed.{unnamed-next, unnamed-found, unnamed-ended}
+use Rattle.shred.proofs.Planner.Searching.{mapped_read}
+use Rattle.shred.proofs.Names.Unnamed.{unnamed-next, unnamed-found, unnamed-ended}
 use Rattle.shred.proofs.dispatch.printing.first_unnamed.Goals as goal
 
 pub returns-in-Some : goal.returns-in-Some

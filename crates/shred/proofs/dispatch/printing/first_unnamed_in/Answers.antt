@@ -4,7 +4,7 @@ use Rattle.std.proofs.lemmas.Option.{slice_get-get_or}
 use Rattle.shred_model.specs.Plan.{group_ids, stage_ids}
 use Rattle.shred.specs.Names.{first_unnamed, pairs_of}
 use Rattle.shred.specs.StagePlan.{stage_plan}
-use Rattle.shred.proofs.Unnamed.{unnamed-next, unnamed-found, unnamed-ended}
+use Rattle.shred.proofs.Names.Unnamed.{unnamed-next, unnamed-found, unnamed-ended}
 use Rattle.shred.proofs.dispatch.printing.first_unnamed_in.Goals as goal
 use Rattle.shred.proofs.dispatch.printing.first_unnamed_in.Goals.{in-Some+in_default-first_unnamed_of, in_default}
 

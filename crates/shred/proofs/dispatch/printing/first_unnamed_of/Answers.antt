@@ -3,8 +3,8 @@ use Rattle.std.proofs.lemmas.List.{length-map}
 use Rattle.shred.specs.Names.{first_unnamed, pairs_of}
 use Rattle.shred.specs.PlanOf.{numbers_of}
 use Rattle.shred.specs.declared.dispatch.entry.SystemId.{SystemId}
-use Rattle.shred.proofs.Searching.{mapped_at}
-use Rattle.shred.proofs.Unnamed.{unnamed-passed, unnamed-is, unnamed-passed-all, none-copied}
+use Rattle.shred.proofs.Planner.Searching.{mapped_at}
+use Rattle.shred.proofs.Names.Unnamed.{unnamed-passed, unnamed-is, unnamed-passed-all, none-copied}
 use Rattle.shred.proofs.dispatch.printing.first_unnamed_of.Goals as goal
 
 pub returns-then-is_none : goal.returns-then-is_none

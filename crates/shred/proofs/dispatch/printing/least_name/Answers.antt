@@ -2,7 +2,7 @@ use Rattle.std.proofs.Common.{None, map, sym, ◌∙◌, ap}
 use Rattle.std.specs.Prelude.{option_copied}
 use Rattle.std.specs.String.{string_bytes}
 use Rattle.shred.specs.Names.{lesser, least_name, least_of, pairs_of}
-use Rattle.shred.proofs.Names.{least-taken, least-passed, least-ended}
+use Rattle.shred.proofs.Names.LeastNames.{least-taken, least-passed, least-ended}
 use Rattle.shred.proofs.dispatch.printing.least_name.Goals as goal
 
 pub loop-name-init : goal.loop-name-init

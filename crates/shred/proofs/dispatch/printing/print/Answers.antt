@@ -3,7 +3,7 @@ use Rattle.shred_model.specs.Plan.{plan_ids}
 use Rattle.shred.specs.Names.{first_unnamed, pairs_of}
 use Rattle.shred.specs.Printed.{plan_text}
 use Rattle.shred.specs.StagePlan.{plan_of}
-use Rattle.shred.proofs.Prints.{print-unnamed}
+use Rattle.shred.proofs.Names.Prints.{print-unnamed}
 use Rattle.shred.proofs.dispatch.printing.print.Goals as goal
 
 pub returns-in-Some : goal.returns-in-Some

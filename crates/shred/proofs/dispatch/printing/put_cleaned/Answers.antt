@@ -2,7 +2,7 @@ use Rattle.std.proofs.Common.{◌≡◌, ◌∷◌, [], get_or, Some, arith}
 use Rattle.std.specs.List.{slice_get}
 use Rattle.std.proofs.lemmas.Option.{slice_get-get_or}
 use Rattle.shred.specs.Printed.{cleaned}
-use Rattle.shred.proofs.Sinks.{put-stop, map-flat}
+use Rattle.shred.proofs.Names.Sinks.{put-stop, map-flat}
 use Rattle.shred.proofs.dispatch.printing.put_cleaned.Goals as goal
 
 pub returns-in-Err : goal.returns-in-Err

@@ -5,7 +5,7 @@ use Rattle.std.proofs.lemmas.Option.{slice_get-get_or}
 use Rattle.shred.specs.Names.{pairs_of}
 use Rattle.shred.specs.Printed.{group_text}
 use Rattle.shred.specs.StagePlan.{stage_plan}
-use Rattle.shred.proofs.Sinks.{put-stop}
+use Rattle.shred.proofs.Names.Sinks.{put-stop}
 use Rattle.shred.proofs.dispatch.printing.put_groups.Goals as goal
 
 pub returns-in-Err : goal.returns-in-Err

@@ -3,8 +3,8 @@ use Rattle.shred.specs.Names.{pairs_of}
 use Rattle.shred.specs.PlanOf.{numbers_of}
 use Rattle.shred.specs.Printed.{system_line}
 use Rattle.shred.specs.declared.dispatch.entry.SystemId.{SystemId}
-use Rattle.shred.proofs.Searching.{mapped_at}
-use Rattle.shred.proofs.Sinks.{put-step, put-stop}
+use Rattle.shred.proofs.Planner.Searching.{mapped_at}
+use Rattle.shred.proofs.Names.Sinks.{put-step, put-stop}
 use Rattle.shred.proofs.dispatch.printing.put_ids.Goals as goal
 
 pub returns-in-Err : goal.returns-in-Err

@@ -4,7 +4,7 @@ use Rattle.std.specs.Prelude.{codes}
 use Rattle.shred.specs.Names.{pairs_of}
 use Rattle.shred.specs.StagePlan.{stage_plan}
 use Rattle.shred.specs.Printed.{tab, line_feed, group_text}
-use Rattle.shred.proofs.Sinks.{put-stops, put-stops-within, put-three}
+use Rattle.shred.proofs.Names.Sinks.{put-stops, put-stops-within, put-three}
 use Rattle.shred.proofs.dispatch.printing.put_stage.Goals as goal
 
 pub returns-in-Err : goal.returns-in-Err

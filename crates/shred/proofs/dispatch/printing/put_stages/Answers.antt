@@ -2,8 +2,8 @@ use Rattle.std.proofs.Common.{◌<◌, length, arith}
 use Rattle.shred.specs.Names.{pairs_of}
 use Rattle.shred.specs.Printed.{stage_text}
 use Rattle.shred.specs.StagePlan.{plan_of, stage_plan}
-use Rattle.shred.proofs.Searching.{mapped_read}
-use Rattle.shred.proofs.Sinks.{put-step, put-stop}
+use Rattle.shred.proofs.Planner.Searching.{mapped_read}
+use Rattle.shred.proofs.Names.Sinks.{put-step, put-stop}
 use Rattle.shred.proofs.dispatch.printing.put_stages.Goals as goal
 
 pub returns-in-Err : goal.returns-in-Err

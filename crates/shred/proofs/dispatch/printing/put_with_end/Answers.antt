@@ -1,7 +1,7 @@
 use Rattle.shred.specs.Names.{pairs_of}
 use Rattle.shred.specs.Printed.{plan_text}
 use Rattle.shred.specs.StagePlan.{plan_of}
-use Rattle.shred.proofs.Sinks.{put-stops, put-then}
+use Rattle.shred.proofs.Names.Sinks.{put-stops, put-then}
 use Rattle.shred.proofs.dispatch.printing.put_with_end.Goals as goal
 
 pub returns-in-Err : goal.returns-in-Err

@@ -1,14 +1,14 @@
 use Rattle.std.proofs.Common.{◌∙◌, arith}
 use Rattle.std.proofs.Math.Seq.{map-set_same}
 use Rattle.std.proofs.lemmas.List.Elements.{All-set}
-use Rattle.shred_model.proofs.UpToFault.{SoFar-more, SoFar-fault, SoFar-end}
+use Rattle.shred_model.proofs.Joined.UpToFault.{SoFar-more, SoFar-fault, SoFar-end}
 use Rattle.shred_world.specs.Shown.{shown}
 use Rattle.shred_world.specs.Views.{lent_slot}
 use Rattle.shred.specs.Entries.{EntryRun, entry_states}
 use Rattle.shred.specs.OwnLists.{IsOwnEntry}
 use Rattle.shred.specs.PlanOf.{entry_plan}
-use Rattle.shred.proofs.OwnSlots.{own_slots-here}
-use Rattle.shred.proofs.Rooms.{places-set}
+use Rattle.shred.proofs.Runs.OwnSlots.{own_slots-here}
+use Rattle.shred.proofs.Runs.KeptPlaces.{places-set}
 use Rattle.shred.proofs.dispatch.run.run_entries.Goals as goal
 
 pub returns-in-Err-clause-ran : goal.returns-in-Err-clause-ran

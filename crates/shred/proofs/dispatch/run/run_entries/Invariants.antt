@@ -1,6 +1,6 @@
 use Rattle.std.proofs.Common.{◌≡◌, map}
-use Rattle.shred_model.specs.States.{setting_of, listed_states}
-use Rattle.shred_model.proofs.UpToFault.{SoFar}
+use Rattle.shred_model.specs.States.{configuration_of, listed_states}
+use Rattle.shred_model.proofs.Joined.UpToFault.{SoFar}
 use Rattle.std.specs.List.{All}
 use Rattle.std.specs.Option.{option_map}
 use Rattle.shred_world.specs.declared.id.ResourceId.{ResourceId}
@@ -20,5 +20,5 @@ invariant-loop-entry g l = record {
   own_lists : All (IsOwnEntry g.S.System.reads g.S.System.writes) l.entries;
   places : All (HasPlace l.single l.own) l.entries;
   ran : SoFar (EntryRun g.V.ResourceValue.kind_of g.S.System.step) l.entry-index (map entry_plan l.initial.entries)
-      (setting_of (listed_states entry_states l.initial.entries) (shown g.V.ResourceValue.kind_of (lent_slot l.shelf) l.initial.own)) (setting_of (listed_states entry_states l.entries) (shown g.V.ResourceValue.kind_of (lent_slot l.shelf) l.own));
+      (configuration_of (listed_states entry_states l.initial.entries) (shown g.V.ResourceValue.kind_of (lent_slot l.shelf) l.initial.own)) (configuration_of (listed_states entry_states l.entries) (shown g.V.ResourceValue.kind_of (lent_slot l.shelf) l.own));
 }

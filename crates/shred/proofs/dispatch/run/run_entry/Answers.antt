@@ -3,7 +3,7 @@ use Rattle.shred_world.specs.Shown.{shown}
 use Rattle.shred_world.specs.Views.{lent_slot}
 use Rattle.shred.specs.declared.dispatch.run.StageFault.TheVariants.{System}
 use Rattle.shred.specs.PlanOf.{entry_plan}
-use Rattle.shred.proofs.StepRecord.{step-ran}
+use Rattle.shred.proofs.Runs.StepRecord.{step-ran}
 use Rattle.shred.proofs.dispatch.run.run_entry.Goals as goal
 
 pub returns-in-Ok-clause-ran : goal.returns-in-Ok-clause-ran

@@ -1,7 +1,7 @@
 use Rattle.std.proofs.Common.{Bool, true, sym, subst}
 use Rattle.shred.specs.Hands.{HasPlace}
 use Rattle.shred.specs.OwnSlots.{HasOnlySlots}
-use Rattle.shred.proofs.Rooms.{place-kept}
+use Rattle.shred.proofs.Runs.KeptPlaces.{place-kept}
 use Rattle.shred.proofs.dispatch.run.step_of.Goals as goal
 
 pub step_single-requires-clause-only_own : goal.step_single-requires-clause-only_own

@@ -1,7 +1,7 @@
 use Rattle.std.proofs.Common.{◌≡◌, sym, subst, ap, ◌∙◌}
 use Rattle.std.specs.Prelude.{is_some}
 use Rattle.shred.specs.Steps.{declared_of}
-use Rattle.shred.proofs.Viewed.{declared_shown, still_has_slots}
+use Rattle.shred.proofs.Runs.Viewed.{declared_shown, still_has_slots}
 use Rattle.shred_world.specs.Shown.{shown}
 use Rattle.shred_world.specs.Slots.{kept_at, slot_at}
 use Rattle.shred_world.specs.Views.{lent_slot, declared_held}

@@ -1,5 +1,5 @@
 use Rattle.std.proofs.Common.{arith, refl, ◌∙◌}
-use Rattle.shred.proofs.Sinks.{Appends-nothing, put-more, put-failed}
+use Rattle.shred.proofs.Names.Sinks.{Appends-nothing, put-more, put-failed}
 use Rattle.shred.proofs.dispatch.sink.put_all.Goals as goal
 
 pub loop-done-init : goal.loop-done-init

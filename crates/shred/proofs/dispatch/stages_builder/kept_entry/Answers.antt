@@ -3,8 +3,8 @@ use Rattle.shred_world.specs.declared.id.ResourceId.{ResourceId}
 use Rattle.shred_world.specs.Parting.{IsEmptyHand}
 use Rattle.shred.specs.Time.{count_of}
 use Rattle.shred_world.specs.Id.{IsBefore}
-use Rattle.shred.proofs.KeptLists.{own_lists-of_same}
-use Rattle.shred.proofs.Orders.{AllPairs-from_sorted, Contains-from_same, IsBefore-from_less}
+use Rattle.shred.proofs.Planner.KeptLists.{own_lists-of_same}
+use Rattle.shred.proofs.Planner.Orders.{AllPairs-from_sorted, Contains-from_same, IsBefore-from_less}
 use Rattle.shred.proofs.dispatch.stages_builder.kept_entry.Goals as goal
 
 pub returns-clause-kept : goal.returns-clause-kept

@@ -1,5 +1,5 @@
 use Rattle.std.proofs.Common.{Some, sym, ◌∙◌, ap}
-use Rattle.shred_world.proofs.InOrder.{lookup-place, lookup-gap}
+use Rattle.shred_world.proofs.Tables.InOrder.{lookup-place, lookup-gap}
 use Rattle.shred_world.proofs.listed.Listed.get.Goals as goal
 
 pub returns-in-Ok : goal.returns-in-Ok

@@ -1,5 +1,5 @@
 use Rattle.std.proofs.Common.{Some, refl, sym, ◌∙◌, ap}
-use Rattle.shred_world.proofs.InOrder.{lookup-place, lookup-gap, lookup-written, sorted-written}
+use Rattle.shred_world.proofs.Tables.InOrder.{lookup-place, lookup-gap, lookup-written, sorted-written}
 use Rattle.shred_world.proofs.listed.Listed.get_mut.Goals as goal
 
 pub invariant_of-self-lent : goal.invariant_of-self-lent

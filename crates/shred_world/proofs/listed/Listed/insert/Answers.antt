@@ -1,7 +1,7 @@
 use Rattle.std.proofs.Common.{◌∙◌, ap}
 use Rattle.std.specs.Map.{lookup}
 use Rattle.shred_world.specs.Id.{same_id}
-use Rattle.shred_world.proofs.InOrder.{lookup-gap, lookup-written, lookup-inserted, sorted-put_in}
+use Rattle.shred_world.proofs.Tables.InOrder.{lookup-gap, lookup-written, lookup-inserted, sorted-put_in}
 use Rattle.shred_world.proofs.listed.Listed.insert.Goals as goal
 use Rattle.shred_world.proofs.listed.Listed.insert.Goals.{in-Ok-insert, in-Err-insert}
 

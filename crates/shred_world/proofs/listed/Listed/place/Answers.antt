@@ -1,6 +1,6 @@
 use Rattle.std.proofs.Common.{rules}
 use Rattle.std.proofs.lemmas.List.Sorted.{answers_always}
-use Rattle.shred_world.proofs.InOrder.{searched}
+use Rattle.shred_world.proofs.Tables.InOrder.{searched}
 use Rattle.shred_world.proofs.listed.Listed.place.Goals as goal
 
 -- the closure gives a slot's id, and the slice is the list's slots

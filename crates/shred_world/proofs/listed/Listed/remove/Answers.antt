@@ -2,8 +2,8 @@ use Rattle.std.proofs.Common.{Some, None, sym, ◌∙◌, ap}
 use Rattle.std.specs.Map.{lookup}
 use Rattle.shred_world.specs.Id.{same_id}
 use Rattle.shred_world.specs.Listed.{listed_at}
-use Rattle.shred_world.proofs.Slots.{with_at-same}
-use Rattle.shred_world.proofs.InOrder.{lookup-place, lookup-gap, lookup-removed}
+use Rattle.shred_world.proofs.Tables.Slots.{with_at-same}
+use Rattle.shred_world.proofs.Tables.InOrder.{lookup-place, lookup-gap, lookup-removed}
 use Rattle.shred_world.proofs.listed.Listed.remove.Goals as goal
 
 pub returns-in-Ok-clause-value : goal.returns-in-Ok-clause-value

@@ -2,8 +2,8 @@ use Rattle.std.proofs.Common.{slice_index_or, take, ◌∙◌, ap, arith}
 use Rattle.shred_world.specs.declared.id.ResourceId.{ResourceId}
 use Rattle.shred_world.specs.Parting.{emptied}
 use Rattle.shred_world.specs.Slots.{slot_at, among}
-use Rattle.shred_world.proofs.Slots.{same_id-true}
-use Rattle.shred_world.proofs.Moves.{among-within, cond-more, cond-all, with_at-here, with_at-there, spare-along, spare-empty, room-all}
+use Rattle.shred_world.proofs.Tables.Slots.{same_id-true}
+use Rattle.shred_world.proofs.Tables.Moves.{among-within, cond-more, cond-all, with_at-here, with_at-there, spare-along, spare-empty, room-all}
 use Rattle.shred_world.proofs.table.Table.make_room.Goals as goal
 
 pub fit-requires : goal.fit-requires

@@ -7,7 +7,7 @@ use Rattle.shred_world.specs.declared.table.Table.{Table}
 use Rattle.shred_world.specs.Parting.{emptied}
 use Rattle.shred_world.specs.Parts.{Pair, writes_of, written_by, Fits}
 use Rattle.shred_world.specs.Slots.{kept_at, slot_at, among}
-use Rattle.shred_world.proofs.Pairs.{zip-get, zip-length, zip-at, zip-more, same-start, joined-more, joined-rest, joined-slots, joined-all, written-at, written-before}
+use Rattle.shred_world.proofs.Parted.Pairs.{zip-get, zip-length, zip-at, zip-more, same-start, joined-more, joined-rest, joined-slots, joined-all, written-at, written-before}
 use Rattle.shred_world.proofs.table.Table.move_all_back.Goals as goal
 
 pub loop-i-init : goal.loop-i-init

@@ -2,7 +2,7 @@ use Rattle.std.proofs.Common.{◌≡◌, length}
 use Rattle.std.specs.Prelude.{⊤}
 use Rattle.shred_world.specs.declared.id.ResourceId.{ResourceId}
 use Rattle.shred_world.specs.Slots.{slot_at}
-use Rattle.shred_world.proofs.Pairs.{ZipTo, joined}
+use Rattle.shred_world.proofs.Parted.Pairs.{ZipTo, joined}
 use Rattle.shred_world.proofs.table.Table.move_all_back.Given as goal
 
 abbrev pub invariant-loop-i : goal.invariant-loop-i

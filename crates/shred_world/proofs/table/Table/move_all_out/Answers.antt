@@ -8,9 +8,9 @@ use Rattle.shred_world.specs.Parts.{Pair, writes_of, written_by, HasNothingOut, 
 use Rattle.shred_world.specs.Slots.{kept_at, slot_at, among}
 use Rattle.std.proofs.Common.{◌&&◌}
 use Rattle.shred_world.specs.Views.{is_vacant}
-use Rattle.shred_world.proofs.Beside.{zip-map}
-use Rattle.shred_world.proofs.Moves.{left-more}
-use Rattle.shred_world.proofs.Pairs.{IsFilled, zip-second, zip-length, zip-start, zip-end, zip-at, zip-more, left-or, held-now, written-before}
+use Rattle.shred_world.proofs.Parted.Beside.{zip-map}
+use Rattle.shred_world.proofs.Tables.Moves.{left-more}
+use Rattle.shred_world.proofs.Parted.Pairs.{IsFilled, zip-second, zip-length, zip-start, zip-end, zip-at, zip-more, left-or, held-now, written-before}
 use Rattle.shred_world.proofs.table.Table.move_all_out.Goals as goal
 
 pub loop-i-init : goal.loop-i-init

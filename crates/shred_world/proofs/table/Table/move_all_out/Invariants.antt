@@ -3,7 +3,7 @@ use Rattle.shred_world.specs.declared.id.ResourceId.{ResourceId}
 use Rattle.shred_world.specs.Parting.{emptied}
 use Rattle.shred_world.specs.Parts.{written_by, HasRoom}
 use Rattle.shred_world.specs.Slots.{slot_at}
-use Rattle.shred_world.proofs.Pairs.{ZipTo, IsFilled}
+use Rattle.shred_world.proofs.Parted.Pairs.{ZipTo, IsFilled}
 use Rattle.shred_world.proofs.table.Table.move_all_out.Given as goal
 
 abbrev pub invariant-loop-i : goal.invariant-loop-i

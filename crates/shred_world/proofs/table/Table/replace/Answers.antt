@@ -1,6 +1,6 @@
 use Rattle.std.proofs.Common.{Some, sym, ◌∙◌}
 use Rattle.shred_world.specs.Slots.{slot_at, with_at}
-use Rattle.shred_world.proofs.Slots.{with_at-same, OnSome-here}
+use Rattle.shred_world.proofs.Tables.Slots.{with_at-same, OnSome-here}
 use Rattle.shred_world.proofs.table.Table.replace.Goals as goal
 
 pub returns-in-Some-value-clause-replaced : goal.returns-in-Some-value-clause-replaced

@@ -4,7 +4,7 @@ use Rattle.shred_world.specs.declared.id.Kind.{Kind}
 use Rattle.shred_world.specs.declared.table.Slot.{Slot}
 use Rattle.shred_world.specs.Lent.{with_value}
 use Rattle.shred_world.specs.Slots.{slot_at, slot_held}
-use Rattle.shred_world.proofs.Slots.{with_at-same, OnSome-always, OnSome-here, MatchOption-some, MatchOption-none, of_kind-none}
+use Rattle.shred_world.proofs.Tables.Slots.{with_at-same, OnSome-always, OnSome-here, MatchOption-some, MatchOption-none, of_kind-none}
 use Rattle.shred_world.proofs.table.Table.resource_mut.Goals as goal
 
 pub returns : goal.returns

@@ -2,7 +2,7 @@ use Rattle.std.proofs.Common.{◌≡◌, Option, Some, sym, ◌∙◌, ap}
 use Rattle.shred_world.specs.declared.table.Slot.{Slot}
 use Rattle.shred_world.specs.Slots.{slot_at, with_at}
 use Rattle.shred_world.specs.Parting.{emptied}
-use Rattle.shred_world.proofs.Slots.{OnSome-here}
+use Rattle.shred_world.proofs.Tables.Slots.{OnSome-here}
 use Rattle.shred_world.proofs.table.Table.take.Goals as goal
 
 pub returns-in-Some-clause-slots : goal.returns-in-Some-clause-slots

@@ -1,6 +1,6 @@
 use Rattle.std.proofs.Common.{refl, ap}
 use Rattle.shred_world.specs.Worlds.{world_held}
-use Rattle.shred_world.proofs.Whole.{all_moved_out}
+use Rattle.shred_world.proofs.Views.Whole.{all_moved_out}
 use Rattle.shred_world.proofs.world.World.system_data.Goals as goal
 
 pub returns-in-Ok : goal.returns-in-Ok

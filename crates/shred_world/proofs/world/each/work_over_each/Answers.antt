@@ -5,8 +5,8 @@ use Rattle.shred_world.specs.Parts.{Pair, IsHandOf}
 use Rattle.shred_world.specs.Shown.{Lent}
 use Rattle.shred_world.specs.Beside.{lent_behind}
 use Rattle.shred_world.specs.Worked.{IsWorkedOver}
-use Rattle.shred_world.proofs.Pairs.{zip-length, zip-get}
-use Rattle.shred_world.proofs.Worked.{worked-start, worked-at, worked-more, worked-end}
+use Rattle.shred_world.proofs.Parted.Pairs.{zip-length, zip-get}
+use Rattle.shred_world.proofs.Bundles.Worked.{worked-start, worked-at, worked-more, worked-end}
 use Rattle.shred_world.proofs.world.each.work_over_each.Goals as goal
 
 pub loop-i-init : goal.loop-i-init

@@ -1,6 +1,6 @@
 use Rattle.std.proofs.Common.{◌≡◌, length}
 use Rattle.shred_world.specs.Beside.{lent_behind}
-use Rattle.shred_world.proofs.Worked.{WorkedTo}
+use Rattle.shred_world.proofs.Bundles.Worked.{WorkedTo}
 use Rattle.shred_world.proofs.world.each.work_over_each.Given as goal
 
 abbrev pub invariant-loop-i : goal.invariant-loop-i

@@ -2,7 +2,7 @@ use Rattle.std.proofs.Common.{refl, sym, subst, ap, ◌∙◌}
 use Rattle.shred_world.specs.Executed.{IsCalled, MayCall, KeepsIds}
 use Rattle.shred_world.specs.Grants.{Grant, grant_of}
 use Rattle.shred_world.specs.Slots.{held}
-use Rattle.shred_world.proofs.Refusals.{whole-held}
+use Rattle.shred_world.proofs.Views.Refusals.{whole-held}
 use Rattle.shred_world.proofs.world.exec.call_with.Goals as goal
 
 pub call_on-requires : goal.call_on-requires

@@ -1,8 +1,8 @@
 use Rattle.std.proofs.Common.{sym, ◌∙◌, ap}
 use Rattle.shred_world.specs.Grants.{Grant}
 use Rattle.shred_world.specs.Slots.{held}
-use Rattle.shred_world.proofs.Refusals.{whole-held}
-use Rattle.shred_world.proofs.Whole.{OnErr-map}
+use Rattle.shred_world.proofs.Views.Refusals.{whole-held}
+use Rattle.shred_world.proofs.Views.Whole.{OnErr-map}
 use Rattle.shred_world.proofs.world.lent.take_of.Goals as goal
 
 pub returns-clause-unchanged : goal.returns-clause-unchanged

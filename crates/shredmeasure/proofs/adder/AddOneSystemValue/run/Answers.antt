@@ -1,7 +1,7 @@
 use Rattle.std.proofs.Common.{IsOk, is_ok, ap, rules, refl}
 use Rattle.std.specs.Prelude.{is_some}
 use Rattle.shred_world.specs.Views.{view_held}
-use Rattle.shred_world.proofs.KeptIds.{ids-kept}
+use Rattle.shred_world.proofs.Views.KeptIds.{ids-kept}
 use Rattle.shredmeasure.specs.Counts.{kind_of}
 use Rattle.shredmeasure.proofs.adder.AddOneSystemValue.run.Goals as goal
 

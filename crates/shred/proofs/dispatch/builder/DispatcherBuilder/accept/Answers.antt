@@ -5,8 +5,8 @@ use Rattle.shred.specs.Known.{ids_of, texts_of}
 use Rattle.shred.specs.Names.{names_of}
 use Rattle.shred.specs.Placement.{IsPlaced}
 use Rattle.shred.specs.PlanOf.{numbers_of}
-use Rattle.shred.proofs.Consistent.{entered-consistent, known-again, still-consistent}
-use Rattle.shred.proofs.Standing.{known-still, stands-after_all}
+use Rattle.shred.proofs.Names.Consistent.{entered-consistent, known-again, still-consistent}
+use Rattle.shred.proofs.Planner.Standing.{known-still, stands-after_all}
 use Rattle.shred.proofs.dispatch.builder.DispatcherBuilder.accept.Goals as goal
 
 pub returns-clause-added : goal.returns-clause-added

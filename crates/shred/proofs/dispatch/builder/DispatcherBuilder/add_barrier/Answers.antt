@@ -1,5 +1,5 @@
 use Rattle.std.proofs.Common.{refl}
-use Rattle.shred.proofs.Consistent.{still-consistent}
+use Rattle.shred.proofs.Names.Consistent.{still-consistent}
 use Rattle.shred.proofs.dispatch.builder.DispatcherBuilder.add_barrier.Goals as goal
 
 pub invariant_of-self : goal.invariant_of-self

@@ -1,4 +1,4 @@
-use Rattle.shred.proofs.KnownNames.{names-known}
+use Rattle.shred.proofs.Names.KnownNames.{names-known}
 use Rattle.shred.proofs.dispatch.builder.DispatcherBuilder.print_par_seq.Goals as goal
 
 pub returns-clause-names : goal.returns-clause-names

@@ -1,7 +1,7 @@
 use Rattle.std.proofs.Common.{◌<◌, length, rules}
 use Rattle.shred.specs.PlanOf.{entry_plan}
 use Rattle.shred.specs.Sides.{side_of}
-use Rattle.shred.proofs.Appended.{appended_more}
+use Rattle.shred.proofs.Planner.Appended.{appended_more}
 use Rattle.shred.proofs.dispatch.entry.Group.append_to.Goals as goal
 
 pub loop-entry-preserved : goal.loop-entry-preserved

@@ -2,7 +2,7 @@ use Rattle.std.proofs.Common.{sym, rules, ◌<◌, length}
 use Rattle.shred_world.specs.Id.{same_id}
 use Rattle.shred.specs.PlanOf.{access_of, entry_plan}
 use Rattle.shred.specs.Search.{accesses_conflict}
-use Rattle.shred.proofs.Membership.{list_any-map_at}
+use Rattle.shred.proofs.Planner.Membership.{list_any-map_at}
 use Rattle.shred.proofs.dispatch.entry.Group.conflicts.Goals as goal
 
 pub returns-then-conflicts : goal.returns-then-conflicts

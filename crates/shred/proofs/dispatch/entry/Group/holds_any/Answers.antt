@@ -2,7 +2,7 @@ use Rattle.std.proofs.Common.{◌∙◌, ap}
 use Rattle.std.specs.Prelude.{not}
 use Rattle.shred_model.specs.Plan.{group_ids}
 use Rattle.shred.specs.PlanOf.{group_plan}
-use Rattle.shred.proofs.Ids.{share_item-none, share_item-numbers_of}
+use Rattle.shred.proofs.Planner.Ids.{share_item-none, share_item-numbers_of}
 use Rattle.shred.proofs.dispatch.entry.Group.holds_any.Goals as goal
 
 pub returns-then-not-is_empty : goal.returns-then-not-is_empty

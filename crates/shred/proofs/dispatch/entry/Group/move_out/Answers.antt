@@ -2,7 +2,7 @@ use Rattle.std.proofs.Common.{◌≡◌, cond, List, refl, ◌∙◌, ap, rules}
 use Rattle.shred_world.specs.declared.id.ResourceId.{ResourceId}
 use Rattle.shred_world.specs.Parting.{given, slot_value}
 use Rattle.shred_world.specs.Slots.{slot_at, among}
-use Rattle.shred.proofs.Spare.{moved-in}
+use Rattle.shred.proofs.Runs.HandSlots.{moved-in}
 use Rattle.shred.proofs.dispatch.entry.Group.move_out.Goals as goal
 
 pub returns-clause-hand : goal.returns-clause-hand

@@ -1,6 +1,6 @@
 use Rattle.std.proofs.Common.{◌≡◌, length, ap, arith, rules}
 use Rattle.std.proofs.lemmas.List.{length-map}
-use Rattle.shred.proofs.Hands.{room-grown}
+use Rattle.shred.proofs.Planner.GrownGroups.{room-grown}
 use Rattle.shred.proofs.dispatch.entry.Group.push.Goals as goal
 
 pub returns-in-Ok-push_or_drop-clause-room : goal.returns-in-Ok-push_or_drop-clause-room

@@ -1,7 +1,7 @@
 use Rattle.std.proofs.Common.{◌<◌, length, rules}
 use Rattle.shred.specs.PlanOf.{group_plan}
 use Rattle.shred.specs.Sides.{group_side}
-use Rattle.shred.proofs.Appended.{appended_more}
+use Rattle.shred.proofs.Planner.Appended.{appended_more}
 use Rattle.shred.proofs.dispatch.stage.Stage.append_to.Goals as goal
 
 pub loop-group-preserved : goal.loop-group-preserved

@@ -3,7 +3,7 @@ use Rattle.std.proofs.lemmas.List.{length-map}
 use Rattle.shred_model.specs.Plan.{group_time}
 use Rattle.shred.specs.Placement.{greatest_time}
 use Rattle.shred.specs.PlanOf.{group_plan, groups_plan}
-use Rattle.shred.proofs.Times.{group_read, group_time-le-greatest}
+use Rattle.shred.proofs.Planner.Times.{group_read, group_time-le-greatest}
 use Rattle.shred.proofs.dispatch.stage.Stage.may_end.Goals as goal
 
 pub overflow_sub-result : goal.overflow_sub-result

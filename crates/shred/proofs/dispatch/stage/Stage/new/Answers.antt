@@ -1,9 +1,9 @@
 use Rattle.std.proofs.Common.{◌≡◌, [], ◌∷◌, rules}
 use Rattle.shred.specs.EntriesAt.{group_entries}
-use Rattle.shred.proofs.Added.{new_alone_in}
-use Rattle.shred.proofs.EntriesAt.{new_in_group}
-use Rattle.shred.proofs.KeptLists.{own_alone}
-use Rattle.shred.proofs.StageKeeps.{kept_alone}
+use Rattle.shred.proofs.Planner.Added.{new_alone_in}
+use Rattle.shred.proofs.Planner.EntriesAt.{new_in_group}
+use Rattle.shred.proofs.Planner.KeptLists.{own_alone}
+use Rattle.shred.proofs.Planner.StageKeeps.{kept_alone}
 use Rattle.shred.proofs.dispatch.stage.Stage.new.Goals as goal
 
 pub returns-in-Ok-push-clause-added : goal.returns-in-Ok-push-clause-added

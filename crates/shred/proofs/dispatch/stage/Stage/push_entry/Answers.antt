@@ -3,11 +3,11 @@ use Rattle.std.proofs.lemmas.List.{length-map}
 use Rattle.std.proofs.lemmas.Result.{on_ok_weaker, on_err_weaker}
 use Rattle.shred.specs.EntriesAt.{group_entries}
 use Rattle.shred.specs.PlanOf.{entry_plan, group_plan}
-use Rattle.shred.proofs.Added.{new_when_done, same_when_refused}
-use Rattle.shred.proofs.EntriesAt.{new_at_end_of_group, same_in_group}
-use Rattle.shred.proofs.Times.{group_read}
-use Rattle.shred.proofs.KeptLists.{own_after_push}
-use Rattle.shred.proofs.StageKeeps.{IsKeptBy, kept_after_entry, plan_when_pushed, plan_when_refused}
+use Rattle.shred.proofs.Planner.Added.{new_when_done, same_when_refused}
+use Rattle.shred.proofs.Planner.EntriesAt.{new_at_end_of_group, same_in_group}
+use Rattle.shred.proofs.Planner.Times.{group_read}
+use Rattle.shred.proofs.Planner.KeptLists.{own_after_push}
+use Rattle.shred.proofs.Planner.StageKeeps.{IsKeptBy, kept_after_entry, plan_when_pushed, plan_when_refused}
 use Rattle.shred.proofs.dispatch.stage.Stage.push_entry.Goals as goal
 
 pub push-requires-clause-room : goal.push-requires-clause-room

@@ -1,11 +1,11 @@
 use Rattle.std.proofs.Common.{is_ok}
 use Rattle.shred.specs.EntriesAt.{group_entries}
 use Rattle.shred.specs.PlanOf.{entry_plan}
-use Rattle.shred.proofs.Added.{new_after_push}
-use Rattle.shred.proofs.EntriesAt.{new_in_group}
-use Rattle.shred.proofs.KeptLists.{own_alone}
-use Rattle.shred.proofs.Pushed.{holds_after_push}
-use Rattle.shred.proofs.StageKeeps.{IsKeptBy, kept_after_group, plan_after_group}
+use Rattle.shred.proofs.Planner.Added.{new_after_push}
+use Rattle.shred.proofs.Planner.EntriesAt.{new_in_group}
+use Rattle.shred.proofs.Planner.KeptLists.{own_alone}
+use Rattle.shred.proofs.Planner.Pushed.{holds_after_push}
+use Rattle.shred.proofs.Planner.StageKeeps.{IsKeptBy, kept_after_group, plan_after_group}
 use Rattle.shred.proofs.dispatch.stage.Stage.push_group.Goals as goal
 use Rattle.shred.proofs.dispatch.stage.Stage.push_group.Goals.{in-Ok-push, in-Err-push}
 

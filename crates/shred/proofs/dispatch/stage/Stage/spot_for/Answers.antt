@@ -2,8 +2,8 @@ use Rattle.std.proofs.Common.{◌∙◌}
 use Rattle.shred_world.specs.Id.{same_id}
 use Rattle.shred.specs.PlanOf.{entry_plan, numbers_of}
 use Rattle.shred.specs.StagePlan.{stage_plan}
-use Rattle.shred.proofs.Ids.{same_id-Agrees, length-numbers_of}
-use Rattle.shred.proofs.Spots.{spot_when_nothing, spot_when_one, admits_not_between, touched_within}
+use Rattle.shred.proofs.Planner.Ids.{same_id-Agrees, length-numbers_of}
+use Rattle.shred.proofs.Planner.Spots.{spot_when_nothing, spot_when_one, admits_not_between, touched_within}
 use Rattle.shred.proofs.dispatch.stage.Stage.spot_for.Goals as goal
 
 pub returns-in-Nothing : goal.returns-in-Nothing

@@ -1,8 +1,8 @@
 use Rattle.std.proofs.Common.{◌≡◌, ◌<◌, [], length, rules}
 use Rattle.shred_model.specs.Plan.{group_ids}
 use Rattle.shred.specs.PlanOf.{group_plan, numbers_of}
-use Rattle.shred.proofs.Ids.{numbers_of-none}
-use Rattle.shred.proofs.Left.{left_more, left_none}
+use Rattle.shred.proofs.Planner.Ids.{numbers_of-none}
+use Rattle.shred.proofs.Planner.Left.{left_more, left_none}
 use Rattle.shred.proofs.dispatch.stage.Stage.take_ids.Goals as goal
 
 pub returns-then-is_empty : goal.returns-then-is_empty

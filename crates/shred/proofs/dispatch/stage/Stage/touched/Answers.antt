@@ -2,7 +2,7 @@ use Rattle.std.proofs.Common.{◌≡◌, ◌<◌, ◌≤◌, length, get_or, rul
 use Rattle.shred_world.specs.Id.{same_id}
 use Rattle.shred.specs.PlanOf.{access_of, group_plan, numbers_of}
 use Rattle.shred.specs.Search.{is_touched}
-use Rattle.shred.proofs.Touching.{touched_stays, touched_first, touched_second, touched_all}
+use Rattle.shred.proofs.Planner.Touching.{touched_stays, touched_first, touched_second, touched_all}
 use Rattle.shred.proofs.dispatch.stage.Stage.touched.Goals as goal
 use Rattle.shred.proofs.dispatch.stage.Stage.touched.Goals.{then-is_touched+in-Nothing, else-is_touched}
 

@@ -1,7 +1,7 @@
 use Rattle.std.proofs.Common.{arith, rules}
 use Rattle.shred.specs.Sides.{stage_side}
 use Rattle.shred.specs.StagePlan.{stage_plan}
-use Rattle.shred.proofs.Appended.{appended_more}
+use Rattle.shred.proofs.Planner.Appended.{appended_more}
 use Rattle.shred.proofs.dispatch.stages_builder.StagesBuilder.append_to.Goals as goal
 
 pub loop-place-preserved : goal.loop-place-preserved

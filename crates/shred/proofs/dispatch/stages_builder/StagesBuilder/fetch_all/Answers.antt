@@ -3,7 +3,7 @@ use Rattle.std.specs.List.{flat_map}
 use Rattle.shred.specs.BuilderPlan.{planned}
 use Rattle.shred.specs.Sides.{stage_side}
 use Rattle.shred_world.specs.Id.{IsBefore}
-use Rattle.shred.proofs.Orders.{AllPairs-from_sorted, Contains-from_same, IsBefore-from_less}
+use Rattle.shred.proofs.Planner.Orders.{AllPairs-from_sorted, Contains-from_same, IsBefore-from_less}
 use Rattle.shred.proofs.dispatch.stages_builder.StagesBuilder.fetch_all.Goals as goal
 
 pub returns-in-Ok-clause-in_order : goal.returns-in-Ok-clause-in_order

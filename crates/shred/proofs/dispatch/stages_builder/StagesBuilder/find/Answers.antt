@@ -2,7 +2,7 @@ use Rattle.std.proofs.Common.{◌<◌, ◌∙◌, ap, length, rules, arith}
 use Rattle.shred.specs.BuilderPlan.{planned}
 use Rattle.shred.specs.PlanOf.{entry_plan, numbers_of}
 use Rattle.shred.specs.StagePlan.{stage_plan}
-use Rattle.shred.proofs.Searching.{found_place, none_yet, left_then, mapped_read}
+use Rattle.shred.proofs.Planner.Searching.{found_place, none_yet, left_then, mapped_read}
 use Rattle.shred.proofs.dispatch.stages_builder.StagesBuilder.find.Goals as goal
 use Rattle.shred.proofs.dispatch.stages_builder.StagesBuilder.find.Goals.{then-start-place+in_default, else-start-place}
 

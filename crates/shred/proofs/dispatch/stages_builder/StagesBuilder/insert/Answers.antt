@@ -4,9 +4,9 @@ use Rattle.std.proofs.Common.{arith}
 use Rattle.std.proofs.lemmas.List.{length-map}
 use Rattle.shred.specs.PlanOf.{numbers_of}
 use Rattle.shred.specs.StagePlan.{stage_plan, plan_of}
-use Rattle.shred.proofs.Earlier.{stands-after}
-use Rattle.shred.proofs.EntriesAt.{added_with, states_stay}
-use Rattle.shred.proofs.PlanKeeps.{OnOk-both}
+use Rattle.shred.proofs.Planner.Earlier.{stands-after}
+use Rattle.shred.proofs.Planner.EntriesAt.{added_with, states_stay}
+use Rattle.shred.proofs.Planner.PlanKeeps.{OnOk-both}
 use Rattle.shred.proofs.dispatch.stages_builder.StagesBuilder.insert.Goals as goal
 
 pub returns-in-Ok-clause-placed : goal.returns-in-Ok-clause-placed

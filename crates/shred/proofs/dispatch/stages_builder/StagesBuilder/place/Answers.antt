@@ -4,7 +4,7 @@ use Rattle.shred.specs.BuilderPlan.{planned}
 use Rattle.shred.specs.Placement.{in_new_stage}
 use Rattle.shred.specs.PlanOf.{entry_plan, numbers_of}
 use Rattle.shred.specs.declared.dispatch.stage.Spot.TheVariants.{NewGroup, EndOf}
-use Rattle.shred.proofs.PlanKeeps.{known_place, known_none, found_group_free, found_end_fits, placed_in_new_group, placed_at_end}
+use Rattle.shred.proofs.Planner.PlanKeeps.{known_place, known_none, found_group_free, found_end_fits, placed_in_new_group, placed_at_end}
 use Rattle.shred.proofs.dispatch.stages_builder.StagesBuilder.place.Goals as goal
 
 pub push_group-requires-clause-free : goal.push_group-requires-clause-free

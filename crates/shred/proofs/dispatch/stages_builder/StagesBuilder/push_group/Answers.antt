@@ -2,8 +2,8 @@ use Rattle.std.proofs.Common.{◌<◌, arith, length, length-set}
 use Rattle.std.proofs.lemmas.List.{length-map}
 use Rattle.shred.specs.EntriesAt.{stage_entries}
 use Rattle.shred.specs.StagePlan.{stage_plan}
-use Rattle.shred.proofs.Added.{new_when_done, same_when_refused}
-use Rattle.shred.proofs.PlanKeeps.{stage_read, few_stages, plan_when_done, plan_when_refused}
+use Rattle.shred.proofs.Planner.Added.{new_when_done, same_when_refused}
+use Rattle.shred.proofs.Planner.PlanKeeps.{stage_read, few_stages, plan_when_done, plan_when_refused}
 use Rattle.shred.proofs.dispatch.stages_builder.StagesBuilder.push_group.Goals as goal
 
 pub push_group-requires-clause-free : goal.push_group-requires-clause-free

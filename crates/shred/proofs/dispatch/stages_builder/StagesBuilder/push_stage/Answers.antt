@@ -3,9 +3,9 @@ use Rattle.std.proofs.lemmas.List.{map_push}
 use Rattle.std.proofs.lemmas.Result.{on_ok_weaker}
 use Rattle.shred.specs.EntriesAt.{stage_entries}
 use Rattle.shred.specs.StagePlan.{stage_plan, plan_of}
-use Rattle.shred.proofs.Added.{new_after_push}
-use Rattle.shred.proofs.PlanKeeps.{few_stages}
-use Rattle.shred.proofs.Pushed.{longer_after_push}
+use Rattle.shred.proofs.Planner.Added.{new_after_push}
+use Rattle.shred.proofs.Planner.PlanKeeps.{few_stages}
+use Rattle.shred.proofs.Planner.Pushed.{longer_after_push}
 use Rattle.shred.proofs.dispatch.stages_builder.StagesBuilder.push_stage.Goals as goal
 
 pub invariant_of-self : goal.invariant_of-self

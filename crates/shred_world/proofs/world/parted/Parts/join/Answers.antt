@@ -2,7 +2,7 @@ use Rattle.std.proofs.Common.{List, subst}
 use Rattle.std.specs.List.{AllZip}
 use Rattle.shred_world.specs.declared.table.Table.{Table}
 use Rattle.shred_world.specs.Parts.{IsJoined}
-use Rattle.shred_world.proofs.Beside.{ids-joined}
+use Rattle.shred_world.proofs.Parted.Beside.{ids-joined}
 use Rattle.shred_world.proofs.world.parted.Parts.join.Goals as goal
 
 pub returns-clause-ids : goal.returns-clause-ids

@@ -1,7 +1,7 @@
 use Rattle.std.proofs.Common.{refl}
 use Rattle.shred_world.specs.Grants.{grant_of}
-use Rattle.shred_world.proofs.Both.{passed_both, shown_both, moved_both, taken_both, refused_last, out_again, given_again}
-use Rattle.shred_world.proofs.Bundles.{refused_first}
+use Rattle.shred_world.proofs.Bundles.Both.{passed_both, shown_both, moved_both, taken_both, refused_last, out_again, given_again}
+use Rattle.shred_world.proofs.Bundles.Parts.{refused_first}
 use Rattle.shred_world.proofs.world.tuples.Tuple2SystemData.fetch.Goals as goal
 
 pub returns-in-Err-clause-refused : goal.returns-in-Err-clause-refused

@@ -1,6 +1,6 @@
 use Rattle.std.proofs.Common.{refl}
 use Rattle.shred_world.specs.Grants.{grant_of}
-use Rattle.shred_world.proofs.Both.{out_last, out_first, given_both}
+use Rattle.shred_world.proofs.Bundles.Both.{out_last, out_first, given_both}
 use Rattle.shred_world.proofs.world.tuples.Tuple2SystemData.give_back.Goals as goal
 
 pub give_back-requires : goal.give_back-requires

@@ -1,6 +1,6 @@
 use Rattle.shred_world.specs.Bundles.{SetupBoth}
 use Rattle.shred_world.specs.Worlds.{world_held}
-use Rattle.shred_world.proofs.Both.{setup_both}
+use Rattle.shred_world.proofs.Bundles.Both.{setup_both}
 use Rattle.shred_world.proofs.world.tuples.Tuple3SystemData.setup.Goals as goal
 
 pub returns : goal.returns

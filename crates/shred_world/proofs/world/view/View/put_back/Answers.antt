@@ -1,0 +1,15 @@
+use Rattle.std.proofs.Common.{refl, ◌∙◌}
+use borrow.Rule.Reborrow.{re_v}
+use Rattle.shred_world.specs.Parting.{filled}
+use Rattle.shred_world.specs.Slots.{slot_at}
+use Rattle.shred_world.proofs.Bundles.Grants.{slots_with, filled-some, grant_with_back}
+use Rattle.shred_world.proofs.world.view.View.put_back.Goals as goal
+
+pub returns-clause-after : goal.returns-clause-after
+returns-clause-after g c =
+    let s = c.args.self.now in
+    let v = c.wrap.result in
+    let is = c.fill.ensures.slots in
+    grant_with_back g.V.ResourceValue.kind_of s (record s { own = re_v c.fill.new.self s.own }) refl refl refl refl refl refl
+    (slots_with (slot_at s.own.now) (slot_at c.fill.new.self) c.args.id (filled v (slot_at s.own.now c.args.id)) (filled-some v (slot_at s.own.now c.args.id)) is)
+    c.args.id (g.R.Resource.wrapped c.args.resource) v c.wrap.ensures (g.met.R.Resource.wrapped_kind c.args.resource ∙ c.requires.kind) c.requires.out c.fill.ensures.noted is

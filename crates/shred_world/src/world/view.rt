@@ -1,0 +1,302 @@
+//! Views: what a system is lent of a world.
+ghost use Rattle.std.specs.Prelude.{◌≡◌, ◌&&◌, ◌||◌, Bool, None, Some, IfOk, IsTrue, true, false, cond, is_some};
+ghost use Rattle.std.specs.Borrow.{sem};
+ghost use Rattle.shred_world.specs.declared.id.ResourceId.{ResourceId};
+ghost use Rattle.shred_world.specs.Lent.{LendsWritten, LendsNarrow};
+ghost use Rattle.std.specs.Option.{option_copied};
+ghost use Rattle.std.specs.Result.{result_err};
+ghost use Rattle.shred_world.specs.Grants.{grant_of, map_grant, table_grant};
+ghost use Rattle.shred_world.specs.Slots.{among, slot_at, held, or_slot};
+ghost use Rattle.shred_world.specs.Views.{shelf_slot, lent_slot, view_slot, view_held, is_whole, may_read, may_write, is_vacant, is_out, refusal, table_in, owned_ids, shelves_of};
+
+use crate::id::{Kind, ResourceId};
+use crate::resource::{Resource, ResourceValue};
+use crate::table::{Slot, Table};
+use thiserror::Error;
+
+/// Why a part of the data is not handed out.
+#[derive(Clone, Copy, Debug, PartialEq, Eq, Error)]
+pub enum DataError {
+    /// No value is held under the id.
+    #[error("nothing is held under {0:?}")]
+    Missing(ResourceId),
+    /// The id is not declared for this use.
+    #[error("{0:?} is not declared for this use")]
+    Undeclared(ResourceId),
+    /// The value is handed out already.
+    #[error("{0:?} is handed out already")]
+    Taken(ResourceId),
+    #[error("out of memory")]
+    OutOfMemory,
+    /// The caller's type has the kind `asked`, and the id the kind `found`.
+    #[error("{asked:?} was asked for, and the id is of {found:?}")]
+    WrongKind { asked: Kind, found: Kind },
+}
+
+/// Tables lent shared, one behind another, of which the nearest that has a slot for an id shows it. Behind a table the
+/// ids that are listed beside it are not looked for.
+#[derive_where(Clone, Copy)]
+pub enum Shelf<'s, V> {
+    Last(&'s Table<V>),
+    Before(&'s Table<V>, &'s [ResourceId], &'s Shelf<'s, V>),
+}
+
+impl<'s, V> Shelf<'s, V> {
+    /// A table before the first of the tables behind it, where there is one; the ids of the list are not looked for behind
+    /// the table.
+    pub fn before(table: &'s Table<V>, owned: &'s [ResourceId], behind: &'s [Shelf<'s, V>]) -> Self
+        ensures { (q : ResourceId) → shelf_slot result q ≡ or_slot (slot_at table.now q) (cond (among owned.now q) None (lent_slot behind.now q)) }
+    {
+        match behind.first() {
+            Some(rest) => Shelf::Before(table, owned, rest),
+            None => Shelf::Last(table),
+        }
+    }
+
+    /// The slot that is shown for an id.
+    pub fn slot(&self, id: ResourceId) -> Option<&'s Slot<V>>
+        ensures { option_copied result ≡ shelf_slot self.now id }
+    {
+        match self {
+            Shelf::Last(table) => table.slot(id),
+            Shelf::Before(table, owned, rest) => match table.slot(id) {
+                Some(slot) => Some(slot),
+                None => {
+                    if owned.contains(&id) {
+                        None
+                    } else {
+                        rest.slot(id)
+                    }
+                }
+            },
+        }
+    }
+}
+
+/// What is lent of a world: ids that may be read or written, each with its value where one is held.
+#[derive(Drop)]
+pub struct View<'s, 'a, V> {
+    reads: &'s [ResourceId],
+    writes: &'s [ResourceId],
+    pub(crate) owned: &'s [ResourceId],
+    pub(crate) whole: bool,
+    pub(crate) shelf: &'s [Shelf<'s, V>],
+    pub(crate) own: &'a mut Table<V>,
+}
+
+impl<'s, 'a, V: ResourceValue> View<'s, 'a, V> {
+    // The slot that is lent shared for an id.
+    pub(crate) fn lent_slot(&self, id: ResourceId) -> Option<&'s Slot<V>>
+        ensures { option_copied result ≡ lent_slot self.now.shelf.now id }
+    {
+        match self.shelf.first() {
+            Some(shelf) => shelf.slot(id),
+            None => None,
+        }
+    }
+
+    // The slot that the view shows for an id.
+    fn slot(&self, id: ResourceId) -> Option<&Slot<V>>
+        ensures { option_copied result ≡ view_slot self.now id }
+    {
+        match self.own.slot(id) {
+            Some(slot) => Some(slot),
+            None => {
+                if self.owned.contains(&id) {
+                    None
+                } else {
+                    self.lent_slot(id)
+                }
+            }
+        }
+    }
+
+    pub(crate) fn is_whole(&self) -> bool
+        ensures { result ≡ is_whole self.now }
+    {
+        self.whole && self.shelf.is_empty()
+    }
+
+    pub(crate) fn may_write(&self, id: ResourceId) -> bool
+        ensures { result ≡ may_write self.now id }
+    {
+        self.is_whole() || (self.writes.contains(&id) && self.owned.contains(&id))
+    }
+
+    pub(crate) fn may_read(&self, id: ResourceId) -> bool
+        ensures { result ≡ may_read self.now id }
+    {
+        self.reads.contains(&id) || self.may_write(id)
+    }
+
+    // The value that the view shows under an id.
+    fn get(&self, id: ResourceId) -> Option<&V>
+        ensures { option_copied result ≡ view_held V.kind_of self.now id }
+    {
+        match self.slot(id) {
+            Some(slot) => slot.held(id),
+            None => None,
+        }
+    }
+
+    fn is_out(&self, id: ResourceId) -> bool
+        ensures { result ≡ is_out self.now id }
+    {
+        self.own.has_note(id) && self.is_vacant(id)
+    }
+
+    // Whether the view's own slot of an id is empty.
+    fn is_vacant(&self, id: ResourceId) -> bool
+        ensures { result ≡ is_vacant (slot_at self.now.own.now id) }
+    {
+        match self.own.slot(id) {
+            Some(slot) => slot.value.is_none(),
+            None => false,
+        }
+    }
+
+    // The tests of a part that come before the look whether a value is held.
+    pub(crate) fn test<R: Resource<V>>(
+        &self,
+        id: ResourceId,
+        declared: bool,
+    ) -> Result<(), DataError>
+        ensures { result_err result ≡ refusal R.KIND id declared (is_out self.now id) true }
+    {
+        if R::KIND != id.kind() {
+            return Err(DataError::WrongKind {
+                asked: R::KIND,
+                found: id.kind(),
+            });
+        }
+        if !declared {
+            return Err(DataError::Undeclared(id));
+        }
+        if self.is_out(id) {
+            return Err(DataError::Taken(id));
+        }
+        Ok(())
+    }
+
+    /// The resource that is held under an id which is declared to be read or written. The first that fits of `WrongKind`,
+    /// `Undeclared`, `Taken`, `Missing`.
+    pub fn read<R: Resource<V>>(&self, id: ResourceId) -> Result<&R, DataError>
+        ensures refused { result_err result ≡ refusal R.KIND id (may_read self.now id) (is_out self.now id) (is_some (view_held V.kind_of self.now id)) }
+        ensures shown { IfOk result (λ r. view_held V.kind_of self.now id ≡ Some (R.wrapped r.now)) }
+    {
+        if let Err(error) = self.test::<R>(id, self.may_read(id)) {
+            return Err(error);
+        }
+        let Some(value) = self.get(id) else {
+            return Err(DataError::Missing(id));
+        };
+        match R::view(value) {
+            Some(resource) => Ok(resource),
+            None => Err(DataError::Missing(id)),
+        }
+    }
+
+    /// The resource that is held under an id which is declared to be written, to write. The tests
+    /// of `read`, with `Undeclared` where the id is not declared to be written.
+    pub fn write<R: Resource<V>>(&mut self, id: ResourceId) -> Result<&mut R, DataError>
+        ensures refused { result_err result ≡ refusal R.KIND id (may_write self.old id) (is_out self.old id) (is_some (view_held V.kind_of self.old id)) }
+        ensures shown { IfOk result (λ r. view_held V.kind_of self.old id ≡ Some (R.wrapped r.now)) }
+        ensures* written { sem 𝓛 (LendsWritten V.row R.row V.kind_of R.wrapped self.entry id result) }
+    {
+        if let Err(error) = self.test::<R>(id, self.may_write(id)) {
+            return Err(error);
+        }
+        let Some(resource) = self.own.resource_mut::<R>(id) else {
+            return Err(DataError::Missing(id));
+        };
+        Ok(resource)
+    }
+
+    /// The view of fewer ids, which all lie in this view's own, while nothing of this view is out.
+    pub fn narrow<'b>(
+        &'b mut self,
+        reads: &'b [ResourceId],
+        writes: &'b [ResourceId],
+    ) -> View<'b, 'b, V>
+        requires nothing_out { (id : ResourceId) → is_out self.old id ≡ false }
+        requires reads_within { (id : ResourceId) → IsTrue (among reads.now id) → IsTrue (may_read self.old id) }
+        requires writes_within { (id : ResourceId) → IsTrue (among writes.now id) → IsTrue (may_write self.old id) }
+        ensures reads { (id : ResourceId) → may_read result id ≡ (among reads.now id || among writes.now id) }
+        ensures writes { (id : ResourceId) → may_write result id ≡ among writes.now id }
+        ensures nothing_out { (id : ResourceId) → is_out result id ≡ false }
+        ensures shown { (id : ResourceId) → view_held V.kind_of result id ≡ view_held V.kind_of self.old id }
+        ensures own { table_in result ≡ table_in self.old }
+        ensures owned { owned_ids result ≡ cond (is_whole self.old) writes.now (owned_ids self.old) }
+        ensures shelf { shelves_of result ≡ shelves_of self.old }
+        ensures* back { sem 𝓛 (LendsNarrow V.row self.entry result) }
+    {
+        let owned = if self.is_whole() { writes } else { self.owned };
+        View {
+            reads,
+            writes,
+            owned,
+            whole: false,
+            shelf: self.shelf,
+            own: &mut *self.own,
+        }
+    }
+
+    // The view of all that a table holds, to read and to write.
+    pub(crate) fn whole(own: &'a mut Table<V>) -> Self
+        ensures name { result.own.ghost_name ≡ own.entry.ghost_name }
+        ensures slots { result.own.now.slots ≡ own.old.slots }
+        ensures whole { is_whole result ≡ true }
+        ensures grant { grant_of V.kind_of result ≡ map_grant (held V.kind_of own.old) }
+    {
+        own.forget_notes();
+        Self::whole_as_left(own)
+    }
+
+    // The same, with what is noted as handed out.
+    pub(crate) fn whole_as_left(own: &'a mut Table<V>) -> Self
+        ensures name { result.own.ghost_name ≡ own.entry.ghost_name }
+        ensures table { result.own.now ≡ own.old }
+        ensures whole { is_whole result ≡ true }
+        ensures grant { grant_of V.kind_of result ≡ table_grant V.kind_of own.old }
+    {
+        let none: &'s [ResourceId] = &[];
+        View {
+            reads: none,
+            writes: none,
+            owned: none,
+            whole: true,
+            shelf: &[],
+            own,
+        }
+    }
+}
+
+impl<'s, 'a, V> View<'s, 'a, V> {
+    /// The view of these ids over a table, and over what is lent shared where the table has no slot. It is there for
+    /// those who lend views of a world's table.
+    pub fn over(
+        reads: &'s [ResourceId],
+        writes: &'s [ResourceId],
+        shelf: &'s [Shelf<'s, V>],
+        own: &'a mut Table<V>,
+    ) -> Self
+        ensures name { result.own.ghost_name ≡ own.entry.ghost_name }
+        ensures slots { result.own.now.slots ≡ own.old.slots }
+        ensures reads { result.reads.now ≡ reads.now }
+        ensures writes { result.writes.now ≡ writes.now }
+        ensures owned { result.owned.now ≡ writes.now }
+        ensures not_whole { is_whole result ≡ false }
+        ensures nothing_out { (id : ResourceId) → is_out result id ≡ false }
+        ensures shelf { result.shelf.now ≡ shelf.now }
+    {
+        own.forget_notes();
+        View {
+            reads,
+            writes,
+            owned: writes,
+            whole: false,
+            shelf,
+            own,
+        }
+    }
+}

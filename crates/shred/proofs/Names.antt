@@ -1,8 +1,4 @@
--- Names of systems, and the printed plan.
+-- Names of systems.
 pub mod Consistent
 pub mod Known
 pub mod KnownNames
-pub mod LeastNames
-pub mod Unnamed
-pub mod Prints
-pub mod Sinks

@@ -1,8 +1,8 @@
 -- Builders of dispatchers, and what they have come to.
 use Rattle.std.specs.Prelude.{List}
-use Rattle.shred.specs.BuilderPlan.{planned, barrier_of, builder_states}
+use Rattle.shred_stage.specs.BuilderPlan.{planned, barrier_of, builder_states}
 use Rattle.shred.specs.Built.{Built}
-use Rattle.shred.specs.Names.{Pair, names_of, pairs_of}
+use Rattle.shred_stage.specs.Names.{Pair, names_of, pairs_of}
 use Rattle.shred.specs.declared.dispatch.builder.DispatcherBuilder.{DispatcherBuilder}
 
 -- what a builder has come to

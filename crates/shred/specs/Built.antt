@@ -3,12 +3,12 @@ use Rattle.std.specs.Prelude.{◌≡◌, ℕ, ◌<◌, ◌+◌, ◌-◌, ◌^◌
 use Rattle.shred_world.specs.declared.id.ResourceId.{ResourceId}
 use Rattle.shred_model.specs.Plan.{Entry, Plan}
 use Rattle.shred_model.specs.Record.{Agent}
-use Rattle.shred.specs.Added.{AreSame, IsAdded}
-use Rattle.shred.specs.Earlier.{HasIdAt, IsFromBarrier, StandsAfter, AllBeforeBarrier}
-use Rattle.shred.specs.Kept.{IsKept}
-use Rattle.shred.specs.Known.{Known, KnowsAll, IsFirstUnknown, ids_of, with_name}
-use Rattle.shred.specs.Placement.{IsPlaced}
-use Rattle.shred.specs.declared.system.RunningTime.{RunningTime}
+use Rattle.shred_stage.specs.Added.{AreSame, IsAdded}
+use Rattle.shred_stage.specs.Earlier.{HasIdAt, IsFromBarrier, StandsAfter, AllBeforeBarrier}
+use Rattle.shred_stage.specs.Kept.{IsKept}
+use Rattle.shred_stage.specs.Known.{Known, KnowsAll, IsFirstUnknown, ids_of, with_name}
+use Rattle.shred_stage.specs.Placement.{IsPlaced}
+use Rattle.shred_stage.specs.declared.system.RunningTime.{RunningTime}
 use Rattle.shred.specs.declared.dispatch.add_error.AddError.{AddError}
 use Rattle.shred.specs.declared.dispatch.add_error.AddError.TheVariants.{NoSuchSystem, NameTaken, IdsExhausted, OutOfMemory}
 

@@ -6,11 +6,11 @@ use Rattle.shred_model.specs.Record.{Record, Agent, under}
 use Rattle.shred_model.specs.Runs.{Answer, RunsUpToFault, RunsEach}
 use Rattle.shred_world.specs.declared.id.Kind.{Kind}
 use Rattle.shred_world.specs.declared.id.ResourceId.{ResourceId}
-use Rattle.shred.specs.declared.dispatch.run.StageFault.TheVariants.{System, Memory}
-use Rattle.shred.specs.Entries.{EntryRun, GroupRun, entry_answer}
-use Rattle.shred.specs.Plans.{PlanRun, PlanTurn}
+use Rattle.shred_stage.specs.declared.dispatch.run.StageFault.TheVariants.{System, Memory}
+use Rattle.shred_stage.specs.Entries.{EntryRun, GroupRun, entry_answer}
+use Rattle.shred.specs.PlanRuns.{PlanRun, PlanTurn}
 use Rattle.shredexample.specs.Entries.{stage_entries, plan_entries}
-use Rattle.shred.specs.Steps.{Outcome, Step, Written, IsStep}
+use Rattle.shred_stage.specs.Steps.{Outcome, Step, Written, IsStep}
 
 -- The record is a step of the entry's system, and it was Done.
 pub record IsDoneStep {V S E : Type 0} (kind : V → Kind) (step : Step V S E) (entry : Entry ResourceId) (r : Written V S E) : Type 0 where

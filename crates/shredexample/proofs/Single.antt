@@ -10,9 +10,9 @@ use Rattle.shred_model.specs.Replay.{Configuration, Replays}
 use Rattle.shred_world.specs.declared.id.Kind.{Kind}
 use Rattle.shred_world.specs.declared.id.ResourceId.{ResourceId}
 use Rattle.shred_world.specs.Worked.{Held}
-use Rattle.shred.specs.Placement.{IsPlaced, in_new_group, at_end_of_group, in_new_stage}
-use Rattle.shred.specs.Plans.{PlanRun}
-use Rattle.shred.specs.Steps.{Step, Written}
+use Rattle.shred_stage.specs.Placement.{IsPlaced, in_new_group, at_end_of_group, in_new_stage}
+use Rattle.shred.specs.PlanRuns.{PlanRun}
+use Rattle.shred_stage.specs.Steps.{Step, Written}
 use Rattle.shredexample.specs.Entries.{plan_entries}
 use Rattle.shredexample.proofs.Done.{IsDoneStep, plan_done}
 

@@ -14,9 +14,9 @@ use Rattle.shred_world.specs.declared.id.ResourceId.{ResourceId}
 use Rattle.shred_world.specs.declared.world.view.DataError.{DataError}
 use Rattle.shred_world.proofs.Tables.Ids.{tell_ids}
 use Rattle.shred.specs.declared.dispatch.dispatcher.DispatchError.{DispatchError}
-use Rattle.shred.specs.Placement.{IsPlaced}
-use Rattle.shred.specs.Plans.{PlanRun}
-use Rattle.shred.specs.Steps.{Outcome, Written}
+use Rattle.shred_stage.specs.Placement.{IsPlaced}
+use Rattle.shred.specs.PlanRuns.{PlanRun}
+use Rattle.shred_stage.specs.Steps.{Outcome, Written}
 use Rattle.shredexample.specs.declared.Value.{Value}
 use Rattle.shredexample.specs.declared.Value.TheVariants.{Count as counted}
 use Rattle.shredexample.specs.Entries.{plan_entries}

@@ -2,9 +2,9 @@
 use Rattle.std.proofs.Common.{◌≡◌, ℕ, suc, ◌+◌, ◌%◌, ◌^◌, List, [], length, subst, arith}
 use Rattle.shred_model.specs.Plan.{Entry, Plan}
 use Rattle.shred_world.specs.declared.id.ResourceId.{ResourceId}
-use Rattle.shred.specs.declared.system.RunningTime.TheVariants.{Average}
-use Rattle.shred.specs.Kept.{IsKept}
-use Rattle.shred.specs.Placement.{IsPlaced}
+use Rattle.shred_stage.specs.declared.system.RunningTime.TheVariants.{Average}
+use Rattle.shred_stage.specs.Kept.{IsKept}
+use Rattle.shred_stage.specs.Placement.{IsPlaced}
 use Rattle.shredmeasure.specs.Random.{AreDrawn, AreDrawnOften, ids_drawn, next_seed, reads_drawn, seed_left, writes_drawn}
 
 pub drawn-next : (n next seed last left barrier : ℕ) (plan placed : Plan ResourceId) (entry : Entry ResourceId) (reads writes : List ResourceId) → next ≡ n + 1 → AreDrawn n seed plan last

@@ -2,7 +2,7 @@
 use Rattle.std.proofs.Common.{◌≡◌, ℕ, zero, suc, List, [], ◌∷◌, ◌++◌, Some, refl, sym, ap, subst, ◌∙◌, append_assoc, append-nil}
 use Rattle.std.specs.List.{slice_get, slice_set, flat_map}
 use Rattle.shred_model.specs.Plan.{Entry, Plan}
-use Rattle.shred.specs.Placement.{IsPlaced, in_new_group, at_end_of_group, in_new_stage}
+use Rattle.shred_stage.specs.Placement.{IsPlaced, in_new_group, at_end_of_group, in_new_stage}
 use Rattle.shredexample.specs.Entries.{stage_entries, plan_entries}
 
 -- one more stands somewhere in the list

@@ -2,9 +2,9 @@
 use Rattle.std.specs.Prelude.{◌≡◌, ℕ, zero, suc, ◌+◌, ◌*◌, ◌/◌, ◌%◌, ◌^◌, ◌==◌, Bool, cond, List, [], ◌∷◌, ◌++◌, length}
 use Rattle.shred_model.specs.Plan.{Entry, Plan}
 use Rattle.shred_world.specs.declared.id.ResourceId.{ResourceId}
-use Rattle.shred.specs.declared.system.RunningTime.TheVariants.{Average}
-use Rattle.shred.specs.Kept.{IsKept}
-use Rattle.shred.specs.Placement.{IsPlaced}
+use Rattle.shred_stage.specs.declared.system.RunningTime.TheVariants.{Average}
+use Rattle.shred_stage.specs.Kept.{IsKept}
+use Rattle.shred_stage.specs.Placement.{IsPlaced}
 use Rattle.shredmeasure.specs.Counts.{count_id}
 
 -- the next of a row of numbers that look random

@@ -1,6 +1,6 @@
 //! Systems of random accesses, which are only planned.
 ghost use Rattle.std.specs.Prelude.{◌≡◌, IfOk};
-ghost use Rattle.shred.specs.declared.system.RunningTime.TheVariants.{Average};
+ghost use Rattle.shred_stage.specs.declared.system.RunningTime.TheVariants.{Average};
 ghost use Rattle.shredmeasure.specs.Random.{ids_drawn, next_seed, reads_drawn, seed_left, writes_drawn};
 
 use crate::adder::count_id;

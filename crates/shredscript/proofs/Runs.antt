@@ -8,7 +8,7 @@ use Rattle.shred_model.specs.States.{configuration_of}
 use Rattle.shred_world.specs.declared.id.ResourceId.{ResourceId}
 use Rattle.shred_world.specs.Worked.{Held}
 use Rattle.shred.specs.Built.{Built}
-use Rattle.shred.specs.Names.{AreNames, Pair}
+use Rattle.shred_stage.specs.Names.{AreNames, Pair}
 use Rattle.std.specs.Prelude.{IfOk, Option, Result, Ok, Err}
 use Rattle.shredscript.specs.declared.error.ScriptError.{ScriptError}
 use Rattle.shredscript.specs.declared.error.ScriptError.TheVariants.{TooLong, InputFailed, Line, Refused, Unnamed, OutOfMemory, OutputFailed}

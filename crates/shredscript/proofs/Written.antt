@@ -3,7 +3,7 @@ use Rattle.std.proofs.Common.{◌≡◌, ℕ, ◌+◌, ◌≤◌, List, [], ◌+
 use Rattle.std.proofs.KnownBytes.{Appends-kept, Appends-trans}
 use Rattle.std.proofs.lemmas.List.{append-nil, take-append-drop}
 use Rattle.std.specs.Io.KnownBytes.{Appends, Keeps, WriteAppends}
-use Rattle.shred.specs.Sinks.{AppendsBeginning}
+use Rattle.shred_stage.specs.Sinks.{AppendsBeginning}
 
 -- a piece of what is left was taken
 pub written-more : (old mid new : Option (List ℕ)) (text piece : List ℕ) (done count next : ℕ) → Appends old mid (take done text) → piece ≡ drop done text → Appends mid new (take count piece) → next ≡ done + count → Appends old new (take next text)

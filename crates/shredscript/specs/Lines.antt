@@ -1,7 +1,7 @@
 -- What the lines of a script make of a builder.
 use Rattle.std.specs.Prelude.{◌≡◌, ℕ, List, [], ◌∷◌, ◌++◌}
 use Rattle.shred.specs.Built.{Built, IsAddition, IsBarrierSet, IsNewBuilt, IsRefusal, MayAdd}
-use Rattle.shred.specs.Known.{texts_of}
+use Rattle.shred_stage.specs.Known.{texts_of}
 use Rattle.shred.specs.declared.dispatch.add_error.AddError.{AddError}
 use Rattle.shred.specs.declared.dispatch.add_error.AddError.TheVariants as builder
 use Rattle.shredscript.specs.declared.error.AddRefusal.{AddRefusal}

@@ -2,9 +2,9 @@
 use Rattle.std.specs.Prelude.{◌≡◌, ℕ, Bool, true, false, None, Some, List, [], ◌++◌}
 use Rattle.shred_model.specs.Plan.{Plan, plan_ids}
 use Rattle.shred_world.specs.declared.id.ResourceId.{ResourceId}
-use Rattle.shred.specs.Names.{Pair, first_unnamed}
-use Rattle.shred.specs.Printed.{line_feed, plan_text}
-use Rattle.shred.specs.StagePlan.{widest}
+use Rattle.shred_stage.specs.Names.{Pair, first_unnamed}
+use Rattle.shred_stage.specs.Printed.{line_feed, plan_text}
+use Rattle.shred_stage.specs.StagePlan.{widest}
 use Rattle.shredscript.specs.declared.error.ScriptError.{ScriptError}
 use Rattle.shredscript.specs.declared.error.ScriptError.TheVariants.{TooLong, InputFailed, Line, Refused, Unnamed, OutOfMemory, OutputFailed}
 use Rattle.shredscript.specs.Texts.{line_of, threads_text}

@@ -11,10 +11,10 @@ use Rattle.shred_model.specs.States.{configuration_of}
 use Rattle.shred_world.specs.declared.id.ResourceId.{ResourceId}
 use Rattle.shred_world.specs.Worked.{Held}
 use Rattle.shred.specs.Built.{Built}
-use Rattle.shred.specs.Names.{AreNames, Pair, first_unnamed}
-use Rattle.shred.specs.Plans.{PlanRun}
-use Rattle.shred.specs.Sinks.{AppendsBeginning}
-use Rattle.shred.specs.Steps.{Outcome as Ends}
+use Rattle.shred_stage.specs.Names.{AreNames, Pair, first_unnamed}
+use Rattle.shred.specs.PlanRuns.{PlanRun}
+use Rattle.shred_stage.specs.Sinks.{AppendsBeginning}
+use Rattle.shred_stage.specs.Steps.{Outcome as Ends}
 use Rattle.shred.specs.declared.dispatch.dispatcher.DispatchError.{DispatchError}
 use Rattle.shredscript.specs.declared.error.ScriptError.{ScriptError}
 use Rattle.shredscript.specs.declared.error.ScriptError.TheVariants.{TooLong, InputFailed, Line, Refused, Unnamed, OutOfMemory, OutputFailed}

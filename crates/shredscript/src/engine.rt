@@ -1,5 +1,5 @@
 //! From a script's bytes to its outcome's.
-ghost use Rattle.shred.specs.Sinks.{AppendsBeginning};
+ghost use Rattle.shred_stage.specs.Sinks.{AppendsBeginning};
 ghost use Rattle.shredscript.specs.Runs.{HasEnded, IsReadFor, IsReported};
 ghost use Rattle.shredscript.specs.Texts.{error_text, line_of};
 

@@ -1,7 +1,7 @@
 //! Writing a text whole.
 ghost use Rattle.std.specs.Prelude.{OnErr, OnOk};
 ghost use Rattle.std.specs.Io.KnownBytes.{Appends};
-ghost use Rattle.shred.specs.Sinks.{AppendsBeginning};
+ghost use Rattle.shred_stage.specs.Sinks.{AppendsBeginning};
 
 use std::io;
 use std::io::{ErrorKind, Write};

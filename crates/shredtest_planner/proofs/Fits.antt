@@ -11,11 +11,11 @@ use Rattle.std.proofs.lemmas.List.Elements.{Contains-get_or}
 use Rattle.std.proofs.lemmas.Option.{slice_get_within, slice_get_read, slice_get-get_or, get_or_from_slice_get}
 use Rattle.shred_model.specs.Access.{Access, Conflicts}
 use Rattle.shred_model.specs.Plan.{Entry, Group, Stage, Plan, group_ids, group_access, group_time}
-use Rattle.shred.specs.Placement.{greatest_time, IsTouched, AdmitsNewGroup, AdmitsAtEndOf, HoldsTheOneLeft, NoneAdmits, dependencies_left, IsPlaced, in_new_group, at_end_of_group}
-use Rattle.shred.specs.Search.{group_conflicts, holds_any, is_touched}
-use Rattle.shred.proofs.Planner.Membership.{Some_of, list_any_decides, Contains-nil, Contains-head, Contains-cons_cases}
-use Rattle.shred.proofs.Planner.Searching.{none_yet}
-use Rattle.shred.proofs.Planner.Tests.{group_conflicts-Decides, holds_any-Decides, is_touched-Decides}
+use Rattle.shred_stage.specs.Placement.{greatest_time, IsTouched, AdmitsNewGroup, AdmitsAtEndOf, HoldsTheOneLeft, NoneAdmits, dependencies_left, IsPlaced, in_new_group, at_end_of_group}
+use Rattle.shred_stage.specs.Search.{group_conflicts, holds_any, is_touched}
+use Rattle.shred_stage.proofs.Planner.Membership.{Some_of, list_any_decides, Contains-nil, Contains-head, Contains-cons_cases}
+use Rattle.shred_stage.proofs.Planner.Searching.{none_yet}
+use Rattle.shred_stage.proofs.Planner.Tests.{group_conflicts-Decides, holds_any-Decides, is_touched-Decides}
 use Rattle.shredtest_planner.specs.Slow.{any_conflicts, any_touched, end_fits, FoundIs, new_group_fits, one_left_is_held, others_touched}
 use Rattle.shredtest_planner.specs.declared.slow_placement.PlainPlace.TheVariants.{NewGroup, EndOf}
 

@@ -8,13 +8,13 @@ use Rattle.std.proofs.lemmas.List.{map-set, set-get_or, get_or-map, get_or_defau
 use Rattle.std.proofs.lemmas.List.Folds.{list_any_at}
 use Rattle.shred_model.specs.Access.{Access}
 use Rattle.shred_model.specs.Plan.{Plan, group_ids, group_time}
-use Rattle.shred.specs.Placement.{greatest_time, difference, dependencies_left, without}
-use Rattle.shred.specs.Search.{holds_any}
-use Rattle.shred.proofs.Planner.Membership.{list_any-map}
-use Rattle.shred.proofs.Planner.Times.{greatest_time-push, group_time-le-greatest}
-use Rattle.shred.proofs.Planner.Ids.{without-first, without-absent}
-use Rattle.shred.proofs.Planner.Left.{difference-append}
-use Rattle.shred.proofs.Planner.Touching.{read_more}
+use Rattle.shred_stage.specs.Placement.{greatest_time, difference, dependencies_left, without}
+use Rattle.shred_stage.specs.Search.{holds_any}
+use Rattle.shred_stage.proofs.Planner.Membership.{list_any-map}
+use Rattle.shred_stage.proofs.Planner.Times.{greatest_time-push, group_time-le-greatest}
+use Rattle.shred_stage.proofs.Planner.Ids.{without-first, without-absent}
+use Rattle.shred_stage.proofs.Planner.Left.{difference-append}
+use Rattle.shred_stage.proofs.Planner.Touching.{read_more}
 use Rattle.shredtest_planner.specs.Plain.{entry_of, group_of}
 use Rattle.shredtest_planner.specs.Slow.{any_touched, others_touched}
 use Rattle.shredtest_planner.specs.declared.plain_plan.PlainEntry.{PlainEntry}

@@ -3,10 +3,10 @@ use Rattle.std.specs.Prelude.{◌≡◌, ℕ, ◌≤◌, ◌+◌, ◌-◌, ◌*�
 use Rattle.std.specs.List.{list_any}
 use Rattle.shred_model.specs.Access.{Access}
 use Rattle.shred_model.specs.Plan.{Entry, Group, Stage, Plan, group_time}
-use Rattle.shred.specs.Placement.{greatest_time, dependencies_left, AdmitsNewGroup, AdmitsAtEndOf, NoneAdmits}
+use Rattle.shred_stage.specs.Placement.{greatest_time, dependencies_left, AdmitsNewGroup, AdmitsAtEndOf, NoneAdmits}
 use Rattle.shredtest_planner.specs.declared.slow_placement.PlainPlace.{PlainPlace}
 use Rattle.shredtest_planner.specs.declared.slow_placement.PlainPlace.TheVariants.{NewGroup, EndOf, NewStage}
-use Rattle.shred.specs.Search.{group_conflicts, holds_any, is_touched}
+use Rattle.shred_stage.specs.Search.{group_conflicts, holds_any, is_touched}
 
 -- some group conflicts
 abbrev pub any_conflicts : Access ℕ → Stage ℕ → Bool

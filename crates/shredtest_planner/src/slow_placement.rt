@@ -1,13 +1,13 @@
 //! The placement rule, followed word for word and without haste.
 ghost use Rattle.std.specs.Prelude.{◌≡◌, ◌<◌, ◌≤◌, ◌^◌, ℕ, List, [], ◌∷◌, ◌++◌, length, map, nat_eq, slice_index_or, slice_set, take, drop, IsTrue, IfOk, OnOk, OnErr, MatchOption};
 ghost use Rattle.shred_model.specs.Plan.{group_ids, group_time, stage_ids};
-ghost use Rattle.shred.specs.Placement.{difference, dependencies_left, greatest_time, without, AdmitsAtEndOf, AdmitsNewGroup, IsPlaced};
-ghost use Rattle.shred.specs.Search.{accesses_conflict, group_conflicts, holds_any, is_touched, share_item};
+ghost use Rattle.shred_stage.specs.Placement.{difference, dependencies_left, greatest_time, without, AdmitsAtEndOf, AdmitsNewGroup, IsPlaced};
+ghost use Rattle.shred_stage.specs.Search.{accesses_conflict, group_conflicts, holds_any, is_touched, share_item};
 ghost use Rattle.shredtest_planner.specs.Plain.{access_of, entry_of, group_of, stage_of, plan_of};
 ghost use Rattle.shredtest_planner.specs.Slow.{any_conflicts, any_touched, end_fits, EndIs, FoundIs, new_group_fits, one_left_is_held, others_touched};
 
 use crate::plain_plan::{PlainEntry, PlainGroup, PlainPlan, PlainStage};
-use shred::{OutOfMemory, check_intersection};
+use shred_world::{OutOfMemory, check_intersection};
 use std::alloc::Global;
 
 /// Where an entry goes: to a new group of a stage, to the end of a stage's group, or to a new stage.

@@ -4,10 +4,10 @@ use Rattle.std.proofs.lemmas.Slice.Eq.{bytes_eq-Decides}
 use Rattle.std.specs.Str.{bytes_eq}
 use Rattle.shred_model.specs.Plan.{Entry, Plan, entry_at}
 use Rattle.shred_model.specs.Record.{Agent}
-use Rattle.shred.specs.Added.{IsNewAt}
+use Rattle.shred_stage.specs.Added.{IsNewAt}
 use Rattle.shred.specs.Built.{Built, IsConsistent}
-use Rattle.shred.specs.Earlier.{HasIdAt}
-use Rattle.shred.specs.Known.{Known, with_name}
+use Rattle.shred_stage.specs.Earlier.{HasIdAt}
+use Rattle.shred_stage.specs.Known.{Known, with_name}
 use Rattle.shred_world.specs.declared.id.ResourceId.{ResourceId}
 
 path-cases : (path place : List ℕ) → (path ≡ place) ⊎ (path ≢ place)

@@ -11,11 +11,11 @@ use Rattle.std.specs.Prelude.{unwrap_or}
 use Rattle.std.specs.Str.{bytes_eq}
 use Rattle.std.specs.String.{string_bytes, string_eq}
 use Rattle.std.specs.declared.string.String.{String}
-use Rattle.shred.specs.Known.{Known, KnowsBefore, ids_of, with_name}
-use Rattle.shred.specs.PlanOf.{numbers_of}
-use Rattle.shred.proofs.Planner.Touching.{read_more}
-use Rattle.shred.specs.Names.{names_of}
-use Rattle.shred.specs.declared.dispatch.entry.SystemId.{SystemId}
+use Rattle.shred_stage.specs.Known.{Known, KnowsBefore, ids_of, with_name}
+use Rattle.shred_stage.specs.PlanOf.{numbers_of}
+use Rattle.shred_stage.proofs.Planner.Touching.{read_more}
+use Rattle.shred_stage.specs.Names.{names_of}
+use Rattle.shred_stage.specs.declared.dispatch.entry.SystemId.{SystemId}
 
 cond-map : (b : Bool) (x y : Option SystemId) → option_map (λ id. id.0) (cond b x y) ≡ cond b (option_map (λ id. id.0) x) (option_map (λ id. id.0) y)
 cond-map true x y = refl

@@ -10,11 +10,11 @@ use Rattle.std.proofs.lemmas.Option.{slice_get_within, get_or_from_slice_get, sl
 use Rattle.shred_model.specs.Plan.{Entry, Plan, group_ids, stage_ids, plan_ids, entry_at}
 use Rattle.shred_model.specs.Record.{Agent}
 use Rattle.shred_model.specs.States.{own_state, listed_states}
-use Rattle.shred.specs.Added.{IsNewAt}
-use Rattle.shred.specs.Earlier.{ComesAfter, HasId, StandsAfter, plan_has}
-use Rattle.shred.specs.Known.{Known, KnowsAll, ids_of, with_name}
-use Rattle.shred.proofs.Planner.Earlier.{entry-of_id}
-use Rattle.shred.proofs.Planner.Membership.{Contains-flat_map, Some_of, list_any_decides}
+use Rattle.shred_stage.specs.Added.{IsNewAt}
+use Rattle.shred_stage.specs.Earlier.{ComesAfter, HasId, StandsAfter, plan_has}
+use Rattle.shred_stage.specs.Known.{Known, KnowsAll, ids_of, with_name}
+use Rattle.shred_stage.proofs.Planner.Earlier.{entry-of_id}
+use Rattle.shred_stage.proofs.Planner.Membership.{Contains-flat_map, Some_of, list_any_decides}
 
 pub contains-at : {X : Type 0} (xs : List X) (k : ℕ) (x : X) → slice_get xs k ≡ Some x → Contains xs x
 contains-at xs k x at = (k, slice_get_within xs k x at, get_or_from_slice_get xs k x x at)

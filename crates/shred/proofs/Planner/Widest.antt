@@ -1,7 +1,7 @@
 -- The widest stage, counted stage after stage.
 use Rattle.std.proofs.Common.{◌≡◌, ℕ, zero, suc, ◌+◌, ◌<◌, List, [], ◌∷◌, length, get_or, map, take, max, ap, sym, arith, add-one}
 use Rattle.shred_model.specs.Plan as model
-use Rattle.shred.specs.StagePlan.{widest}
+use Rattle.shred_stage.specs.StagePlan.{widest}
 
 widest-suc : {I Y : Type 0} (view : Y → model.Stage I) (ys : List Y) (n : ℕ) (d : Y) → n < length ys → widest (take (suc n) (map view ys)) ≡ max (widest (take n (map view ys))) (length (view (get_or ys n d)))
 widest-suc view [] n d below = absurd (omega arith)

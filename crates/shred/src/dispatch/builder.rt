@@ -5,23 +5,20 @@ ghost use Rattle.std.specs.String.{string_eq};
 ghost use Rattle.std.proofs.Props.{props};
 ghost use Rattle.shred_model.specs.Plan.{plan_ids};
 ghost use Rattle.shred_model.specs.Record.{Agent};
-ghost use Rattle.shred.specs.BuilderPlan.{planned, barrier_of, builder_states};
+ghost use Rattle.shred_stage.specs.BuilderPlan.{planned, barrier_of, builder_states};
 ghost use Rattle.shred.specs.Built.{IsAddition, IsBarrierSet, IsConsistent, IsNewBuilt, IsRefusal, IsSameBuilt, MayAdd};
 ghost use Rattle.shred.specs.Dispatchers.{dispatcher_plan, dispatcher_states};
-ghost use Rattle.shred.specs.Earlier.{plan_has};
-ghost use Rattle.shred.specs.Known.{texts_of};
-ghost use Rattle.shred.specs.Names.{AreNames, first_unnamed, names_of};
-ghost use Rattle.shred.specs.Printed.{line_feed, plan_text};
-ghost use Rattle.shred.specs.Prints.{IsPrinted};
+ghost use Rattle.shred_stage.specs.Earlier.{plan_has};
+ghost use Rattle.shred_stage.specs.Known.{texts_of};
+ghost use Rattle.shred_stage.specs.Names.{AreNames, first_unnamed, names_of};
+ghost use Rattle.shred_stage.specs.Printed.{line_feed, plan_text};
+ghost use Rattle.shred_stage.specs.Prints.{IsPrinted};
 
 use crate::dispatch::add_error::AddError;
 use crate::dispatch::dispatcher::{Dispatcher, new_dispatcher};
-use crate::dispatch::entry::SystemId;
 use crate::dispatch::look_up::{enter, first_unknown, forget, id_of, ids_of};
-use crate::dispatch::printing::PrintError;
-use crate::dispatch::sink::PlanSink;
-use crate::dispatch::stages_builder::StagesBuilder;
-use crate::system::System;
+use shred_stage::dispatch::printing::print_with_end;
+use shred_stage::{PlanSink, PrintError, StagesBuilder, System, SystemId};
 use shred_world::{OutOfMemory, ResourceValue};
 use std::alloc::Global;
 use std::collections::HashMap;
@@ -103,7 +100,7 @@ impl<V: ResourceValue, S: System<V>> DispatcherBuilder<V, S> {
         ensures names { AreNames (builder_pairs self.now) (built self.now).known }
         ensures consistent { IsConsistent (built self.now) }
     {
-        self.stages.print(sink, &self.names, b"\n")
+        print_with_end(&self.stages, sink, &self.names, b"\n")
     }
 
     /// The dispatcher of the plan. It takes no memory.

@@ -1,15 +1,14 @@
 //! The dispatcher: it runs a plan.
 ghost use Rattle.std.specs.Prelude.{◌≡◌, Err};
 ghost use Rattle.shred_model.specs.Record.{Agent};
-ghost use Rattle.shred.specs.Dispatched.{Dispatched, stages_over, dispatcher_over};
+ghost use Rattle.shred_stage.specs.Dispatched.{Dispatched, stages_over};
+ghost use Rattle.shred.specs.Dispatchers.{dispatcher_over};
 ghost use Rattle.shred.specs.Dispatchers.{dispatcher_plan, dispatcher_states};
-ghost use Rattle.shred.specs.Plans.{PlanRun, dispatch_answer, plan_states};
-ghost use Rattle.shred.specs.StagePlan.{plan_of, widest};
+ghost use Rattle.shred_stage.specs.Plans.{plan_states};
+ghost use Rattle.shred.specs.PlanRuns.{PlanRun, dispatch_answer};
+ghost use Rattle.shred_stage.specs.StagePlan.{plan_of, widest};
 
-use crate::dispatch::entry::SystemId;
-use crate::dispatch::run::StageFault;
-use crate::dispatch::stage::Stage;
-use crate::system::{Fault, System};
+use shred_stage::{Fault, Stage, StageFault, System, SystemId};
 use shred_world::{ResourceValue, World};
 use std::fmt::Display;
 use std::thread::Threads;

@@ -4,11 +4,11 @@ ghost use Rattle.std.specs.Option.{option_map};
 ghost use Rattle.std.specs.HashMap.{IsUnique};
 ghost use Rattle.std.specs.Str.{bytes_eq};
 ghost use Rattle.std.specs.String.{string_eq};
-ghost use Rattle.shred.specs.Known.{ids_of, texts_of, with_name, IsFirstUnknown, KnowsAll};
-ghost use Rattle.shred.specs.Names.{names_of};
-ghost use Rattle.shred.specs.PlanOf.{numbers_of};
+ghost use Rattle.shred_stage.specs.Known.{ids_of, texts_of, with_name, IsFirstUnknown, KnowsAll};
+ghost use Rattle.shred_stage.specs.Names.{names_of};
+ghost use Rattle.shred_stage.specs.PlanOf.{numbers_of};
 
-use crate::dispatch::entry::SystemId;
+use shred_stage::SystemId;
 use shred_world::OutOfMemory;
 use std::alloc::Global;
 use std::collections::HashMap;

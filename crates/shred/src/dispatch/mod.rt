@@ -1,15 +1,6 @@
-//! Plans of systems, and their runs.
+//! Builders of plans, and dispatchers that run them.
 
 pub mod add_error;
-pub mod beside;
 pub mod builder;
 pub mod dispatcher;
-pub mod entry;
-pub mod fork;
-pub mod hands;
 pub mod look_up;
-pub mod printing;
-pub mod run;
-pub mod sink;
-pub mod stage;
-pub mod stages_builder;

@@ -13,9 +13,9 @@ use crate::accessor::OutOfMemory;
 use crate::id::ResourceId;
 use crate::resource::ResourceValue;
 use crate::table::Table;
-use crate::world::view::View;
 use crate::world::parted::Parts;
 use crate::world::parts::Behind;
+use crate::world::view::View;
 use std::alloc::Global;
 
 /// What is done over the view of one part.

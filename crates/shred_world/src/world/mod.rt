@@ -10,15 +10,14 @@ use crate::accessor::OutOfMemory;
 use crate::id::{Kind, ResourceId};
 use crate::resource::{Resource, ResourceValue};
 use crate::table::Table;
-use crate::world::view::View;
 use crate::world::entry::Entry;
 use crate::world::fetch::{Fetch, FetchMut};
+use crate::world::view::View;
 use std::alloc::Global;
 use thiserror::Error;
 
 pub mod absent;
 pub mod bundle;
-pub mod view;
 pub mod dynamic;
 pub mod each;
 pub mod entry;
@@ -31,6 +30,7 @@ pub mod parts;
 pub mod read;
 pub mod setup;
 pub mod tuples;
+pub mod view;
 pub mod write;
 
 /// Why a call of a world was refused.

@@ -14,9 +14,9 @@ use crate::id::ResourceId;
 use crate::parting::{move_back, move_out};
 use crate::resource::ResourceValue;
 use crate::table::Table;
-use crate::world::view::{Shelf, View};
 use crate::world::parted::Parts;
 use crate::world::tuples::joined;
+use crate::world::view::{Shelf, View};
 use std::alloc::Global;
 use std::snapshot::Snapshot;
 

@@ -8,8 +8,8 @@ use Rattle.shred_world.specs.Id.{id_of}
 use Rattle.shred_world.specs.Worlds.{world_held}
 use Rattle.shred.specs.declared.dispatch.dispatcher.DispatchError.{DispatchError}
 use Rattle.shred.specs.Dispatchers.{dispatcher_plan, dispatcher_states}
-use Rattle.shred.specs.Plans.{PlanRun}
-use Rattle.shred.specs.Steps.{Step}
+use Rattle.shred.specs.PlanRuns.{PlanRun}
+use Rattle.shred_stage.specs.Steps.{Step}
 use Rattle.shredexample.specs.declared.SetToSeven.{SetToSeven}
 use Rattle.shredexample.specs.declared.Value.{Value}
 use Rattle.shredexample.specs.declared.Value.TheVariants.{Count}

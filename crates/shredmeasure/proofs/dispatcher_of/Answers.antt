@@ -1,5 +1,5 @@
 use Rattle.std.proofs.Common.{[], arith}
-use Rattle.shred.specs.BuilderPlan.{barrier_of, planned}
+use Rattle.shred_stage.specs.BuilderPlan.{barrier_of, planned}
 use Rattle.shredmeasure.proofs.Dispatched.{on_ok, one_for_next}
 use Rattle.shredmeasure.proofs.dispatcher_of.Goals as goal
 

@@ -1,5 +1,5 @@
 use Rattle.std.proofs.Common.{◌≤◌}
-use Rattle.shred.specs.BuilderPlan.{planned}
+use Rattle.shred_stage.specs.BuilderPlan.{planned}
 use Rattle.shredmeasure.specs.Adders.{HasOneForEach}
 use Rattle.shredmeasure.proofs.dispatcher_of.Given as goal
 

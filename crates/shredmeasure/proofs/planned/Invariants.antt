@@ -1,5 +1,5 @@
 use Rattle.std.proofs.Common.{◌≡◌, ◌≤◌}
-use Rattle.shred.specs.BuilderPlan.{barrier_of, planned}
+use Rattle.shred_stage.specs.BuilderPlan.{barrier_of, planned}
 use Rattle.shredmeasure.specs.Random.{AreDrawn}
 use Rattle.shredmeasure.proofs.planned.Given as goal
 

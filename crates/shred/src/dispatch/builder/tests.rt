@@ -1,11 +1,10 @@
 //! The builder where no id is left.
 ghost use Rattle.std.specs.Prelude.{[]};
-ghost use Rattle.shred.specs.declared.system.RunningTime.TheVariants.{Short};
+ghost use Rattle.shred_stage.specs.declared.system.RunningTime.TheVariants.{Short};
 
 use crate::dispatch::add_error::AddError;
 use crate::dispatch::builder::DispatcherBuilder;
-use crate::dispatch::entry::SystemId;
-use crate::system::{Fault, RunningTime, System};
+use shred_stage::{Fault, RunningTime, System, SystemId};
 use shred_world::{Kind, OutOfMemory, ResourceValue, View, World};
 use std::alloc::Global;
 use std::test::Fail;

@@ -1,6 +1,6 @@
 use Rattle.std.proofs.Common.{ap}
 use Rattle.shred.specs.Builders.{built}
-use Rattle.shred.specs.Known.{texts_of}
+use Rattle.shred_stage.specs.Known.{texts_of}
 use Rattle.shredscript.proofs.Lines.{added-by}
 use Rattle.shredscript.proofs.build.add_system.Goals as goal
 

@@ -1,6 +1,6 @@
 use Rattle.std.proofs.Common.{subst}
 use Rattle.std.specs.Io.KnownBytes.{Appends}
-use Rattle.shred.specs.Sinks.{AppendsBeginning}
+use Rattle.shred_stage.specs.Sinks.{AppendsBeginning}
 use Rattle.shredscript.proofs.engine.run_script.Goals as goal
 
 pub returns-in-Ok-print-clause-reported : goal.returns-in-Ok-print-clause-reported

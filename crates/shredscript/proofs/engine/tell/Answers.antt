@@ -1,5 +1,5 @@
 use Rattle.std.proofs.Common.{◌≡◌, rules, subst}
-use Rattle.shred.specs.Sinks.{AppendsBeginning}
+use Rattle.shred_stage.specs.Sinks.{AppendsBeginning}
 use Rattle.shredscript.specs.Texts.{error_text, line_of}
 use Rattle.shredscript.proofs.Written.{written-some}
 use Rattle.shredscript.proofs.engine.tell.Goals as goal

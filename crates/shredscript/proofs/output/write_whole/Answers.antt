@@ -1,6 +1,6 @@
 use Rattle.std.proofs.Common.{arith}
 use Rattle.std.proofs.KnownBytes.{Keeps-refl}
-use Rattle.shred.proofs.Names.Sinks.{Appends-nothing}
+use Rattle.shred_stage.proofs.Names.Sinks.{Appends-nothing}
 use Rattle.shredscript.proofs.Written.{written-more, written-same, written-beginning, written-none, written-all}
 use Rattle.shredscript.proofs.output.write_whole.Goals as goal
 use Rattle.shredscript.proofs.output.write_whole.Goals.{in-Ok, in-Err}

@@ -1,7 +1,7 @@
 use Rattle.std.proofs.Common.{◌<◌, length, sym, rules}
 use Rattle.std.specs.Prelude.{nat_eq}
-use Rattle.shred.specs.Search.{is_touched}
-use Rattle.shred.proofs.Planner.Membership.{list_any-map_at}
+use Rattle.shred_stage.specs.Search.{is_touched}
+use Rattle.shred_stage.proofs.Planner.Membership.{list_any-map_at}
 use Rattle.shredtest_planner.specs.Plain.{access_of, group_of}
 use Rattle.shredtest_planner.proofs.slow_placement.any_touched.Goals as goal
 

@@ -1,6 +1,6 @@
 use Rattle.std.proofs.Common.{ℕ, ◌<◌}
 use Rattle.shred_model.specs.Plan.{Group}
-use Rattle.shred.specs.Placement.{AdmitsAtEndOf}
+use Rattle.shred_stage.specs.Placement.{AdmitsAtEndOf}
 use Rattle.shredtest_planner.specs.Plain.{entry_of, stage_of}
 use Rattle.shredtest_planner.proofs.slow_placement.end_that_admits.Given as goal
 

@@ -1,5 +1,5 @@
 use Rattle.std.proofs.Common.{◌<◌, ◌∙◌, sym, length, rules}
-use Rattle.shred.proofs.Planner.Searching.{mapped_read}
+use Rattle.shred_stage.proofs.Planner.Searching.{mapped_read}
 use Rattle.shredtest_planner.specs.Plain.{entry_of, plan_of, stage_of}
 use Rattle.shredtest_planner.proofs.Fits.{found_new, found_end, none_so_far}
 use Rattle.shredtest_planner.proofs.slow_placement.find.Goals as goal

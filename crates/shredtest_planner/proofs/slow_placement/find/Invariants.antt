@@ -1,5 +1,5 @@
 use Rattle.std.proofs.Common.{◌≡◌}
-use Rattle.shred.specs.Placement.{NoneAdmits}
+use Rattle.shred_stage.specs.Placement.{NoneAdmits}
 use Rattle.shredtest_planner.specs.Plain.{entry_of, plan_of}
 use Rattle.shredtest_planner.proofs.slow_placement.find.Given as goal
 

@@ -1,5 +1,5 @@
 use Rattle.std.proofs.Common.{◌≡◌, ◌<◌, ◌^◌, take, map}
-use Rattle.shred.specs.Placement.{greatest_time}
+use Rattle.shred_stage.specs.Placement.{greatest_time}
 use Rattle.shredtest_planner.specs.Plain.{group_of}
 use Rattle.shredtest_planner.proofs.slow_placement.greatest_time.Given as goal
 

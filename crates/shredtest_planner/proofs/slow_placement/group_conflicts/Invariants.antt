@@ -1,6 +1,6 @@
 use Rattle.std.proofs.Common.{◌≡◌, false, take, map}
 use Rattle.std.specs.Prelude.{nat_eq}
-use Rattle.shred.specs.Search.{group_conflicts}
+use Rattle.shred_stage.specs.Search.{group_conflicts}
 use Rattle.shredtest_planner.specs.Plain.{access_of, entry_of}
 use Rattle.shredtest_planner.proofs.slow_placement.group_conflicts.Given as goal
 

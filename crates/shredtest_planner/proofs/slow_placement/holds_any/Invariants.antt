@@ -1,5 +1,5 @@
 use Rattle.std.proofs.Common.{◌≡◌, false, take, map}
-use Rattle.shred.specs.Search.{holds_any}
+use Rattle.shred_stage.specs.Search.{holds_any}
 use Rattle.shredtest_planner.specs.Plain.{entry_of}
 use Rattle.shredtest_planner.proofs.slow_placement.holds_any.Given as goal
 

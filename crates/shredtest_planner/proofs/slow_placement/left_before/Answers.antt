@@ -1,5 +1,5 @@
 use Rattle.std.proofs.Common.{◌≡◌, ◌<◌, ◌∙◌, sym, refl, length, arith}
-use Rattle.shred.proofs.Planner.Searching.{left_then, mapped_read}
+use Rattle.shred_stage.proofs.Planner.Searching.{left_then, mapped_read}
 use Rattle.shredtest_planner.specs.Plain.{plan_of, stage_of}
 use Rattle.shredtest_planner.proofs.PlainReads.{left_at_start, left_at_end}
 use Rattle.shredtest_planner.proofs.slow_placement.left_before.Goals as goal

@@ -1,5 +1,5 @@
 use Rattle.std.proofs.Common.{◌≡◌, ◌≤◌}
-use Rattle.shred.specs.Placement.{dependencies_left}
+use Rattle.shred_stage.specs.Placement.{dependencies_left}
 use Rattle.shredtest_planner.specs.Plain.{plan_of}
 use Rattle.shredtest_planner.proofs.slow_placement.left_before.Given as goal
 

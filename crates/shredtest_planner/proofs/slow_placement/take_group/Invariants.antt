@@ -1,6 +1,6 @@
 use Rattle.std.proofs.Common.{◌≡◌, take, map}
 use Rattle.shred_model.specs.Plan.{group_ids}
-use Rattle.shred.specs.Placement.{difference}
+use Rattle.shred_stage.specs.Placement.{difference}
 use Rattle.shredtest_planner.specs.Plain.{entry_of}
 use Rattle.shredtest_planner.proofs.slow_placement.take_group.Given as goal
 

@@ -1,6 +1,6 @@
 use Rattle.std.proofs.Common.{◌<◌, length, rules}
 use Rattle.shred_model.specs.Plan.{group_ids}
-use Rattle.shred.proofs.Planner.Left.{left_more}
+use Rattle.shred_stage.proofs.Planner.Left.{left_more}
 use Rattle.shredtest_planner.specs.Plain.{group_of}
 use Rattle.shredtest_planner.proofs.slow_placement.take_stage.Goals as goal
 

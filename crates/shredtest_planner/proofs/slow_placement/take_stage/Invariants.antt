@@ -1,6 +1,6 @@
 use Rattle.std.proofs.Common.{◌≡◌, take, map}
 use Rattle.shred_model.specs.Plan.{stage_ids}
-use Rattle.shred.specs.Placement.{difference}
+use Rattle.shred_stage.specs.Placement.{difference}
 use Rattle.shredtest_planner.specs.Plain.{group_of}
 use Rattle.shredtest_planner.proofs.slow_placement.take_stage.Given as goal
 

@@ -4,8 +4,9 @@ use Rattle.shred_model.specs.States.{configuration_of, listed_states}
 use Rattle.shred_model.proofs.Joined.UpToFault.{SoFar}
 use Rattle.shred_world.specs.declared.id.ResourceId.{ResourceId}
 use Rattle.shred_world.specs.Worlds.{world_held}
-use Rattle.shred.specs.Plans.{PlanTurn, stage_states}
-use Rattle.shred.specs.StagePlan.{stage_plan}
+use Rattle.shred_stage.specs.Plans.{stage_states}
+use Rattle.shred.specs.PlanRuns.{PlanTurn}
+use Rattle.shred_stage.specs.StagePlan.{stage_plan}
 use Rattle.shred.proofs.dispatch.dispatcher.fork_stages.Given as goal
 
 abbrev pub invariant-loop-place : goal.invariant-loop-place

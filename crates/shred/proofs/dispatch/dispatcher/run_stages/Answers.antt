@@ -2,9 +2,10 @@ use Rattle.std.proofs.Common.{◌∙◌, get_or, Ok, Err, refl, arith}
 use Rattle.std.proofs.Math.Seq.{map-set_same}
 use Rattle.shred_model.proofs.Joined.UpToFault.{SoFar-start, SoFar-more, SoFar-fault, SoFar-end}
 use Rattle.shred_world.specs.Worlds.{world_held}
-use Rattle.shred.specs.Dispatched.{stages_over}
-use Rattle.shred.specs.Plans.{PlanTurn, stage_states}
-use Rattle.shred.specs.StagePlan.{stage_plan}
+use Rattle.shred_stage.specs.Dispatched.{stages_over}
+use Rattle.shred_stage.specs.Plans.{stage_states}
+use Rattle.shred.specs.PlanRuns.{PlanTurn}
+use Rattle.shred_stage.specs.StagePlan.{stage_plan}
 use Rattle.shred.proofs.Runs.Dispatched.{run-dispatched}
 use Rattle.shred.proofs.Runs.PlanTurns.{turn-ran}
 use Rattle.shred.proofs.dispatch.dispatcher.run_stages.Goals as goal

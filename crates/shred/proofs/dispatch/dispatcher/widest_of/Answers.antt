@@ -1,5 +1,5 @@
 use Rattle.std.proofs.Common.{arith}
-use Rattle.shred.specs.StagePlan.{stage_plan}
+use Rattle.shred_stage.specs.StagePlan.{stage_plan}
 use Rattle.shred.proofs.Planner.Widest.{widest-more}
 use Rattle.shred.proofs.dispatch.dispatcher.widest_of.Goals as goal
 

@@ -1,5 +1,5 @@
 use Rattle.std.proofs.Common.{◌≡◌, map, take}
-use Rattle.shred.specs.StagePlan.{stage_plan, widest}
+use Rattle.shred_stage.specs.StagePlan.{stage_plan, widest}
 use Rattle.shred.proofs.dispatch.dispatcher.widest_of.Given as goal
 
 abbrev pub invariant-loop-place : goal.invariant-loop-place

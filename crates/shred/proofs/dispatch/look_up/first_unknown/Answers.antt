@@ -1,8 +1,8 @@
 use Rattle.std.proofs.Common.{◌<◌, ℕ, List, [], get_or, length, arith}
-use Rattle.shred.specs.Known.{texts_of}
-use Rattle.shred.specs.Names.{names_of}
+use Rattle.shred_stage.specs.Known.{texts_of}
+use Rattle.shred_stage.specs.Names.{names_of}
 use Rattle.shred.proofs.Names.Known.{known-some, known-none, knows-next}
-use Rattle.shred.proofs.Planner.Searching.{mapped_at}
+use Rattle.shred_stage.proofs.Planner.Searching.{mapped_at}
 use Rattle.shred.proofs.dispatch.look_up.first_unknown.Goals as goal
 use denote.Ref.{Bor}
 use Rattle.std.proofs.lemmas.List.{length-map}

@@ -1,5 +1,5 @@
-use Rattle.shred.specs.Known.{texts_of, KnowsBefore}
-use Rattle.shred.specs.Names.{names_of}
+use Rattle.shred_stage.specs.Known.{texts_of, KnowsBefore}
+use Rattle.shred_stage.specs.Names.{names_of}
 use Rattle.shred.proofs.dispatch.look_up.first_unknown.Given as goal
 
 abbrev pub invariant-loop-place : goal.invariant-loop-place

@@ -1,13 +1,13 @@
 use Rattle.std.proofs.Common.{◌≡◌, ◌≤◌, ◌∙◌, ap, ℕ, List, [], take, get_or, length, arith}
-use Rattle.shred.specs.Known.{texts_of}
-use Rattle.shred.specs.Names.{names_of}
+use Rattle.shred_stage.specs.Known.{texts_of}
+use Rattle.shred_stage.specs.Names.{names_of}
 use Rattle.shred.proofs.Names.Known.{known-number, ids-next}
-use Rattle.shred.proofs.Planner.Searching.{mapped_at}
+use Rattle.shred_stage.proofs.Planner.Searching.{mapped_at}
 use Rattle.shred.proofs.dispatch.look_up.ids_of.Goals as goal
 use denote.Ref.{Bor}
 use Rattle.std.proofs.lemmas.List.{length-map, take_all}
-use Rattle.shred.specs.Known.{ids_of}
-use Rattle.shred.specs.PlanOf.{numbers_of}
+use Rattle.shred_stage.specs.Known.{ids_of}
+use Rattle.shred_stage.specs.PlanOf.{numbers_of}
 
 pub loop-place-init : goal.loop-place-init
 loop-place-init c = ap numbers_of c.new-ids.ensures.items

@@ -1,10 +1,10 @@
 use Rattle.std.proofs.Common.{◌≡◌, ◌∙◌, ap, refl, subst, sym}
-use Rattle.shred.specs.BuilderPlan.{planned, barrier_of}
-use Rattle.shred.specs.Earlier.{ComesAfter}
-use Rattle.shred.specs.Known.{ids_of, texts_of}
-use Rattle.shred.specs.Names.{names_of}
-use Rattle.shred.specs.Placement.{IsPlaced}
-use Rattle.shred.specs.PlanOf.{numbers_of}
+use Rattle.shred_stage.specs.BuilderPlan.{planned, barrier_of}
+use Rattle.shred_stage.specs.Earlier.{ComesAfter}
+use Rattle.shred_stage.specs.Known.{ids_of, texts_of}
+use Rattle.shred_stage.specs.Names.{names_of}
+use Rattle.shred_stage.specs.Placement.{IsPlaced}
+use Rattle.shred_stage.specs.PlanOf.{numbers_of}
 use Rattle.shred.proofs.Names.Consistent.{entered-consistent, known-again, still-consistent}
 use Rattle.shred.proofs.Planner.Standing.{known-still, stands-after_all}
 use Rattle.shred.proofs.dispatch.builder.DispatcherBuilder.accept.Goals as goal

@@ -1,0 +1,3 @@
+pub mod Planner
+pub mod Names
+pub mod Runs

@@ -1,0 +1,5 @@
+-- Names of systems, and the printed plan.
+pub mod LeastNames
+pub mod Unnamed
+pub mod Prints
+pub mod Sinks

@@ -1,0 +1,27 @@
+-- What a stage's turn leaves is what a dispatch promises.
+use Rattle.std.proofs.Common.{List}
+use Rattle.shred_model.specs.Runs.{Answer}
+use Rattle.shred_model.specs.States.{listed_states}
+use Rattle.shred_model.proofs.Orders.Serializable.{Ran-as_one_thread}
+use Rattle.shred_world.specs.declared.id.Kind.{Kind}
+use Rattle.shred_world.specs.declared.id.ResourceId.{ResourceId}
+use Rattle.shred_world.specs.Worked.{Held}
+use Rattle.shred_world.proofs.Tables.Ids.{tell_ids}
+use Rattle.shred_stage.specs.declared.dispatch.entry.Group.{Group}
+use Rattle.shred_stage.specs.declared.dispatch.run.StageFault.{StageFault}
+use Rattle.shred_stage.specs.Dispatched.{Dispatched}
+use Rattle.shred_stage.specs.Entries.{group_states}
+use Rattle.shred_stage.specs.PlanOf.{groups_plan}
+use Rattle.shred_stage.specs.Plans.{StageTurn}
+use Rattle.shred_stage.specs.Steps.{Step}
+use Rattle.shred_stage.specs.Turns.{TookTurn}
+use Rattle.shred_stage.proofs.Runs.FramedRuns.{turn_framed}
+
+module _ {V S E : Type 0} (kind : V → Kind) (step : Step V S E) where
+  pub turn-dispatched : (reads writes : S → List ResourceId) (old new : List (Group V S)) (before after : Held V) (answer : Answer (StageFault E)) → TookTurn kind step reads writes old before answer new after
+      → Dispatched kind (StageTurn kind step) (record { plan = groups_plan old; states = listed_states group_states old; values = before }) answer (record { plan = groups_plan new; states = listed_states group_states new; values = after })
+  turn-dispatched reads writes old new before after answer took = record {
+    ran = Ran-as_one_thread tell_ids (StageTurn kind step (groups_plan old)) _ answer _ (turn_framed kind step (groups_plan old)) took.ran;
+    plan = took.plan;
+    kinds = took.kinds;
+  }

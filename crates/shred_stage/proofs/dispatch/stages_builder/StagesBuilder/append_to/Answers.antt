@@ -1,0 +1,10 @@
+use Rattle.std.proofs.Common.{arith, rules}
+use Rattle.shred_stage.specs.Sides.{stage_side}
+use Rattle.shred_stage.specs.StagePlan.{stage_plan}
+use Rattle.shred_stage.proofs.Planner.Appended.{appended_more}
+use Rattle.shred_stage.proofs.dispatch.stages_builder.StagesBuilder.append_to.Goals as goal
+
+pub loop-place-preserved : goal.loop-place-preserved
+loop-place-preserved g c =
+    appended_more stage_plan (stage_side c.args.side) c.args.self.now.stages.items c.loop-place.place c.index.result.now c.args.ids.now.items c.loop-place.ids.items _ (omega (arith, c.loop-place-test.true)) c.index.ensures
+    c.loop-place.invariant (search rules)

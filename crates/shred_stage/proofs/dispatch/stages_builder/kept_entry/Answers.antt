@@ -1,0 +1,32 @@
+use Rattle.std.proofs.Common.{◌≡◌, ◌∙◌, List, ap, refl, subst, rules}
+use Rattle.shred_world.specs.declared.id.ResourceId.{ResourceId}
+use Rattle.shred_world.specs.Parting.{IsEmptyHand}
+use Rattle.shred_stage.specs.Time.{count_of}
+use Rattle.shred_world.specs.Id.{IsBefore}
+use Rattle.shred_stage.proofs.Planner.KeptLists.{own_lists-of_same}
+use Rattle.shred_stage.proofs.Planner.Orders.{AllPairs-from_sorted, Contains-from_same, IsBefore-from_less}
+use Rattle.shred_stage.proofs.dispatch.stages_builder.kept_entry.Goals as goal
+
+pub returns-clause-kept : goal.returns-clause-kept
+returns-clause-kept g c =
+    let sorted = c.sort_without_doubles in
+    let given = c.in_ok-reads.ensures ∙ c.in_ok-accessor.ensures.reads in
+    record {
+      same_id = refl;
+      reads_in_order = AllPairs-from_sorted _ IsBefore IsBefore-from_less sorted.new.items.items sorted.ensures.in_order;
+      same_reads = λ i. ((λ h. rw given at (sorted.ensures.none_new i h)), (λ h. Contains-from_same sorted.new.items.items i (sorted.ensures.none_lost i (rw given h))));
+      same_writes = c.in_ok-writes.ensures ∙ c.in_ok-accessor.ensures.writes;
+      same_time = ap count_of c.running_time-time.ensures;
+    }
+
+pub returns-clause-own_lists : goal.returns-clause-own_lists
+returns-clause-own_lists g c =
+    let sorted = c.sort_without_doubles in
+    let given = c.in_ok-reads.ensures ∙ c.in_ok-accessor.ensures.reads in
+    let ids : c.as_slice.result.now ≡ c.in_ok-writes.writes.items = search rules in
+    record {
+      hand = subst (λ (ids : List ResourceId). IsEmptyHand ids c.in_ok-hand.hand) ids c.in_ok-hand.ensures;
+      lists = own_lists-of_same (g.S.System.reads c.args.system) (g.S.System.writes c.args.system) sorted.new.items.items c.in_ok-writes.writes.items
+          (λ i. ((λ h. rw given at (sorted.ensures.none_new i h)), (λ h. Contains-from_same sorted.new.items.items i (sorted.ensures.none_lost i (rw given h)))))
+          (c.in_ok-writes.ensures ∙ c.in_ok-accessor.ensures.writes);
+    }

@@ -1,0 +1,60 @@
+-- The tests that the planner makes, as functions of plain data.
+use Rattle.std.specs.Prelude.{◌≡◌, ◌≢◌, ℕ, ◌≤◌, ◌-◌, ◌*◌, Bool, true, false, ◌||◌, ◌&&◌, not, nat_eq, ◌==◌, nat_lt, List, length, Option, Some, None, slice_get}
+use Rattle.std.specs.List.{list_any}
+use Rattle.shred_model.specs.Access.{Access, Conflicts}
+use Rattle.shred_model.specs.Plan.{Entry, Group, Stage, Plan, group_ids, group_access, group_time}
+use Rattle.shred_stage.specs.Placement.{greatest_time, dependencies_left, Admits, AdmitsNewGroup, AdmitsAtEndOf, NoneAdmits}
+use Rattle.shred_stage.specs.declared.dispatch.stage.Touched.{Touched}
+use Rattle.shred_stage.specs.declared.dispatch.stage.Touched.TheVariants.{Nothing, One, Several}
+use Rattle.shred_stage.specs.declared.dispatch.stage.Spot.{Spot}
+use Rattle.shred_stage.specs.declared.dispatch.stage.Spot.TheVariants.{NewGroup, EndOf}
+
+-- some item of the one list is the same as one of the other
+abbrev pub share_item : {T : Type 0} → (T → T → Bool) → List T → List T → Bool
+share_item same xs ys = list_any (λ x. list_any (λ y. same y x) ys) xs
+
+-- one writes what the other reads or writes
+abbrev pub accesses_conflict : {I : Type 0} → (I → I → Bool) → Access I → Access I → Bool
+accesses_conflict same a b = share_item same a.writes b.writes || (share_item same a.writes b.reads || share_item same a.reads b.writes)
+
+-- some entry of the group conflicts
+abbrev pub group_conflicts : {I : Type 0} → (I → I → Bool) → Access I → Group I → Bool
+group_conflicts same access group = list_any (λ e. accesses_conflict same e.access access) group
+
+-- the group holds an id of the list
+abbrev pub holds_any : {I : Type 0} → List ℕ → Group I → Bool
+holds_any ids group = share_item nat_eq (group_ids group) ids
+
+-- the group holds an id that is left, or conflicts
+abbrev pub is_touched : {I : Type 0} → (I → I → Bool) → List ℕ → Access I → Group I → Bool
+is_touched same left access group = holds_any left group || group_conflicts same access group
+
+-- nothing is left, or one id is left and the group, which is touched, does not conflict
+abbrev pub waits_for_group : {I : Type 0} → (I → I → Bool) → List ℕ → Access I → Group I → Bool
+waits_for_group same left access group = length left == 0 || (length left == 1 && not (group_conflicts same access group))
+
+-- the group has room, waits for nothing else, and is that far behind the longest
+abbrev pub may_end : {I : Type 0} → (I → I → Bool) → List ℕ → Entry I → Stage I → Group I → Bool
+may_end same left entry stage group = nat_lt (length group) 4 && (waits_for_group same left entry.access group && nat_lt entry.time (2 * (greatest_time stage - group_time group)))
+
+-- no group but this one conflicts with the access
+abbrev pub OthersDoNotConflict : {I : Type 0} → Stage I → ℕ → Access I → Type 0
+OthersDoNotConflict {I} stage g access = (h : ℕ) (other : Group I) → slice_get stage h ≡ Some other → h ≢ g → Conflicts (group_access other) access → ⊥
+
+-- what is touched of a list, by a test
+abbrev pub TouchedIs : {X : Type 0} → (X → Bool) → List X → Touched → Type 0
+TouchedIs {X} test xs Nothing = (h : ℕ) (x : X) → slice_get xs h ≡ Some x → test x ≡ false
+TouchedIs {X} test xs (One g) = (x : X) × (slice_get xs g ≡ Some x) × (test x ≡ true) × ((h : ℕ) (y : X) → slice_get xs h ≡ Some y → h ≢ g → test y ≡ false)
+TouchedIs {X} test xs Several = (g h : ℕ) × (x : X) × (y : X) × (g ≢ h) × (slice_get xs g ≡ Some x) × (slice_get xs h ≡ Some y) × (test x ≡ true) × (test y ≡ true)
+
+-- where a stage takes an entry, if it does
+abbrev pub SpotIs : {I : Type 0} → List ℕ → Entry I → Stage I → Option Spot → Type 0
+SpotIs left entry stage None = Admits left entry stage → ⊥
+SpotIs left entry stage (Some NewGroup) = AdmitsNewGroup left entry stage
+SpotIs {I} left entry stage (Some (EndOf g)) = (group : Group I) × AdmitsAtEndOf left entry stage g group
+
+-- the first stage from start on that takes an entry, and where, if one does
+abbrev pub PlaceIs : {I : Type 0} → Plan I → ℕ → ℕ → List ℕ → Entry I → Option (ℕ × Spot) → Type 0
+PlaceIs plan barrier start dependencies entry None = NoneAdmits plan barrier start dependencies entry (length plan)
+PlaceIs {I} plan barrier start dependencies entry (Some place) = (start ≤ place.0) × NoneAdmits plan barrier start dependencies entry place.0
+    × (stage : Stage I) × (slice_get plan place.0 ≡ Some stage) × SpotIs (dependencies_left plan barrier dependencies place.0) entry stage (Some place.1)

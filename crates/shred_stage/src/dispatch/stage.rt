@@ -1,0 +1,253 @@
+//! A stage of a plan: groups that run beside each other.
+ghost use Rattle.std.specs.Prelude.{◌≡◌, ◌↔◌, ◌<◌, ◌≤◌, ℕ, length, All, IfOk, OnOk, OnErr, IsSome, IfSome, ◌++◌, ◌∷◌, [], slice_set, slice_index_or};
+ghost use Rattle.shred_model.specs.Plan.{group_access, group_ids, stage_ids};
+ghost use Rattle.shred_model.specs.Access.{Conflicts};
+ghost use Rattle.shred_model.specs.Beside.{AreApart};
+ghost use Rattle.shred_world.specs.Id.{same_id};
+ghost use Rattle.shred_stage.specs.Placement.{difference, greatest_time};
+ghost use Rattle.shred_stage.specs.Hands.{KeepsRoom};
+ghost use Rattle.shred_stage.specs.OwnLists.{IsOwnEntry, IsOwnGroup};
+ghost use Rattle.shred_stage.specs.PlanOf.{access_of, entry_plan, group_plan, groups_plan, numbers_of, KeepsIds};
+ghost use Rattle.shred_stage.specs.Search.{is_touched, may_end, OthersDoNotConflict, SpotIs, TouchedIs};
+ghost use Rattle.shred_stage.specs.Sides.{stage_side};
+ghost use Rattle.shred_stage.specs.Soundness.{IsSmallGroup};
+
+use crate::dispatch::beside::{turn_beside, turn_in_order};
+use crate::dispatch::entry::{Entry, Group, Side, SystemId};
+use crate::dispatch::run::StageFault;
+use crate::system::System;
+use shred_world::parting::table_of;
+use shred_world::{OutOfMemory, ResourceId, ResourceValue, World};
+use smallvec::SmallVec;
+use std::alloc::Global;
+use std::thread::Threads;
+
+/// Which groups of a stage an entry has to come after.
+#[derive(Clone, Copy, Debug, PartialEq, Eq)]
+pub(crate) enum Touched {
+    Nothing,
+    One(usize),
+    Several,
+}
+
+/// Where a stage takes an entry: as a new last group, or at the end of a group.
+#[derive(Clone, Copy, Debug, PartialEq, Eq)]
+pub(crate) enum Spot {
+    NewGroup,
+    EndOf(usize),
+}
+
+/// Groups that do not conflict, of one to four entries each.
+#[derive(Drop)]
+pub struct Stage<V: ResourceValue, S: System<V>> {
+    groups: Vec<Group<V, S>>,
+    ghost some_group: { 0 < length groups.items },
+    ghost small_groups: { All IsSmallGroup (groups_plan groups.items) },
+    ghost apart: { AreApart group_access (groups_plan groups.items) },
+    ghost keep_ids: { All KeepsIds groups.items },
+    ghost keep_room: { All KeepsRoom groups.items },
+    ghost own_lists: { All (IsOwnGroup S.reads S.writes) groups.items },
+}
+
+impl<V: ResourceValue, S: System<V>> Stage<V, S> {
+    ghost use Rattle.shred_stage.specs.Added.{nothing_at, AreSame, IsNew};
+    ghost use Rattle.shred_stage.specs.EntriesAt.{stage_entries};
+    ghost use Rattle.shred_stage.specs.StagePlan.{stage_plan};
+
+    /// A stage with this entry alone.
+    pub(crate) fn new(alloc: Global, entry: Entry<V, S>) -> Result<Self, OutOfMemory>
+    where
+        V: Drop,
+        S: Drop,
+        requires own_lists { IsOwnEntry S.reads S.writes entry }
+        ensures plan { IfOk result (λ stage. stage_plan stage ≡ (entry_plan entry ∷ []) ∷ []) }
+        ensures added { IfOk result (λ stage. IsNew nothing_at (stage_entries stage) entry) }
+    {
+        let mut groups = Vec::new(alloc);
+        match Group::new(alloc, entry) {
+            Ok(group) => match groups.push(group) {
+                Ok(()) => Ok(Stage { groups }),
+                Err(_) => Err(OutOfMemory),
+            },
+            Err(e) => Err(e),
+        }
+    }
+
+    /// The number of groups.
+    pub fn max_threads(&self) -> usize
+        ensures { result ≡ length (stage_plan self.now) }
+    {
+        self.groups.len()
+    }
+
+    /// The ids of a group's systems, in order, if the stage has this group.
+    pub fn group_ids(&self, group: usize) -> Option<&[SystemId]>
+        ensures some { IsSome result ↔ (group < length (stage_plan self.now)) }
+        ensures ids { IfSome result (λ ids. numbers_of ids.now ≡ group_ids (slice_index_or (stage_plan self.now) group [])) }
+    {
+        if group < self.groups.len() {
+            Some(self.groups[group].ids.as_slice())
+        } else {
+            None
+        }
+    }
+
+    /// Where the stage takes the entry, if it does, while these dependencies are left.
+    pub(crate) fn spot_for(&self, left: &[SystemId], entry: &Entry<V, S>) -> Option<Spot>
+        ensures { SpotIs (numbers_of left.now) (entry_plan entry.now) (stage_plan self.now) result }
+    {
+        match self.touched(left, entry) {
+            Touched::Nothing => left.is_empty().then_some(Spot::NewGroup),
+            Touched::One(group) => self
+                .may_end(left, entry, group)
+                .then_some(Spot::EndOf(group)),
+            Touched::Several => None,
+        }
+    }
+
+    /// Which groups the entry has to come after.
+    fn touched(&self, left: &[SystemId], entry: &Entry<V, S>) -> Touched
+        ensures { TouchedIs (is_touched same_id (numbers_of left.now) (access_of entry.now)) (stage_plan self.now) result }
+    {
+        let mut touched = Touched::Nothing;
+        for (place, group) in self.groups.iter().enumerate() {
+            if group.is_touched(left, entry) {
+                match touched {
+                    Touched::Nothing => touched = Touched::One(place),
+                    _ => return Touched::Several,
+                }
+            }
+        }
+        touched
+    }
+
+    /// Whether the entry may stand at the end of this group, the only one that it has to come after.
+    fn may_end(&self, left: &[SystemId], entry: &Entry<V, S>, group: usize) -> bool
+        requires { group < length (stage_plan self.now) }
+        ensures { result ≡ may_end same_id (numbers_of left.now) (entry_plan entry.now) (stage_plan self.now) (slice_index_or (stage_plan self.now) group []) }
+    {
+        let group = &self.groups[group];
+        group.entries.len() < 4
+            && (left.is_empty() || left.len() == 1 && !group.conflicts(entry))
+            && entry.time.count() < 2 * (self.greatest_time() - group.time())
+    }
+
+    /// The greatest time of a group.
+    fn greatest_time(&self) -> usize
+        ensures value { result ≡ greatest_time (stage_plan self.now) }
+        ensures small { result ≤ 20 }
+    {
+        let mut greatest: usize = 0;
+        for group in &self.groups {
+            greatest = greatest.max(group.time());
+        }
+        greatest
+    }
+
+    /// Takes out of the list, for each id of the stage, one that equals it.
+    pub(crate) fn take_ids(&self, left: &mut SmallVec<SystemId, 4>)
+        ensures { numbers_of left.new.items ≡ difference (numbers_of left.old.items) (stage_ids (stage_plan self.now)) }
+    {
+        for group in &self.groups {
+            if left.is_empty() {
+                return;
+            }
+            group.take_ids(left);
+        }
+    }
+
+    /// Puts the ids of one side of the systems' accesses at the list's end.
+    pub(crate) fn append_to(&self, side: Side, ids: &mut Vec<ResourceId>) -> Result<(), OutOfMemory>
+        ensures { OnOk result (ids.new.items ≡ ids.old.items ++ stage_side side (stage_plan self.now)) }
+    {
+        for group in &self.groups {
+            group.append_to(side, ids)?;
+        }
+        Ok(())
+    }
+
+    /// Gives the entry a new last group.
+    pub(crate) fn push_group(&mut self, entry: Entry<V, S>) -> Result<(), OutOfMemory>
+    where
+        V: Drop,
+        S: Drop,
+        requires free { All (λ group. Conflicts (group_access group) (access_of entry) → ⊥) (stage_plan self.old) }
+        requires own_lists { IsOwnEntry S.reads S.writes entry }
+        ensures ok { OnOk result (stage_plan self.new ≡ stage_plan self.old ++ (entry_plan entry ∷ []) ∷ []) }
+        ensures err { OnErr result (stage_plan self.new ≡ stage_plan self.old) }
+        ensures added { OnOk result (IsNew (stage_entries self.old) (stage_entries self.new) entry) }
+        ensures unchanged { OnErr result (AreSame (stage_entries self.old) (stage_entries self.new)) }
+    {
+        let alloc = *self.groups.allocator();
+        match Group::new(alloc, entry) {
+            Ok(group) => match self.groups.push(group) {
+                Ok(()) => Ok(()),
+                Err(_) => Err(OutOfMemory),
+            },
+            Err(e) => Err(e),
+        }
+    }
+
+    /// Puts the entry at the end of a group.
+    pub(crate) fn push_entry(&mut self, group: usize, entry: Entry<V, S>) -> Result<(), OutOfMemory>
+    where
+        V: Drop,
+        S: Drop,
+        requires within { group < length (stage_plan self.old) }
+        requires room { length (slice_index_or (stage_plan self.old) group []) < 4 }
+        requires others { OthersDoNotConflict (stage_plan self.old) group (access_of entry) }
+        requires own_lists { IsOwnEntry S.reads S.writes entry }
+        ensures ok { OnOk result (stage_plan self.new ≡ slice_set (stage_plan self.old) group (slice_index_or (stage_plan self.old) group [] ++ entry_plan entry ∷ [])) }
+        ensures err { OnErr result (stage_plan self.new ≡ stage_plan self.old) }
+        ensures added { OnOk result (IsNew (stage_entries self.old) (stage_entries self.new) entry) }
+        ensures unchanged { OnErr result (AreSame (stage_entries self.old) (stage_entries self.new)) }
+    {
+        self.groups[group].push(entry)
+    }
+}
+
+impl<V: ResourceValue + Drop, S: System<V, Error = E>, E: Drop> Stage<V, S> {
+    ghost use Rattle.shred_stage.specs.Dispatched.{Dispatched, stage_over};
+    ghost use Rattle.shred_stage.specs.Plans.{StageTurn};
+
+    /// Runs every group, one after the other, each up to its first system that is not Done, on the caller's thread. The
+    /// answer is that of the first group, in order, that is not Done. Where it is `Memory`,
+    /// the stage was refused for memory, and nothing has run; no stage of today asks for any.
+    pub fn execute_seq(&mut self, world: &mut World<V>) -> Result<(), StageFault<E>>
+        ensures { Dispatched V.kind_of (StageTurn V.kind_of S.step) (stage_over V.kind_of self.old world.old) result (stage_over V.kind_of self.new world.new) }
+    {
+        turn_in_order(self.groups.as_mut_slice(), table_of(world))
+    }
+}
+
+// On how many threads a stage is run, the caller's among them.
+const WORKERS: usize = 2;
+
+impl<V: ResourceValue + Drop + Send + Sync, S: System<V, Error = E> + Send, E: Drop + Send> Stage<
+    V,
+    S,
+>
+where
+    S::Accessor: Send,
+{
+    ghost use Rattle.shred_stage.specs.Dispatched.{Dispatched, stage_over};
+    ghost use Rattle.shred_stage.specs.Plans.{StageTurn};
+
+    /// Runs every group, each up to its first system that is not Done, beside each other in two halves on two threads. A
+    /// half whose thread cannot be started runs on the caller's thread, and so does a stage of one group. The answer is
+    /// that of the first group, in order, that is not Done, whichever refused first in time. Where it is `Memory`, the
+    /// stage was refused for memory, and nothing has run; no stage of today asks for any but that of a thread's start,
+    /// whose refusal is no answer.
+    pub fn execute<R: Threads + Sync>(
+        &mut self,
+        rt: &R,
+        world: &mut World<V>,
+    ) -> Result<(), StageFault<E>>
+        ensures { Dispatched V.kind_of (StageTurn V.kind_of S.step) (stage_over V.kind_of self.old world.old) result (stage_over V.kind_of self.new world.new) }
+    {
+        if self.groups.len() < 2 {
+            return self.execute_seq(world);
+        }
+        turn_beside(rt, self.groups.as_mut_slice(), table_of(world), WORKERS)
+    }
+}

@@ -1,0 +1,322 @@
+//! The planner: it gives each new system a place in the plan.
+ghost use Rattle.std.specs.Prelude.{◌≡◌, ◌↔◌, ◌<◌, ◌≤◌, ℕ, length, [], ◌∷◌, ◌++◌, slice_index_or, slice_set, All, AllPairs, Any, Contains, IfOk, OnOk, OnErr, true};
+ghost use Rattle.std.specs.List.{flat_map};
+ghost use Rattle.std.specs.List.Sorted.{IsStrictlySortedBy};
+ghost use Rattle.shred_world.specs.Id.{IsBefore};
+ghost use Rattle.shred_world.specs.declared.id.ResourceId.{ResourceId};
+ghost use Rattle.shred_model.specs.Plan as model;
+ghost use Rattle.shred_model.specs.Access.{Conflicts};
+ghost use Rattle.shred_model.specs.Plan.{group_access, plan_ids};
+ghost use Rattle.shred_stage.specs.Earlier.{IsFromBarrier, ComesAfter, AllBeforeBarrier};
+ghost use Rattle.shred_stage.specs.Kept.{IsKept};
+ghost use Rattle.shred_stage.specs.Names.{first_unnamed, pairs_of};
+ghost use Rattle.shred_stage.specs.Placement.{IsPlaced};
+ghost use Rattle.shred_stage.specs.Printed.{plan_text};
+ghost use Rattle.shred_stage.specs.Prints.{IsPrinted};
+ghost use Rattle.shred_stage.specs.OwnLists.{IsOwnEntry};
+ghost use Rattle.shred_stage.specs.PlanOf.{access_of, entry_plan, numbers_of};
+ghost use Rattle.shred_stage.specs.Search.{OthersDoNotConflict, PlaceIs};
+ghost use Rattle.shred_stage.specs.Sides.{stage_side, plan_reads, plan_writes};
+ghost use Rattle.shred_stage.specs.StagePlan.{plan_of};
+
+use crate::dispatch::entry::{Entry, Side, SystemId, push_or_drop};
+use crate::dispatch::printing::{PrintError, print};
+use crate::dispatch::sink::PlanSink;
+use crate::dispatch::stage::{Spot, Stage};
+use crate::system::System;
+use shred_world::parting::empty_hand;
+use shred_world::{Accessor, OutOfMemory, ResourceId, ResourceValue, Table};
+use smallvec::SmallVec;
+use std::alloc::Global;
+use std::collections::HashMap;
+
+/// A plan that grows by one system after another.
+#[derive(Drop)]
+pub struct StagesBuilder<V: ResourceValue, S: System<V>> {
+    pub(crate) stages: Vec<Stage<V, S>>,
+    barrier: usize,
+    ghost barrier_within: { barrier ≤ length stages.items },
+    ghost few_stages: { length stages.items ≤ length (plan_ids (plan_of stages.items)) },
+}
+
+impl<V: ResourceValue, S: System<V>> StagesBuilder<V, S> {
+    ghost use Rattle.shred_model.specs.Record.{Agent};
+    ghost use Rattle.shred_stage.specs.Added.{AreSame, IsNew, IsAdded};
+    ghost use Rattle.shred_stage.specs.BuilderPlan.{planned, barrier_of, builder_states};
+    ghost use Rattle.shred_stage.specs.EntriesAt.{builder_entries};
+    ghost use Rattle.shred_stage.specs.Plans.{plan_states};
+
+    /// An empty plan. It takes no memory.
+    pub fn new(alloc: Global) -> Self
+        ensures plan { planned result ≡ [] }
+        ensures barrier { barrier_of result ≡ 0 }
+        ensures states { (path : Agent) → builder_states result path ≡ None }
+    {
+        StagesBuilder {
+            stages: Vec::new(alloc),
+            barrier: 0,
+        }
+    }
+
+    /// An empty plan, as of `new`.
+    pub fn default(alloc: Global) -> Self
+        ensures plan { planned result ≡ [] }
+        ensures barrier { barrier_of result ≡ 0 }
+        ensures states { (path : Agent) → builder_states result path ≡ None }
+    {
+        Self::new(alloc)
+    }
+
+    /// The stages of the plan. It takes no memory.
+    pub fn build(self) -> Vec<Stage<V, S>>
+    where
+        V: Drop,
+        S: Drop,
+        ensures plan { plan_of result.items ≡ planned self }
+        ensures states { (path : Agent) → plan_states result.items path ≡ builder_states self path }
+    {
+        self.stages
+    }
+
+    /// Gives the system its place in the plan, in the barrier's stage or a later one. Each dependency that the plan has
+    /// stands in an earlier stage, or earlier in the same group. Where memory is refused, the plan is as it was, and the
+    /// system is dropped.
+    pub fn insert(
+        &mut self,
+        dependencies: &[SystemId],
+        id: SystemId,
+        system: S,
+    ) -> Result<(), OutOfMemory>
+    where
+        V: Drop,
+        S: Drop,
+        ensures placed { OnOk result ((entry : model.Entry ResourceId) × IsKept id.0 (S.reads system) (S.writes system) (S.time system) entry
+            × IsPlaced (planned self.old) (barrier_of self.old) (barrier_of self.old) (numbers_of dependencies.now) entry (planned self.new)
+            × (added : IsAdded (planned self.old) (planned self.new) (builder_states self.old) (builder_states self.new) entry system)
+            × IsFromBarrier (barrier_of self.old) added.place × ComesAfter (planned self.old) (numbers_of dependencies.now) added.place) }
+        ensures err { OnErr result (planned self.new ≡ planned self.old) }
+        ensures states { OnErr result ((path : Agent) → builder_states self.new path ≡ builder_states self.old path) }
+        ensures barrier { barrier_of self.new ≡ barrier_of self.old }
+    {
+        let start = self.barrier;
+        let alloc = *self.stages.allocator();
+        match kept_entry(alloc, id, system) {
+            Ok(entry) => self.place(start, dependencies, entry),
+            Err(e) => Err(e),
+        }
+    }
+
+    /// Sets the barrier to the number of stages: what is inserted from now on stands after all that is there.
+    pub fn add_barrier(&mut self)
+        ensures plan { planned self.new ≡ planned self.old }
+        ensures states { (path : Agent) → builder_states self.new path ≡ builder_states self.old path }
+        ensures barrier { barrier_of self.new ≡ length (planned self.old) }
+        ensures all_before { AllBeforeBarrier (planned self.new) (barrier_of self.new) }
+    {
+        self.barrier = self.stages.len();
+    }
+
+    /// The ids that the systems read, in order, each once. `OutOfMemory` where memory is refused.
+    pub fn fetch_all_reads(&self) -> Result<Vec<ResourceId>, OutOfMemory>
+        ensures in_order { IfOk result (λ ids. AllPairs IsBefore ids.items) }
+        ensures same { IfOk result (λ ids. (i : ResourceId) → Contains ids.items i ↔ Contains (plan_reads (planned self.now)) i) }
+    {
+        self.fetch_all(Side::Reads)
+    }
+
+    /// The ids that the systems write, in order, each once. `OutOfMemory` where memory is refused.
+    pub fn fetch_all_writes(&self) -> Result<Vec<ResourceId>, OutOfMemory>
+        ensures in_order { IfOk result (λ ids. AllPairs IsBefore ids.items) }
+        ensures same { IfOk result (λ ids. (i : ResourceId) → Contains ids.items i ↔ Contains (plan_writes (planned self.now)) i) }
+    {
+        self.fetch_all(Side::Writes)
+    }
+
+    /// Puts the plan's text into the sink, with the least name, by its bytes, that stands for each id. Where an id has no
+    /// name, nothing is put, and the answer is `Unnamed` with the first such id in the plan's order. Where the sink fails,
+    /// it is `Write`, and a beginning of the text was put. It takes no memory.
+    pub fn write_par_seq<W: PlanSink>(
+        &self,
+        sink: &mut W,
+        names: &HashMap<String, SystemId>,
+    ) -> Result<(), PrintError>
+        ensures { let pairs = pairs_of names.now in
+            IsPrinted W.told W.failures sink.old sink.new (first_unnamed pairs (plan_ids (planned self.now))) (plan_text pairs (planned self.now)) result }
+    {
+        print(sink, names, &self.stages, b"")
+    }
+
+    /// The ids of one side of all systems' accesses, in order, each once.
+    fn fetch_all(&self, side: Side) -> Result<Vec<ResourceId>, OutOfMemory>
+        ensures in_order { IfOk result (λ ids. AllPairs IsBefore ids.items) }
+        ensures same { IfOk result (λ ids. (i : ResourceId) → Contains ids.items i ↔ Contains (flat_map (stage_side side) (planned self.now)) i) }
+    {
+        let mut ids = Vec::new(*self.stages.allocator());
+        match self.append_to(side, &mut ids) {
+            Ok(()) => {
+                sort_without_doubles(&mut ids);
+                Ok(ids)
+            }
+            Err(e) => Err(e),
+        }
+    }
+
+    /// Puts the ids of one side of all systems' accesses at the list's end.
+    fn append_to(&self, side: Side, ids: &mut Vec<ResourceId>) -> Result<(), OutOfMemory>
+        ensures { OnOk result (ids.new.items ≡ ids.old.items ++ flat_map (stage_side side) (planned self.now)) }
+    {
+        for place in 0..self.stages.len() {
+            self.stages[place].append_to(side, ids)?;
+        }
+        Ok(())
+    }
+
+    /// Places the entry in a stage from `start` on.
+    fn place(
+        &mut self,
+        start: usize,
+        dependencies: &[SystemId],
+        entry: Entry<V, S>,
+    ) -> Result<(), OutOfMemory>
+    where
+        V: Drop,
+        S: Drop,
+        requires start { barrier_of self.old ≤ start }
+        requires own_lists { IsOwnEntry S.reads S.writes entry }
+        ensures placed { OnOk result (IsPlaced (planned self.old) (barrier_of self.old) start (numbers_of dependencies.now) (entry_plan entry) (planned self.new)) }
+        ensures err { OnErr result (planned self.new ≡ planned self.old) }
+        ensures added { OnOk result (IsNew (builder_entries self.old) (builder_entries self.new) entry) }
+        ensures unchanged { OnErr result (AreSame (builder_entries self.old) (builder_entries self.new)) }
+        ensures barrier { barrier_of self.new ≡ barrier_of self.old }
+    {
+        let alloc = *self.stages.allocator();
+        let left = match SmallVec::from_slice(alloc, dependencies) {
+            Ok(left) => left,
+            Err(_) => return Err(OutOfMemory),
+        };
+        match self.find(start, left, &entry) {
+            None => self.push_stage(entry),
+            Some((stage, Spot::NewGroup)) => self.push_group(stage, entry),
+            Some((stage, Spot::EndOf(group))) => self.push_entry(stage, group, entry),
+        }
+    }
+
+    /// Gives the entry a new last group of this stage.
+    fn push_group(&mut self, stage: usize, entry: Entry<V, S>) -> Result<(), OutOfMemory>
+    where
+        V: Drop,
+        S: Drop,
+        requires within { stage < length (planned self.old) }
+        requires free { All (λ group. Conflicts (group_access group) (access_of entry) → ⊥) (slice_index_or (planned self.old) stage []) }
+        requires own_lists { IsOwnEntry S.reads S.writes entry }
+        ensures ok { OnOk result (planned self.new ≡ slice_set (planned self.old) stage (slice_index_or (planned self.old) stage [] ++ (entry_plan entry ∷ []) ∷ [])) }
+        ensures err { OnErr result (planned self.new ≡ planned self.old) }
+        ensures added { OnOk result (IsNew (builder_entries self.old) (builder_entries self.new) entry) }
+        ensures unchanged { OnErr result (AreSame (builder_entries self.old) (builder_entries self.new)) }
+        ensures barrier { barrier_of self.new ≡ barrier_of self.old }
+    {
+        self.stages[stage].push_group(entry)
+    }
+
+    /// Puts the entry at the end of this group.
+    fn push_entry(
+        &mut self,
+        stage: usize,
+        group: usize,
+        entry: Entry<V, S>,
+    ) -> Result<(), OutOfMemory>
+    where
+        V: Drop,
+        S: Drop,
+        requires within { stage < length (planned self.old) }
+        requires within_stage { group < length (slice_index_or (planned self.old) stage []) }
+        requires room { length (slice_index_or (slice_index_or (planned self.old) stage []) group []) < 4 }
+        requires others { OthersDoNotConflict (slice_index_or (planned self.old) stage []) group (access_of entry) }
+        requires own_lists { IsOwnEntry S.reads S.writes entry }
+        ensures ok { let here = slice_index_or (planned self.old) stage [] in
+            OnOk result (planned self.new ≡ slice_set (planned self.old) stage (slice_set here group (slice_index_or here group [] ++ entry_plan entry ∷ []))) }
+        ensures err { OnErr result (planned self.new ≡ planned self.old) }
+        ensures added { OnOk result (IsNew (builder_entries self.old) (builder_entries self.new) entry) }
+        ensures unchanged { OnErr result (AreSame (builder_entries self.old) (builder_entries self.new)) }
+        ensures barrier { barrier_of self.new ≡ barrier_of self.old }
+    {
+        self.stages[stage].push_entry(group, entry)
+    }
+
+    /// Gives the entry a new last stage.
+    fn push_stage(&mut self, entry: Entry<V, S>) -> Result<(), OutOfMemory>
+    where
+        V: Drop,
+        S: Drop,
+        requires own_lists { IsOwnEntry S.reads S.writes entry }
+        ensures ok { OnOk result (planned self.new ≡ planned self.old ++ ((entry_plan entry ∷ []) ∷ []) ∷ []) }
+        ensures err { OnErr result (planned self.new ≡ planned self.old) }
+        ensures added { OnOk result (IsNew (builder_entries self.old) (builder_entries self.new) entry) }
+        ensures unchanged { OnErr result (AreSame (builder_entries self.old) (builder_entries self.new)) }
+        ensures barrier { barrier_of self.new ≡ barrier_of self.old }
+    {
+        let alloc = *self.stages.allocator();
+        match Stage::new(alloc, entry) {
+            Ok(stage) => push_or_drop(&mut self.stages, stage),
+            Err(e) => Err(e),
+        }
+    }
+
+    /// The first stage from `start` on that takes the entry, and where.
+    fn find(
+        &self,
+        start: usize,
+        mut left: SmallVec<SystemId, 4>,
+        entry: &Entry<V, S>,
+    ) -> Option<(usize, Spot)>
+        requires { barrier_of self.now ≤ start }
+        ensures { PlaceIs (planned self.now) (barrier_of self.now) start (numbers_of left.items) (entry_plan entry.now) result }
+    {
+        for place in self.barrier..self.stages.len() {
+            let stage = &self.stages[place];
+            if start <= place {
+                if let Some(spot) = stage.spot_for(left.as_slice(), entry) {
+                    return Some((place, spot));
+                }
+            }
+            stage.take_ids(&mut left);
+        }
+        None
+    }
+}
+
+/// What is kept of a system.
+fn kept_entry<V: ResourceValue + Drop, S: System<V> + Drop>(
+    alloc: Global,
+    id: SystemId,
+    system: S,
+) -> Result<Entry<V, S>, OutOfMemory>
+    ensures kept { IfOk result (λ entry. IsKept id.0 (S.reads system) (S.writes system) (S.time system) (entry_plan entry)) }
+    ensures same { IfOk result (λ entry. entry.system ≡ system) }
+    ensures own_lists { IfOk result (IsOwnEntry S.reads S.writes) }
+{
+    let time = system.running_time();
+    let accessor = system.accessor(alloc)?;
+    let mut reads = accessor.reads(alloc)?;
+    let writes = accessor.writes(alloc)?;
+    let hand = empty_hand(alloc, writes.as_slice())?;
+    sort_without_doubles(&mut reads);
+    Ok(Entry {
+        id,
+        reads,
+        writes,
+        time,
+        system,
+        hand,
+    })
+}
+
+/// Sorts the items and drops those that equal the one before.
+pub(crate) fn sort_without_doubles<T: Ord + Drop>(items: &mut Vec<T>)
+    ensures in_order { IsStrictlySortedBy T.cmp items.new.items }
+    ensures none_new { (x : T) → Contains items.new.items x → Contains items.old.items x }
+    ensures none_lost { (x : T) → Contains items.old.items x → Any (λ y. T.eq x y ≡ true) items.new.items }
+{
+    items.sort_unstable();
+    items.dedup();
+}

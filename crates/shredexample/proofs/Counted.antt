@@ -1,5 +1,5 @@
 -- A call with a bundle of a count and a limit: what it leaves of a map.
-use Rattle.std.proofs.Common.{◌≡◌, ℤ, inl, inr, ◌⊎◌, Bool, true, false, cond, List, [], ◌∷◌, Option, Some, None, Result, Ok, Err, IfOk, refl, sym, ◌∙◌, ap, subst}
+use Rattle.std.proofs.Common.{◌≡◌, ℤ, inl, inr, Bool, true, false, cond, List, [], ◌∷◌, Option, Some, None, Result, Ok, Err, IfOk, refl, sym, ◌∙◌, ap}
 use Rattle.std.specs.Borrow.{MutBor}
 use Rattle.std.specs.Fn.{FnOnceReturnsAtMut, Once}
 use Rattle.shred_world.specs.declared.id.ResourceId.{ResourceId}

@@ -1,5 +1,5 @@
 -- Counts and limits, and the bundle of both.
-use Rattle.std.specs.Prelude.{◌≡◌, ℤ, Option, Some, Result, Ok, Err, cond, pos, ◌+ℤ◌}
+use Rattle.std.specs.Prelude.{◌≡◌, ℤ, Option, Some, Ok, Err, cond, pos, ◌+ℤ◌}
 use Rattle.std.specs.Int.Signed.{lt_z}
 use Rattle.shred_world.specs.declared.id.Kind.{Kind}
 use Rattle.shred_world.specs.declared.id.ResourceId.{ResourceId}

@@ -1,5 +1,5 @@
 -- Plain plans, as the model's plans over numbers.
-use Rattle.std.specs.Prelude.{ℕ, List, map}
+use Rattle.std.specs.Prelude.{ℕ, map}
 use Rattle.shred_model.specs.Access.{Access}
 use Rattle.shred_model.specs.Plan.{Entry, Group, Stage, Plan}
 use Rattle.shredtest_planner.specs.declared.plain_plan.PlainEntry.{PlainEntry}

@@ -1,4 +1,3 @@
-use Rattle.std.proofs.Common.{◌≡◌}
 use Rattle.shred_stage.specs.Placement.{NoneAdmits}
 use Rattle.shredtest_planner.specs.Plain.{entry_of, plan_of}
 use Rattle.shredtest_planner.proofs.slow_placement.find.Given as goal

@@ -1,5 +1,4 @@
-use Rattle.std.proofs.Common.{◌≡◌, ◌<◌, ◌∙◌, sym, ap, max, length, get_or, rules, arith}
-use Rattle.shred_stage.specs.Placement.{greatest_time}
+use Rattle.std.proofs.Common.{◌≡◌, ◌<◌, length, get_or, rules, arith}
 use Rattle.shredtest_planner.proofs.PlainReads.{greatest_more}
 use Rattle.shredtest_planner.proofs.slow_placement.greatest_time.Goals as goal
 

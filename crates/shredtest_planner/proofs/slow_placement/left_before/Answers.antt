@@ -1,4 +1,4 @@
-use Rattle.std.proofs.Common.{◌≡◌, ◌<◌, ◌∙◌, sym, refl, length, arith}
+use Rattle.std.proofs.Common.{◌<◌, ◌∙◌, sym, refl, length, arith}
 use Rattle.shred_stage.proofs.Planner.Searching.{left_then, mapped_read}
 use Rattle.shredtest_planner.specs.Plain.{plan_of, stage_of}
 use Rattle.shredtest_planner.proofs.PlainReads.{left_at_start, left_at_end}

@@ -20,3 +20,5 @@ pub mod BundleParts
 pub mod Executed
 pub mod LentBundles
 pub mod Accessors
+pub mod Lending
+pub mod Parted

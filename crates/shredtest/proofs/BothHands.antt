@@ -1,5 +1,5 @@
 -- Two hands, of which each is written over by itself.
-use Rattle.std.proofs.Common.{◌≡◌, ℕ, zero, suc, ◌<◌, List, [], ◌∷◌, ◌++◌, length, get_or, set, refl, arith}
+use Rattle.std.proofs.Common.{◌≡◌, zero, suc, ◌<◌, List, [], ◌∷◌, ◌++◌, length, get_or, set, refl, arith}
 use Rattle.std.specs.List.{All, AllZip}
 
 module _ {A : Type 0} where

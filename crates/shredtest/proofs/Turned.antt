@@ -1,5 +1,5 @@
 -- Rings of ids that turn.
-use Rattle.std.proofs.Common.{◌≡◌, suc, List, [], ◌∷◌, length}
+use Rattle.std.proofs.Common.{◌≡◌, List, [], ◌∷◌, length}
 use Rattle.shred_world.specs.Parts.{Pair}
 use Rattle.shredtest.specs.declared.adding.Adding.{Adding}
 use Rattle.shredtest.specs.declared.values.Value.{Value}

@@ -1,4 +1,4 @@
-//! Bundles of no part and of one to eight, each taken once.
+//! Bundles of no part, of one and two, and of eight, which takes one of each length between.
 use crate::lent_calls::take_and_give_back;
 use crate::values::{Count, Flag, Name, Value};
 use shred_world::{Kind, Read, ReadExpect, ResourceId, SystemData, World, Write, WriteExpect};
@@ -68,62 +68,7 @@ fn the_lists_of_a_bundle_are_those_of_its_parts(rt: HostRuntime) -> Result<(), F
     expect_lists::<Three>(&rt, rt.alloc(), &[x, x], &[z])
 }
 
-#[test]
-fn a_bundle_of_three(rt: HostRuntime) -> Result<(), Fail> {
-    type Three<'s> = (Read<'s, Flag>, Write<Count>, Option<ReadExpect<'s, Name>>);
-    let (x, y, z) = (id(0), id(1), id(2));
-    expect::<Three>(&rt, rt.alloc(), &[z, y], &[x])
-}
-
-#[test]
-fn a_bundle_of_four(rt: HostRuntime) -> Result<(), Fail> {
-    type Four<'s> = (WriteExpect<Name>, (), Read<'s, Count>, Write<Flag>);
-    let (x, y, z) = (id(0), id(1), id(2));
-    expect::<Four>(&rt, rt.alloc(), &[x], &[y, z])
-}
-
-#[test]
-fn a_bundle_of_five(rt: HostRuntime) -> Result<(), Fail> {
-    type Five<'s> = (
-        Write<Flag>,
-        PhantomData<Name>,
-        ReadExpect<'s, Name>,
-        (),
-        Write<Count>,
-    );
-    let (x, y, z) = (id(0), id(1), id(2));
-    expect::<Five>(&rt, rt.alloc(), &[y], &[z, x])
-}
-
-#[test]
-fn a_bundle_of_six(rt: HostRuntime) -> Result<(), Fail> {
-    type Six<'s> = (
-        Read<'s, Flag>,
-        (),
-        (),
-        Read<'s, Count>,
-        (),
-        WriteExpect<Name>,
-    );
-    let (x, y, z) = (id(0), id(1), id(2));
-    expect::<Six>(&rt, rt.alloc(), &[z, x], &[y])
-}
-
-#[test]
-fn a_bundle_of_seven(rt: HostRuntime) -> Result<(), Fail> {
-    type Seven<'s> = (
-        (),
-        Write<Count>,
-        (),
-        (),
-        Read<'s, Flag>,
-        (),
-        ReadExpect<'s, Name>,
-    );
-    let (x, y, z) = (id(0), id(1), id(2));
-    expect::<Seven>(&rt, rt.alloc(), &[z, y], &[x])
-}
-
+// A bundle of three parts and more takes one of one part less, and then the last part.
 #[test]
 fn a_bundle_of_eight(rt: HostRuntime) -> Result<(), Fail> {
     type Eight<'s> = (

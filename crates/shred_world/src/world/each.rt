@@ -3,6 +3,7 @@ ghost use Rattle.std.specs.Prelude.{◌≡◌, ◌<◌, IsTrue, OnErr, OnOk, fal
 ghost use Rattle.std.specs.List.{All, AllZip};
 ghost use Rattle.shred_world.specs.declared.id.ResourceId.{ResourceId};
 ghost use Rattle.shred_world.specs.Beside.{lender_of, parted_of, pairs_of, pairs_behind, pair_behind, lent_behind};
+ghost use Rattle.shred_world.specs.Parted.{ShowsSame};
 ghost use Rattle.shred_world.specs.Parts.{DoNotConflict, reads_of, writes_of, HasNothingOut, HoldsSameIds, IsHandOf};
 ghost use Rattle.shred_world.specs.Shown.{IsSameSlots};
 ghost use Rattle.shred_world.specs.Slots.{among};
@@ -87,7 +88,7 @@ impl<'s, 'a, V: ResourceValue + Drop> View<'s, 'a, V> {
         ensures worked { OnOk result (IsWorked W.works pairs.now (view_held V.kind_of self.old) work.old (view_held V.kind_of self.new) work.new) }
         ensures rest { KeepsRest pairs.now (view_held V.kind_of self.old) (view_held V.kind_of self.new) }
         ensures ids { KeepsHeldIds (view_held V.kind_of self.old) (view_held V.kind_of self.new) }
-        ensures refused { OnErr result ((id : ResourceId) → view_slot self.new id ≡ view_slot self.old id) }
+        ensures refused { OnErr result (ShowsSame self.old self.new) }
         ensures not_begun { OnErr result (work.new ≡ work.old) }
     {
         let mut parts = match self.part(alloc, pairs) {

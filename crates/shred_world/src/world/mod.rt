@@ -87,6 +87,7 @@ impl<V: ResourceValue> World<V> {
     ghost use Rattle.shred_world.specs.Slots.{slot_at, with_at, without_at, among};
     ghost use Rattle.shred_world.specs.Entries.{lent_world, entry_world};
     ghost use Rattle.shred_world.specs.Views.{view_held, may_read, may_write, is_out, table_in, shelves_of};
+    ghost use Rattle.shred_world.specs.Lending.{IsOverWorld};
     ghost use Rattle.shred_world.specs.Lent.{LendsWorld, LendsGot, LendsGotOk};
 
     /// Holds nothing.
@@ -358,8 +359,7 @@ impl<V: ResourceValue> World<V> {
         ensures writes { (id : ResourceId) → may_write result id ≡ among writes.now id }
         ensures nothing_out { (id : ResourceId) → is_out result id ≡ false }
         ensures shown { (id : ResourceId) → view_held V.kind_of result id ≡ world_held V.kind_of self.old id }
-        ensures own { (q : ResourceId) → slot_at (table_in result) q ≡ slot_at (table_of_world self.old) q }
-        ensures shelf { shelves_of result ≡ [] }
+        ensures over { IsOverWorld self.old result }
         ensures* back { sem 𝓛 (LendsWorld V.row self.entry result) }
     {
         View::over(reads, writes, &[], &mut self.table)

@@ -1,13 +1,14 @@
 //! Parting a view into views that may be used beside each other.
-ghost use Rattle.std.specs.Prelude.{◌≡◌, ◌<◌, ◌&&◌, IsTrue, false, cond, is_some, IfOk, OnOk, OnErr, None, List, length};
+ghost use Rattle.std.specs.Prelude.{◌≡◌, ◌<◌, ◌&&◌, IsTrue, false, cond, is_some, IfOk, OnOk, OnErr, length};
 ghost use Rattle.std.specs.List.{All, AllZip};
 ghost use Rattle.shred_world.specs.declared.id.ResourceId.{ResourceId};
-ghost use Rattle.shred_world.specs.Parting.{emptied};
-ghost use Rattle.shred_world.specs.Parts.{DoNotConflict, reads_of, writes_of, written_by, HasNothingOut, HasRoom, HoldsWritten, HoldsSameIds, HoldsIdsOf, Fits, IsHandOf, IsJoined};
-ghost use Rattle.shred_world.specs.Slots.{slot_at, noted_in, among, or_slot};
-ghost use Rattle.shred_world.specs.Views.{may_read, may_write, is_out, owned_ids, shelf_slot, shelves_of, table_of, lent_slot, view_slot, table_in, IsSameLoan};
-ghost use Rattle.shred_world.specs.Beside.{pairs_of, lender_of, parted_of, pairs_behind, pair_behind, lent_behind, shelf_behind, ShowsDeclared};
+ghost use Rattle.shred_world.specs.Beside.{pairs_of, lender_of, pairs_behind, pair_behind, lent_behind, shelf_behind};
 ghost use Rattle.shred_world.specs.OwnViews.{IsLent};
+ghost use Rattle.shred_world.specs.Parted.{has_place, IsJoinedWith, IsParted, IsViewOfPair, MayBeJoined, ShowsSame};
+ghost use Rattle.shred_world.specs.Parting.{emptied};
+ghost use Rattle.shred_world.specs.Parts.{DoNotConflict, reads_of, writes_of, written_by, HasNothingOut, HasRoom, HoldsWritten, Fits, IsHandOf, IsJoined};
+ghost use Rattle.shred_world.specs.Slots.{slot_at, noted_in, among};
+ghost use Rattle.shred_world.specs.Views.{may_read, may_write, is_out, table_of, view_slot, IsSameLoan};
 
 use crate::accessor::OutOfMemory;
 use crate::id::ResourceId;
@@ -113,11 +114,7 @@ impl<'p, 's, V> Behind<'p, 's, V> {
         requires number { number < length (pairs_behind self.now) }
         requires hand { IsHandOf (lent_behind self.now) (pair_behind self.now number) hand.old }
         ensures name { result.own.ghost_name ≡ hand.entry.ghost_name }
-        ensures slots { result.own.now.slots ≡ hand.old.slots }
-        ensures reads { result.reads.now ≡ reads_of (pair_behind self.now number) }
-        ensures writes { result.writes.now ≡ writes_of (pair_behind self.now number) }
-        ensures owned { owned_ids result ≡ writes_of (pair_behind self.now number) }
-        ensures shelf { shelves_of result ≡ shelf_behind self.now }
+        ensures over { IsViewOfPair (pair_behind self.now number) hand.old (shelf_behind self.now) result }
         ensures lent { IsLent result (reads_of (pair_behind self.now number)) (writes_of (pair_behind self.now number)) }
     {
         let pair = &self.pairs[number];
@@ -138,17 +135,9 @@ impl<'s, 'a, V: ResourceValue + Drop> View<'s, 'a, V> {
         requires writes_within { All (λ p. (id : ResourceId) → IsTrue (among (writes_of p) id) → IsTrue (may_write self.old id)) pairs.now }
         requires apart { DoNotConflict pairs.now }
         ensures loan { IsSameLoan self.old self.new }
-        ensures lender { IfOk result (λ parts. lender_of parts ≡ table_of self.new) }
-        ensures pairs { IfOk result (λ parts. pairs_of parts ≡ pairs.now) }
-        ensures hands { IfOk result (λ parts. AllZip (HoldsWritten (table_in self.old)) pairs.now parts.hands.items) }
-        ensures parted { IfOk result (λ parts. parted_of parts ≡ parts.hands.items) }
-        ensures nothing_out { IfOk result (λ parts. All HasNothingOut parts.hands.items) }
-        ensures of_pairs { IfOk result (λ parts. AllZip (IsHandOf (view_slot self.new)) pairs.now parts.hands.items) }
-        ensures fit { IfOk result (λ parts. AllZip (Fits (table_in self.new)) pairs.now parts.hands.items) }
-        ensures shown { IfOk result (λ parts. AllZip (ShowsDeclared (view_slot self.new) (view_slot self.old)) pairs.now parts.hands.items) }
-        ensures left { OnOk result ((q : ResourceId) → slot_at (table_in self.new) q ≡ cond (written_by pairs.now q) (emptied (slot_at (table_in self.old) q)) (slot_at (table_in self.old) q)) }
-        ensures out { OnOk result ((q : ResourceId) → is_out self.new q ≡ (written_by pairs.now q && is_some (slot_at (table_in self.old) q))) }
-        ensures refused { OnErr result ((q : ResourceId) → view_slot self.new q ≡ view_slot self.old q) }
+        ensures parted { IfOk result (λ parts. IsParted self.old pairs.now parts self.new) }
+        ensures out { OnOk result ((q : ResourceId) → is_out self.new q ≡ (written_by pairs.now q && has_place self.old q)) }
+        ensures refused { OnErr result (ShowsSame self.old self.new) }
         ensures nothing_begun { OnErr result ((q : ResourceId) → is_out self.new q ≡ false) }
     {
         let mut hands = match self.own.make_hands(alloc, pairs) {
@@ -185,15 +174,9 @@ impl<'p, 'a, V: ResourceValue + Drop> Parts<'p, 'a, V> {
 
     /// Moves each value back into the slot of its id in the view that was parted, which it left empty.
     pub fn join(self, lender: &mut View<V>)
-        requires lender { table_of lender.old ≡ lender_of self }
-        requires out { (id : ResourceId) → is_out lender.old id ≡ (written_by (pairs_of self) id && is_some (slot_at (table_in lender.old) id)) }
-        requires given_back { All HasNothingOut self.hands.items }
-        requires fit { AllZip (Fits (table_in lender.old)) (pairs_of self) self.hands.items }
-        requires kept { AllZip (HoldsSameIds V.kind_of) (parted_of self) self.hands.items }
+        requires { MayBeJoined V.kind_of self lender.old }
         ensures loan { IsSameLoan lender.old lender.new }
-        ensures joined { AllZip (IsJoined (table_in lender.new)) (pairs_of self.entry) self.entry.hands.items }
-        ensures ids { AllZip (HoldsIdsOf V.kind_of (table_in lender.new)) (pairs_of self.entry) (parted_of self.entry) }
-        ensures rest { (q : ResourceId) → written_by (pairs_of self.entry) q ≡ false → slot_at (table_in lender.new) q ≡ slot_at (table_in lender.old) q }
+        ensures joined { IsJoinedWith V.kind_of self.entry lender.old lender.new }
         ensures nothing_out { (q : ResourceId) → is_out lender.new q ≡ false }
     {
         let Parts {

@@ -2,6 +2,7 @@
 ghost use Rattle.std.specs.Prelude.{◌≡◌, ◌&&◌, ◌||◌, Bool, None, Some, IfOk, IsTrue, true, false, cond, is_some};
 ghost use Rattle.std.specs.Borrow.{sem};
 ghost use Rattle.shred_world.specs.declared.id.ResourceId.{ResourceId};
+ghost use Rattle.shred_world.specs.Lending.{IsNarrowed};
 ghost use Rattle.shred_world.specs.Lent.{LendsWritten, LendsNarrow};
 ghost use Rattle.std.specs.Option.{option_copied};
 ghost use Rattle.std.specs.Result.{result_err};
@@ -225,9 +226,7 @@ impl<'s, 'a, V: ResourceValue> View<'s, 'a, V> {
         ensures writes { (id : ResourceId) → may_write result id ≡ among writes.now id }
         ensures nothing_out { (id : ResourceId) → is_out result id ≡ false }
         ensures shown { (id : ResourceId) → view_held V.kind_of result id ≡ view_held V.kind_of self.old id }
-        ensures own { table_in result ≡ table_in self.old }
-        ensures owned { owned_ids result ≡ cond (is_whole self.old) writes.now (owned_ids self.old) }
-        ensures shelf { shelves_of result ≡ shelves_of self.old }
+        ensures over { IsNarrowed self.old writes.now result }
         ensures* back { sem 𝓛 (LendsNarrow V.row self.entry result) }
     {
         let owned = if self.is_whole() { writes } else { self.owned };

@@ -1,4 +1,4 @@
-use Rattle.std.proofs.Common.{◌≡◌, is_ok, IsOk, ap}
+use Rattle.std.proofs.Common.{is_ok, IsOk, ap}
 use Rattle.std.specs.Prelude.{is_some}
 use Rattle.shred_world.specs.Views.{view_held}
 use Rattle.shredtest.specs.Values.{kind_of}

@@ -5,7 +5,11 @@ use Rattle.shred_world.specs.Parts.{IsJoined}
 use Rattle.shred_world.proofs.Parted.Beside.{ids-joined}
 use Rattle.shred_world.proofs.world.parted.Parts.join.Goals as goal
 
-pub returns-clause-ids : goal.returns-clause-ids
-returns-clause-ids g c =
-    ids-joined g.V.ResourceValue.kind_of c.move_all_back.new.self c.args.self.pairs.now c.args.self.parted.value.items c.args.self.hands.items c.requires.kept
-    (subst (λ (hs : List (Table g.row.V.Denot)). AllZip (IsJoined c.move_all_back.new.self) c.args.self.pairs.now hs) c.as_mut_slice.ensures.value c.move_all_back.ensures.joined)
+pub returns-clause-joined : goal.returns-clause-joined
+returns-clause-joined g c =
+    let joined = subst (λ (hs : List (Table g.row.V.Denot)). AllZip (IsJoined c.move_all_back.new.self) c.args.self.pairs.now hs) c.as_mut_slice.ensures.value c.move_all_back.ensures.joined in
+    record {
+      joined = joined;
+      ids = ids-joined g.V.ResourceValue.kind_of c.move_all_back.new.self c.args.self.pairs.now c.args.self.parted.value.items c.args.self.hands.items c.requires.kept joined;
+      rest = c.move_all_back.ensures.rest;
+    }

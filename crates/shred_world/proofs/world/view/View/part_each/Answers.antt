@@ -14,38 +14,30 @@ use Rattle.shred_world.proofs.world.view.View.part_each.Goals as goal
 
 pub work_parted-requires-clause-hands : goal.work_parted-requires-clause-hands
 work_parted-requires-clause-hands g c =
-    subst (λ (ps : List Pair). AllZip (IsHandOf (view_slot c.part.new.self)) ps c.in-Ok.parts.hands.items) (sym c.in-Ok.ensures.pairs)
-    c.in-Ok.ensures.of_pairs
+    subst (λ (ps : List Pair). AllZip (IsHandOf (view_slot c.part.new.self)) ps c.in-Ok.parts.hands.items) (sym c.in-Ok.ensures.parted.pairs)
+    c.in-Ok.ensures.parted.of_pairs
 
 pub work_parted-requires-clause-lender : goal.work_parted-requires-clause-lender
-work_parted-requires-clause-lender g c = sym c.in-Ok.ensures.lender
+work_parted-requires-clause-lender g c = sym c.in-Ok.ensures.parted.lender
 
-pub join-requires-clause-lender : goal.join-requires-clause-lender
-join-requires-clause-lender g c = sym (c.work_parted.ensures.lender ∙ c.in-Ok.ensures.lender)
-
-pub join-requires-clause-out : goal.join-requires-clause-out
-join-requires-clause-out g c = λ q. c.in-Ok.ensures.out q
-    ∙ ap (λ (b : Bool). written_by c.args.pairs.now q && b) (sym (c.in-Ok.ensures.loan.slots q))
-    ∙ ap (λ (ps : List Pair). written_by ps q && is_some (slot_at c.part.new.self.own.now q)) (sym (c.work_parted.ensures.pairs ∙ c.in-Ok.ensures.pairs))
-
-pub join-requires-clause-given_back : goal.join-requires-clause-given_back
-join-requires-clause-given_back g c =
-    each-given_back g.V.ResourceValue.kind_of g.W.ViewWork.works (view_slot c.part.new.self) c.in-Ok.parts.pairs.now c.in-Ok.parts.hands.items c.args.work.now c.work_parted.new.parts.hands.items c.work_parted.new.work c.work_parted.ensures.worked
-
-pub join-requires-clause-fit : goal.join-requires-clause-fit
-join-requires-clause-fit g c =
-    let hands = c.in-Ok.parts.hands.items in
-    let left = c.work_parted.new.parts.hands.items in
-    subst (λ (ps : List Pair). AllZip (Fits c.part.new.self.own.now) ps left) (sym (c.work_parted.ensures.pairs ∙ c.in-Ok.ensures.pairs))
-    (fit-again c.args.pairs.now c.part.new.self.own.now hands left c.in-Ok.ensures.fit
-    (each-slots g.V.ResourceValue.kind_of g.W.ViewWork.works (view_slot c.part.new.self) c.in-Ok.parts.pairs.now hands c.args.work.now left c.work_parted.new.work c.work_parted.ensures.worked))
-
-pub join-requires-clause-kept : goal.join-requires-clause-kept
-join-requires-clause-kept g c =
-    let kind = g.V.ResourceValue.kind_of in
-    let left = c.work_parted.new.parts.hands.items in
-    subst (λ (was : List (Table g.row.V.Denot)). AllZip (HoldsSameIds kind) was left) (sym (c.work_parted.ensures.parted ∙ c.in-Ok.ensures.parted))
-    (each-ids kind g.W.ViewWork.works (view_slot c.part.new.self) c.in-Ok.parts.pairs.now c.in-Ok.parts.hands.items c.args.work.now left c.work_parted.new.work c.work_parted.ensures.worked)
+pub join-requires : goal.join-requires
+join-requires g c =
+    record {
+      lender = (sym (c.work_parted.ensures.lender ∙ c.in-Ok.ensures.parted.lender));
+      out = (λ q. c.in-Ok.ensures.out q
+          ∙ ap (λ (b : Bool). written_by c.args.pairs.now q && b) (sym (c.in-Ok.ensures.loan.slots q))
+          ∙ ap (λ (ps : List Pair). written_by ps q && is_some (slot_at c.part.new.self.own.now q)) (sym (c.work_parted.ensures.pairs ∙ c.in-Ok.ensures.parted.pairs)));
+      given_back = (each-given_back g.V.ResourceValue.kind_of g.W.ViewWork.works (view_slot c.part.new.self) c.in-Ok.parts.pairs.now c.in-Ok.parts.hands.items c.args.work.now c.work_parted.new.parts.hands.items c.work_parted.new.work c.work_parted.ensures.worked);
+      fit = (let hands = c.in-Ok.parts.hands.items in
+          let left = c.work_parted.new.parts.hands.items in
+          subst (λ (ps : List Pair). AllZip (Fits c.part.new.self.own.now) ps left) (sym (c.work_parted.ensures.pairs ∙ c.in-Ok.ensures.parted.pairs))
+          (fit-again c.args.pairs.now c.part.new.self.own.now hands left c.in-Ok.ensures.parted.fit
+          (each-slots g.V.ResourceValue.kind_of g.W.ViewWork.works (view_slot c.part.new.self) c.in-Ok.parts.pairs.now hands c.args.work.now left c.work_parted.new.work c.work_parted.ensures.worked)));
+      kept = (let kind = g.V.ResourceValue.kind_of in
+          let left = c.work_parted.new.parts.hands.items in
+          subst (λ (was : List (Table g.row.V.Denot)). AllZip (HoldsSameIds kind) was left) (sym (c.work_parted.ensures.parted ∙ c.in-Ok.ensures.parted.parted))
+          (each-ids kind g.W.ViewWork.works (view_slot c.part.new.self) c.in-Ok.parts.pairs.now c.in-Ok.parts.hands.items c.args.work.now left c.work_parted.new.work c.work_parted.ensures.worked));
+    }
 
 pub returns-clause-same : goal.returns-clause-same
 returns-clause-same g c = same-again c.args.self.now c.part.new.self c.join.new.lender c.in-Ok.ensures.loan c.join.ensures.loan c.requires.nothing_out c.join.ensures.nothing_out
@@ -61,10 +53,10 @@ returns-clause-worked g c =
     let hands = c.in-Ok.parts.hands.items in
     let left = c.work_parted.new.parts.hands.items in
     worked-apart kind works (view_slot now) (view_slot was) (view_slot new) new.own.now pairs hands c.args.work.now left c.work_parted.new.work
-    c.in-Ok.ensures.shown
-    (subst (λ (ps : List Pair). AllZip (IsJoined new.own.now) ps left) (c.work_parted.ensures.pairs ∙ c.in-Ok.ensures.pairs) c.join.ensures.joined)
+    c.in-Ok.ensures.parted.shown
+    (subst (λ (ps : List Pair). AllZip (IsJoined new.own.now) ps left) (c.work_parted.ensures.pairs ∙ c.in-Ok.ensures.parted.pairs) c.join.ensures.joined.joined)
     (λ i d below q w. ap (or_slot (slot_at new.own.now q)) (same-behind now new c.join.ensures.loan q ∙ same-behind was now c.in-Ok.ensures.loan q ∙ hidden was q (c.requires.writes_within i d below q w)))
-    (subst (λ (ps : List Pair). IsWorkedEach kind works (view_slot now) ps hands c.args.work.now left c.work_parted.new.work) c.in-Ok.ensures.pairs c.work_parted.ensures.worked)
+    (subst (λ (ps : List Pair). IsWorkedEach kind works (view_slot now) ps hands c.args.work.now left c.work_parted.new.work) c.in-Ok.ensures.parted.pairs c.work_parted.ensures.worked)
 
 pub returns-clause-ids : goal.returns-clause-ids
 returns-clause-ids g c =
@@ -72,8 +64,8 @@ returns-clause-ids g c =
     let now = c.part.new.self in
     let new = c.join.new.lender in
     let hands = c.in-Ok.parts.hands.items in
-    let same = c.work_parted.ensures.pairs ∙ c.in-Ok.ensures.pairs in
+    let same = c.work_parted.ensures.pairs ∙ c.in-Ok.ensures.parted.pairs in
     let ids = subst (λ (ps : List Pair). AllZip (HoldsIdsOf kind new.own.now) ps hands) same
-    (subst (λ (was : List (Table g.row.V.Denot)). AllZip (HoldsIdsOf kind new.own.now) c.work_parted.new.parts.pairs.now was) (c.work_parted.ensures.parted ∙ c.in-Ok.ensures.parted) c.join.ensures.ids) in
-    held-kept kind c.args.self.now now new c.args.pairs.now hands c.in-Ok.ensures.loan c.join.ensures.loan c.in-Ok.ensures.hands ids c.in-Ok.ensures.left
-    (λ q out. c.join.ensures.rest q (ap (λ (ps : List Pair). written_by ps q) same ∙ out))
+    (subst (λ (was : List (Table g.row.V.Denot)). AllZip (HoldsIdsOf kind new.own.now) c.work_parted.new.parts.pairs.now was) (c.work_parted.ensures.parted ∙ c.in-Ok.ensures.parted.parted) c.join.ensures.joined.ids) in
+    held-kept kind c.args.self.now now new c.args.pairs.now hands c.in-Ok.ensures.loan c.join.ensures.loan c.in-Ok.ensures.parted.hands ids c.in-Ok.ensures.parted.left
+    (λ q out. c.join.ensures.joined.rest q (ap (λ (ps : List Pair). written_by ps q) same ∙ out))

@@ -1,4 +1,4 @@
-//! Tests of the planner, the builder and dispatches.
+//! Tests of the planner, the builder and dispatches, and of the library examples.
 #![tactic(auto)]
 
 #[cfg(test)]
@@ -13,6 +13,8 @@ mod dependency_tests;
 mod error_tests;
 #[cfg(test)]
 mod gate;
+#[cfg(test)]
+mod own_bundle;
 #[cfg(test)]
 mod planner_tests;
 #[cfg(test)]

@@ -1,5 +1,0 @@
-//! Tests of the example.
-#![tactic(auto)]
-
-#[cfg(test)]
-mod own_bundle;

@@ -21,7 +21,7 @@ has_place view id = is_some (slot_at (table_in view) id)
 abbrev pub ShowsSame : {V : Type 0} → (old new : View V) → Type 0
 ShowsSame old new = (id : ResourceId) → view_slot new id ≡ view_slot old id
 
--- The view was parted by the pairs. Each part's hand has the values of the ids that its pair writes, and no other, with none of them out; over it and over what the view shows now, a view of the pair shows of its declared ids what the view showed. The view itself lacks these values, and has all else.
+-- The view was parted by the pairs, and the parts remember it, the pairs and what the hands hold. Each part's hand has the values of the ids that its pair writes, and no other, with none of them out; over it and over what the view shows now, a view of the pair shows of its declared ids what the view showed. The view itself lacks these values, and has all else.
 pub record IsParted {V : Type 0} (old : View V) (ps : List Pair) (parts : Parts V) (new : View V) : Type 0 where
   pub lender : lender_of parts ≡ table_of new
   pub pairs : pairs_of parts ≡ ps
@@ -33,7 +33,7 @@ pub record IsParted {V : Type 0} (old : View V) (ps : List Pair) (parts : Parts 
   pub shown : AllZip (ShowsDeclared (view_slot new) (view_slot old)) ps parts.hands.items
   pub left : (q : ResourceId) → slot_at (table_in new) q ≡ cond (written_by ps q) (emptied (slot_at (table_in old) q)) (slot_at (table_in old) q)
 
--- The parts may be joined with the view. It is the view that was parted, and just the parted ids are out of it; nothing is out of the hands, and each holds values under the ids under which it held them when the view was parted.
+-- The parts may be joined with the view. It is the view that was parted, and just the parted ids are out of it; nothing is out of the hands, and each has just the places that its pair writes and the view has, and holds values under the ids under which it held them when the view was parted.
 pub record MayBeJoined {V : Type 0} (kind : V → Kind) (parts : Parts V) (view : View V) : Type 0 where
   pub lender : table_of view ≡ lender_of parts
   pub out : (id : ResourceId) → is_out view id ≡ (written_by (pairs_of parts) id && has_place view id)
@@ -49,7 +49,7 @@ pub record IsJoinedWith {V : Type 0} (kind : V → Kind) (parts : Parts V) (old 
 
 -- the view of a pair's lists over its hand, with these tables behind it
 pub record IsViewOfPair {V : Type 0} (pair : Pair) (hand : Table V) (behind : List (Shelf V)) (view : View V) : Type 0 where
-  pub slots : view.own.now.slots ≡ hand.slots
+  pub slots : (q : ResourceId) → slot_at (table_in view) q ≡ slot_at hand q
   pub reads : view.reads.now ≡ reads_of pair
   pub writes : view.writes.now ≡ writes_of pair
   pub owned : owned_ids view ≡ writes_of pair

@@ -22,7 +22,9 @@ use std::default::MadeWith;
 pub struct SystemId(pub usize);
 
 impl<A: Drop> MadeWith<A> for SystemId {
-    fn made_with(_alloc: A) -> Self {
+    fn made_with(_alloc: A) -> Self
+        ensures { result.0 ≡ 0 }
+    {
         SystemId(0)
     }
 }

@@ -1,4 +1,4 @@
-//! Lanes that run beside each other on threads.
+//! Lanes that run one after the other, or beside each other on threads.
 ghost use Rattle.std.specs.Prelude.{◌≡◌, All};
 ghost use Rattle.std.specs.Thread.{IsSync};
 ghost use Rattle.shred_model.specs.Beside.{AllWent};

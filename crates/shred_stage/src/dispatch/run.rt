@@ -1,4 +1,4 @@
-//! Runs on the caller's thread, over a table and what is lent shared beside it.
+//! Runs of entries, over a table and what is lent shared beside it.
 ghost use Rattle.std.specs.Prelude.{◌≡◌, false, map, All};
 ghost use Rattle.std.specs.Option.{option_map};
 ghost use Rattle.shred_model.specs.Runs.{Ran, first_fault};

@@ -1,5 +1,5 @@
 //! The world: a finite map from ids to values of their id's kind.
-ghost use Rattle.std.specs.Prelude.{◌≡◌, ◌≢◌, ◌↔◌, ◌⊎◌, ◌||◌, ⊤, [], false, None, Some, Err, OnOk, OnErr, IfOk, IfErr, is_some};
+ghost use Rattle.std.specs.Prelude.{◌≡◌, ◌≢◌, ◌↔◌, ◌⊎◌, ◌||◌, ⊤, false, None, Some, Err, OnOk, OnErr, IfOk, IfErr, is_some};
 ghost use Rattle.std.specs.Borrow.{sem};
 ghost use Rattle.std.specs.Option.{option_map};
 ghost use Rattle.shred_world.specs.declared.id.ResourceId.{ResourceId};
@@ -82,11 +82,11 @@ fn test_kind<V: ResourceValue, R: Resource<V>>(id: ResourceId) -> Result<(), Wor
 }
 
 impl<V: ResourceValue> World<V> {
-    ghost use Rattle.shred_world.specs.Worlds.{world_held, table_of_world, IsFilled};
+    ghost use Rattle.shred_world.specs.Worlds.{world_held, IsFilled};
     ghost use Rattle.shred_world.specs.Id.{id_of, kind_of};
-    ghost use Rattle.shred_world.specs.Slots.{slot_at, with_at, without_at, among};
+    ghost use Rattle.shred_world.specs.Slots.{with_at, without_at, among};
     ghost use Rattle.shred_world.specs.Entries.{lent_world, entry_world};
-    ghost use Rattle.shred_world.specs.Views.{view_held, may_read, may_write, is_out, table_in, shelves_of};
+    ghost use Rattle.shred_world.specs.Views.{view_held, may_read, may_write, is_out};
     ghost use Rattle.shred_world.specs.Lending.{IsOverWorld};
     ghost use Rattle.shred_world.specs.Lent.{LendsWorld, LendsGot, LendsGotOk};
 

@@ -8,7 +8,7 @@ ghost use Rattle.std.specs.Option.{option_copied};
 ghost use Rattle.std.specs.Result.{result_err};
 ghost use Rattle.shred_world.specs.Grants.{grant_of, map_grant, table_grant};
 ghost use Rattle.shred_world.specs.Slots.{among, slot_at, held, or_slot};
-ghost use Rattle.shred_world.specs.Views.{shelf_slot, lent_slot, view_slot, view_held, is_whole, may_read, may_write, is_vacant, is_out, refusal, table_in, owned_ids, shelves_of};
+ghost use Rattle.shred_world.specs.Views.{shelf_slot, lent_slot, view_slot, view_held, is_whole, may_read, may_write, is_vacant, is_out, refusal};
 
 use crate::id::{Kind, ResourceId};
 use crate::resource::{Resource, ResourceValue};

@@ -2,7 +2,7 @@
 use Rattle.std.specs.Prelude.{List}
 use Rattle.shred_stage.specs.BuilderPlan.{planned, barrier_of, builder_states}
 use Rattle.shred.specs.Built.{Built}
-use Rattle.shred_stage.specs.Names.{Pair, names_of, pairs_of}
+use Rattle.shred_stage.specs.Names.{NamedId, names_of, named_ids}
 use Rattle.shred.specs.declared.dispatch.builder.DispatcherBuilder.{DispatcherBuilder}
 
 -- what a builder has come to
@@ -16,5 +16,5 @@ built builder = record {
 }
 
 -- its names, with what they stand for
-abbrev pub builder_pairs : {V S E X : Type 0} {gv gs gx : _} → DispatcherBuilder V S E X gv gs gx → List Pair
-builder_pairs builder = pairs_of builder.names
+abbrev pub builder_pairs : {V S E X : Type 0} {gv gs gx : _} → DispatcherBuilder V S E X gv gs gx → List NamedId
+builder_pairs builder = named_ids builder.names

@@ -1,12 +1,12 @@
 -- What a builder has come to, and the steps of its calls.
 use Rattle.std.specs.Prelude.{◌≡◌, ℕ, ◌<◌, ◌+◌, ◌-◌, ◌^◌, List, [], length, Option, None, Some, IsSome}
 use Rattle.shred_world.specs.declared.id.ResourceId.{ResourceId}
-use Rattle.shred_model.specs.Plan.{Entry, Plan}
+use Rattle.shred_model.specs.Plan.{PlanEntry, Plan}
 use Rattle.shred_model.specs.Record.{Agent}
 use Rattle.shred_stage.specs.Added.{AreSame, IsAdded}
 use Rattle.shred_stage.specs.Earlier.{HasIdAt, IsFromBarrier, StandsAfter, AllBeforeBarrier}
 use Rattle.shred_stage.specs.Kept.{IsKept}
-use Rattle.shred_stage.specs.Known.{Known, KnowsAll, IsFirstUnknown, ids_of, with_name}
+use Rattle.shred_stage.specs.Known.{Known, KnowsAll, IsFirstUnknown, known_ids, with_name}
 use Rattle.shred_stage.specs.Placement.{IsPlaced}
 use Rattle.shred_stage.specs.declared.system.RunningTime.{RunningTime}
 use Rattle.shred.specs.declared.dispatch.add_error.AddError.{AddError}
@@ -47,12 +47,12 @@ pub record IsBarrierSet {S : Type 0} (old new : Built S) : Type 0 where
 
 -- The system is placed with the next id, after its dependencies, and its name is entered unless it is empty; the barrier stays, and the next id is one more.
 pub record IsAddition {S : Type 0} (old new : Built S) (name : List ℕ) (dependencies : List (List ℕ)) (reads writes : List ResourceId) (time : RunningTime) (system : S) : Type 0 where
-  pub entry : Entry ResourceId
+  pub entry : PlanEntry ResourceId
   pub kept : IsKept old.next reads writes time entry
-  pub placed : IsPlaced old.plan old.barrier old.barrier (ids_of old.known dependencies) entry new.plan
+  pub placed : IsPlaced old.plan old.barrier old.barrier (known_ids old.known dependencies) entry new.plan
   pub added : IsAdded old.plan new.plan old.states new.states entry system
   pub from_barrier : IsFromBarrier old.barrier added.place
-  pub after : StandsAfter old.plan (ids_of old.known dependencies) added.place
+  pub after : StandsAfter old.plan (known_ids old.known dependencies) added.place
   pub known : (q : List ℕ) → new.known q ≡ with_name old.known name old.next q
   pub barrier : new.barrier ≡ old.barrier
   pub next : new.next ≡ old.next + 1

@@ -6,14 +6,14 @@ use Rattle.shred_model.specs.Record.{Agent}
 use Rattle.shred_model.specs.States.{own_state, listed_states}
 
 -- an entry: its id, what it may touch, and its time
-pub record Entry (I : Type 0) : Type 0 where
+pub record PlanEntry (I : Type 0) : Type 0 where
   pub id : ℕ
   pub access : Access I
   pub time : ℕ
 
 -- a group: entries that run one after the other
 abbrev pub Group : Type 0 → Type 0
-Group I = List (Entry I)
+Group I = List (PlanEntry I)
 
 -- a stage: groups that run beside each other
 abbrev pub Stage : Type 0 → Type 0
@@ -44,5 +44,5 @@ abbrev pub plan_ids : {I : Type 0} → Plan I → List ℕ
 plan_ids p = flat_map stage_ids p
 
 -- the entry at a place, if there is one: a stage, a group of it and a position in that group
-abbrev pub entry_at : {I : Type 0} → Plan I → Agent → Option (Entry I)
+abbrev pub entry_at : {I : Type 0} → Plan I → Agent → Option (PlanEntry I)
 entry_at plan path = listed_states (listed_states (listed_states own_state)) plan path

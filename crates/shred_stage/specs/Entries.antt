@@ -6,7 +6,7 @@ use Rattle.shred_model.specs.Runs.{Answer, RunsUpToFault, RunsEach}
 use Rattle.shred_model.specs.States.{listed_states, own_state}
 use Rattle.shred_world.specs.declared.id.Kind.{Kind}
 use Rattle.shred_world.specs.declared.id.ResourceId.{ResourceId}
-use Rattle.shred_stage.specs.declared.dispatch.entry.Entry.{Entry}
+use Rattle.shred_stage.specs.declared.dispatch.entry.SystemEntry.{SystemEntry}
 use Rattle.shred_stage.specs.declared.dispatch.entry.Group.{Group}
 use Rattle.shred_stage.specs.declared.dispatch.run.StageFault.{StageFault}
 use Rattle.shred_stage.specs.declared.dispatch.run.StageFault.TheVariants.{System}
@@ -19,7 +19,7 @@ entry_answer id (Err fault) = Err (System (record { 0 = id }) fault)
 
 module _ {V S E : Type 0} (kind : V → Kind) (step : Step V S E) where
   -- an entry's run is one step of its system, under the lists that were kept of it
-  abbrev pub EntryRun : ℕ → model.Entry ResourceId → List (Written V S E) → Answer (StageFault E) → Type 0
+  abbrev pub EntryRun : ℕ → model.PlanEntry ResourceId → List (Written V S E) → Answer (StageFault E) → Type 0
   EntryRun place entry list answer = (r : Written V S E) × (list ≡ r ∷ []) × (r.agent ≡ []) × IsStep kind step entry.access r × (answer ≡ entry_answer entry.id r.outcome)
 
   -- a group's run joins its entries' runs, in order, up to the first that is not Done
@@ -31,7 +31,7 @@ module _ {V S E : Type 0} (kind : V → Kind) (step : Step V S E) where
   StageRun stage list answer = RunsEach GroupRun 0 stage list answer
 
 -- the state of the entry's system
-abbrev pub entry_states : {V S : Type 0} → Entry V S → Agent → Option S
+abbrev pub entry_states : {V S : Type 0} → SystemEntry V S → Agent → Option S
 entry_states entry path = own_state entry.system path
 
 -- the states of a group's systems, by place

@@ -2,23 +2,23 @@
 use Rattle.std.specs.Prelude.{List, Option}
 use Rattle.shred_model.specs.Record.{Agent}
 use Rattle.shred_model.specs.States.{own_state, listed_states}
-use Rattle.shred_stage.specs.declared.dispatch.entry.Entry.{Entry}
+use Rattle.shred_stage.specs.declared.dispatch.entry.SystemEntry.{SystemEntry}
 use Rattle.shred_stage.specs.declared.dispatch.entry.Group.{Group}
 use Rattle.shred_stage.specs.declared.dispatch.stage.Stage.{Stage}
 use Rattle.shred_stage.specs.declared.dispatch.stages_builder.StagesBuilder.{StagesBuilder}
 
 -- a group's entries, by position
-abbrev pub group_entries : {V S : Type 0} → Group V S → Agent → Option (Entry V S)
+abbrev pub group_entries : {V S : Type 0} → Group V S → Agent → Option (SystemEntry V S)
 group_entries group path = listed_states own_state group.entries.items path
 
 -- a stage's entries, by group and position
-abbrev pub stage_entries : {V S E X : Type 0} {gv gs gx : _} → Stage V S E X gv gs gx → Agent → Option (Entry V S)
+abbrev pub stage_entries : {V S E X : Type 0} {gv gs gx : _} → Stage V S E X gv gs gx → Agent → Option (SystemEntry V S)
 stage_entries stage path = listed_states group_entries stage.groups.items path
 
 -- the entries of some stages, by stage, group and position
-abbrev pub plan_entries : {V S E X : Type 0} {gv gs gx : _} → List (Stage V S E X gv gs gx) → Agent → Option (Entry V S)
+abbrev pub plan_entries : {V S E X : Type 0} {gv gs gx : _} → List (Stage V S E X gv gs gx) → Agent → Option (SystemEntry V S)
 plan_entries stages path = listed_states stage_entries stages path
 
 -- a builder's entries, by stage, group and position
-abbrev pub builder_entries : {V S E X : Type 0} {gv gs gx : _} → StagesBuilder V S E X gv gs gx → Agent → Option (Entry V S)
+abbrev pub builder_entries : {V S E X : Type 0} {gv gs gx : _} → StagesBuilder V S E X gv gs gx → Agent → Option (SystemEntry V S)
 builder_entries builder path = plan_entries builder.stages.items path

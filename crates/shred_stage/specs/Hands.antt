@@ -9,7 +9,7 @@ use Rattle.shred_world.specs.Parting.{IsEmptyHand, IsRoom, given, slot_value}
 use Rattle.shred_world.specs.Slots.{slot_at, among}
 use Rattle.shred_stage.specs.OwnSlots.{HasOnlySlots}
 use Rattle.shred_stage.specs.PlanOf.{group_plan}
-use Rattle.shred_stage.specs.declared.dispatch.entry.Entry.{Entry}
+use Rattle.shred_stage.specs.declared.dispatch.entry.SystemEntry.{SystemEntry}
 use Rattle.shred_stage.specs.declared.dispatch.entry.Group.{Group}
 
 -- the slot of a hand that has the value of a table's slot, where there is one
@@ -41,12 +41,12 @@ module _ {V S : Type 0} where
   some_writes groups q = list_any (λ g. among g.written.items q) groups
 
   -- the hand has a slot for each written id, with the value that the table has for it, and no other slot
-  abbrev pub HoldsWritten : Table V → Group V S → Type 0
-  HoldsWritten table group = (q : ResourceId) → slot_at group.hand q ≡ cond (among group.written.items q) (carried (slot_at table q)) None
+  abbrev pub HoldsItsWritten : Table V → Group V S → Type 0
+  HoldsItsWritten table group = (q : ResourceId) → slot_at group.hand q ≡ cond (among group.written.items q) (carried (slot_at table q)) None
 
   -- the hand has a slot for each written id, and no other slot
-  abbrev pub Fits : Group V S → Type 0
-  Fits group = (q : ResourceId) → is_some (slot_at group.hand q) ≡ among group.written.items q
+  abbrev pub FitsGroup : Group V S → Type 0
+  FitsGroup group = (q : ResourceId) → is_some (slot_at group.hand q) ≡ among group.written.items q
 
   -- the table has the hand's values for the written ids, where it has slots for them
   abbrev pub IsBack : Table V → Table V → Group V S → Type 0
@@ -54,14 +54,14 @@ module _ {V S : Type 0} where
 
   -- the group is the same but for its hand, which has what it writes
   abbrev pub IsMovedOut : Table V → Group V S → Group V S → Type 0
-  IsMovedOut table old new = IsSameButHand old new × HoldsWritten table new
+  IsMovedOut table old new = IsSameButHand old new × HoldsItsWritten table new
 
   -- the group is the same but for its hand, which has empty slots again
   abbrev pub IsLeftEmpty : Group V S → Group V S → Type 0
   IsLeftEmpty old new = IsSameButHand old new × HasEmptyHand new
 
   -- the hand of the entry has an empty slot for each id that the entry writes and the table has a slot for, and no other slot
-  abbrev pub HasEntryRoom : Table V → Entry V S → Type 0
+  abbrev pub HasEntryRoom : Table V → SystemEntry V S → Type 0
   HasEntryRoom table entry = IsRoom table entry.writes.items entry.hand
 
   -- whether the group has one entry
@@ -69,7 +69,7 @@ module _ {V S : Type 0} where
   is_single group = length group.entries.items == 1
 
   -- An entry that is its group's only one runs over a table that has no slots but those that it writes; any other has room in its hand.
-  abbrev pub HasPlace : Bool → Table V → Entry V S → Type 0
+  abbrev pub HasPlace : Bool → Table V → SystemEntry V S → Type 0
   HasPlace true table entry = HasOnlySlots entry.writes.items table
   HasPlace false table entry = HasEntryRoom table entry
 

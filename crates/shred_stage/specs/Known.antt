@@ -17,8 +17,8 @@ with_name known [] id q = known q
 with_name known (b ∷ bs) id q = cond (bytes_eq (b ∷ bs) q) (Some id) (known q)
 
 -- the ids that names stand for, in their order, with 0 for a name that is not known
-abbrev pub ids_of : Known → List (List ℕ) → List ℕ
-ids_of known names = map (λ name. unwrap_or (known name) 0) names
+abbrev pub known_ids : Known → List (List ℕ) → List ℕ
+known_ids known names = map (λ name. unwrap_or (known name) 0) names
 
 -- each of the names before this place is known
 abbrev pub KnowsBefore : Known → List (List ℕ) → ℕ → Type 0

@@ -10,15 +10,15 @@ use Rattle.shred_stage.specs.Known.{Known}
 use Rattle.shred_stage.specs.declared.dispatch.entry.SystemId.{SystemId}
 
 -- a name, by its bytes, and the number of the id that it stands for
-abbrev pub Pair : Type 0
-Pair = List ℕ × ℕ
+abbrev pub NamedId : Type 0
+NamedId = List ℕ × ℕ
 
 -- the names of a map, with what they stand for
-abbrev pub pairs_of : {Z T : Type 0} → HashMap (String Z) SystemId T → List Pair
-pairs_of names = map (λ e. (string_bytes e.0, e.1.0)) names.entries
+abbrev pub named_ids : {Z T : Type 0} → HashMap (String Z) SystemId T → List NamedId
+named_ids names = map (λ e. (string_bytes e.0, e.1.0)) names.entries
 
 -- the pairs are the known names, each with what it stands for
-abbrev pub AreNames : List Pair → Known → Type 0
+abbrev pub AreNames : List NamedId → Known → Type 0
 AreNames pairs known = (name : List ℕ) (id : ℕ) → Contains pairs (name, id) ↔ (known name ≡ Some id)
 
 -- what a name stands for, if it does
@@ -31,15 +31,15 @@ lesser None name = name
 lesser (Some best) name = cond (is_lt (slice_cmp nat_cmp name best)) name best
 
 -- the least of best and of the names that stand for the id
-abbrev pub least_of : List Pair → ℕ → Option (List ℕ) → Option (List ℕ)
+abbrev pub least_of : List NamedId → ℕ → Option (List ℕ) → Option (List ℕ)
 least_of [] id best = best
 least_of (pair ∷ pairs) id best = least_of pairs id (cond (pair.1 == id) (Some (lesser best pair.0)) best)
 
 -- the least name, by its bytes, that stands for the id, if one does
-abbrev pub least_name : List Pair → ℕ → Option (List ℕ)
+abbrev pub least_name : List NamedId → ℕ → Option (List ℕ)
 least_name pairs id = least_of pairs id None
 
 -- the first id of the list that no name stands for, if there is one
-abbrev pub first_unnamed : List Pair → List ℕ → Option ℕ
+abbrev pub first_unnamed : List NamedId → List ℕ → Option ℕ
 first_unnamed pairs [] = None
 first_unnamed pairs (id ∷ ids) = cond (is_some (least_name pairs id)) (first_unnamed pairs ids) (Some id)

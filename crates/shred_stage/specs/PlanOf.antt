@@ -3,9 +3,9 @@ use Rattle.std.specs.Prelude.{◌≡◌, ℕ, List, map}
 use Rattle.shred_world.specs.declared.id.ResourceId.{ResourceId}
 use Rattle.shred_model.specs.Access.{Access}
 use Rattle.shred_model.specs.Plan as model
-use Rattle.shred_stage.specs.Time.{count_of}
+use Rattle.shred_stage.specs.Time.{time_count}
 use Rattle.shred_stage.specs.declared.dispatch.entry.SystemId.{SystemId}
-use Rattle.shred_stage.specs.declared.dispatch.entry.Entry.{Entry}
+use Rattle.shred_stage.specs.declared.dispatch.entry.SystemEntry.{SystemEntry}
 use Rattle.shred_stage.specs.declared.dispatch.entry.Group.{Group}
 
 -- the numbers of some ids
@@ -13,12 +13,12 @@ abbrev pub numbers_of : List SystemId → List ℕ
 numbers_of ids = map (λ id. id.0) ids
 
 -- what an entry's system may touch
-abbrev pub access_of : {V S : Type 0} → Entry V S → Access ResourceId
+abbrev pub access_of : {V S : Type 0} → SystemEntry V S → Access ResourceId
 access_of entry = record { reads = entry.reads.items; writes = entry.writes.items }
 
 -- an entry, but for its system
-abbrev pub entry_plan : {V S : Type 0} → Entry V S → model.Entry ResourceId
-entry_plan entry = record { id = entry.id.0; access = access_of entry; time = count_of entry.time }
+abbrev pub entry_plan : {V S : Type 0} → SystemEntry V S → model.PlanEntry ResourceId
+entry_plan entry = record { id = entry.id.0; access = access_of entry; time = time_count entry.time }
 
 -- the numbers of the ids beside a group's entries
 abbrev pub group_numbers : {V S : Type 0} → Group V S → List ℕ
@@ -33,5 +33,5 @@ abbrev pub groups_plan : {V S : Type 0} → List (Group V S) → model.Stage Res
 groups_plan groups = map group_plan groups
 
 -- the ids beside a group's entries are those of the entries
-abbrev pub KeepsIds : {V S : Type 0} → Group V S → Type 0
-KeepsIds group = numbers_of group.ids.items ≡ model.group_ids (group_plan group)
+abbrev pub HasEntryIds : {V S : Type 0} → Group V S → Type 0
+HasEntryIds group = numbers_of group.ids.items ≡ model.group_ids (group_plan group)

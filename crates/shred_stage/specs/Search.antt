@@ -2,7 +2,7 @@
 use Rattle.std.specs.Prelude.{◌≡◌, ◌≢◌, ℕ, ◌≤◌, ◌-◌, ◌*◌, Bool, true, false, ◌||◌, ◌&&◌, not, nat_eq, ◌==◌, nat_lt, List, length, Option, Some, None, slice_get}
 use Rattle.std.specs.List.{list_any}
 use Rattle.shred_model.specs.Access.{Access, Conflicts}
-use Rattle.shred_model.specs.Plan.{Entry, Group, Stage, Plan, group_ids, group_access, group_time}
+use Rattle.shred_model.specs.Plan.{PlanEntry, Group, Stage, Plan, group_ids, group_access, group_time}
 use Rattle.shred_stage.specs.Placement.{greatest_time, dependencies_left, Admits, AdmitsNewGroup, AdmitsAtEndOf, NoneAdmits}
 use Rattle.shred_stage.specs.declared.dispatch.stage.Touched.{Touched}
 use Rattle.shred_stage.specs.declared.dispatch.stage.Touched.TheVariants.{Nothing, One, Several}
@@ -34,7 +34,7 @@ abbrev pub waits_for_group : {I : Type 0} → (I → I → Bool) → List ℕ �
 waits_for_group same left access group = length left == 0 || (length left == 1 && not (group_conflicts same access group))
 
 -- the group has room, waits for nothing else, and is that far behind the longest
-abbrev pub may_end : {I : Type 0} → (I → I → Bool) → List ℕ → Entry I → Stage I → Group I → Bool
+abbrev pub may_end : {I : Type 0} → (I → I → Bool) → List ℕ → PlanEntry I → Stage I → Group I → Bool
 may_end same left entry stage group = nat_lt (length group) 4 && (waits_for_group same left entry.access group && nat_lt entry.time (2 * (greatest_time stage - group_time group)))
 
 -- no group but this one conflicts with the access
@@ -48,13 +48,13 @@ TouchedIs {X} test xs (One g) = (x : X) × (slice_get xs g ≡ Some x) × (test 
 TouchedIs {X} test xs Several = (g h : ℕ) × (x : X) × (y : X) × (g ≢ h) × (slice_get xs g ≡ Some x) × (slice_get xs h ≡ Some y) × (test x ≡ true) × (test y ≡ true)
 
 -- where a stage takes an entry, if it does
-abbrev pub SpotIs : {I : Type 0} → List ℕ → Entry I → Stage I → Option Spot → Type 0
+abbrev pub SpotIs : {I : Type 0} → List ℕ → PlanEntry I → Stage I → Option Spot → Type 0
 SpotIs left entry stage None = Admits left entry stage → ⊥
 SpotIs left entry stage (Some NewGroup) = AdmitsNewGroup left entry stage
 SpotIs {I} left entry stage (Some (EndOf g)) = (group : Group I) × AdmitsAtEndOf left entry stage g group
 
 -- the first stage from start on that takes an entry, and where, if one does
-abbrev pub PlaceIs : {I : Type 0} → Plan I → ℕ → ℕ → List ℕ → Entry I → Option (ℕ × Spot) → Type 0
+abbrev pub PlaceIs : {I : Type 0} → Plan I → ℕ → ℕ → List ℕ → PlanEntry I → Option (ℕ × Spot) → Type 0
 PlaceIs plan barrier start dependencies entry None = NoneAdmits plan barrier start dependencies entry (length plan)
 PlaceIs {I} plan barrier start dependencies entry (Some place) = (start ≤ place.0) × NoneAdmits plan barrier start dependencies entry place.0
     × (stage : Stage I) × (slice_get plan place.0 ≡ Some stage) × SpotIs (dependencies_left plan barrier dependencies place.0) entry stage (Some place.1)

@@ -4,9 +4,9 @@ use Rattle.shred_stage.specs.declared.system.RunningTime.{RunningTime}
 use Rattle.shred_stage.specs.declared.system.RunningTime.TheVariants.{VeryShort, Short, Average, Long, VeryLong}
 
 -- the count of a time, from 1 to 5
-abbrev pub count_of : RunningTime → ℕ
-count_of VeryShort = 1
-count_of Short = 2
-count_of Average = 3
-count_of Long = 4
-count_of VeryLong = 5
+abbrev pub time_count : RunningTime → ℕ
+time_count VeryShort = 1
+time_count Short = 2
+time_count Average = 3
+time_count Long = 4
+time_count VeryLong = 5

@@ -1,6 +1,6 @@
 //! Systems: what is dispatched.
 ghost use Rattle.std.specs.Prelude.{◌≡◌, List, IfOk, false, is_some};
-ghost use Rattle.shred_stage.specs.Time.{count_of};
+ghost use Rattle.shred_stage.specs.Time.{time_count};
 ghost use Rattle.shred_stage.specs.declared.system.RunningTime.{RunningTime};
 ghost use Rattle.shred_world.specs.declared.id.ResourceId.{ResourceId};
 
@@ -22,7 +22,7 @@ pub enum RunningTime {
 impl RunningTime {
     /// The time as a count, from 1 to 5.
     pub fn count(self) -> usize
-        ensures { result ≡ count_of self }
+        ensures { result ≡ time_count self }
     {
         match self {
             RunningTime::VeryShort => 1,

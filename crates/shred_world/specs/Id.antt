@@ -8,8 +8,8 @@ abbrev pub id_of : Kind → ℕ → ResourceId
 id_of kind number = record { kind = kind; dynamic_id = number }
 
 -- the kind of the values that are held under an id
-abbrev pub kind_of : ResourceId → Kind
-kind_of id = id.kind
+abbrev pub id_kind : ResourceId → Kind
+id_kind id = id.kind
 
 -- the number that tells apart ids of one kind
 abbrev pub dynamic_id_of : ResourceId → ℕ

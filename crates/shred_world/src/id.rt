@@ -1,6 +1,6 @@
 //! Kinds of resources, and the ids under which a world holds them.
 ghost use Rattle.std.specs.Prelude.{◌≡◌, ℕ, [], ◌∷◌, IfOk};
-ghost use Rattle.shred_world.specs.Id.{id_of, kind_of, dynamic_id_of};
+ghost use Rattle.shred_world.specs.Id.{id_of, id_kind, dynamic_id_of};
 
 use crate::accessor::OutOfMemory;
 use crate::resource::{Resource, ResourceValue};
@@ -48,7 +48,7 @@ impl ResourceId {
 
     /// The kind of the values that are held under this id.
     pub fn kind(self) -> Kind
-        ensures { result ≡ kind_of self }
+        ensures { result ≡ id_kind self }
     {
         self.kind
     }

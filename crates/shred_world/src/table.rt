@@ -3,7 +3,7 @@ ghost use Rattle.std.specs.Prelude.{◌≡◌, ◌≢◌, ◌||◌, false, IfNon
 ghost use Rattle.std.specs.Option.{option_copied, option_copied_mut};
 ghost use Rattle.std.specs.Borrow.{sem};
 ghost use Rattle.shred_world.specs.Slots.{slot_at, noted_in, among, of_kind, held, slot_held, with_at};
-ghost use Rattle.shred_world.specs.Id.{kind_of, same_id};
+ghost use Rattle.shred_world.specs.Id.{id_kind, same_id};
 ghost use Rattle.shred_world.specs.Parting.{emptied, slot_value, filled};
 ghost use Rattle.shred_world.specs.Lent.{LendsSlot, LendsValue, LendsResource, LendsHeld};
 ghost use Rattle.shred_world.specs.declared.id.ResourceId.{ResourceId};
@@ -255,7 +255,7 @@ impl<V> Table<V> {
     where
         V: ResourceValue,
         ensures shown { IfSome result (λ r. slot_at self.old id ≡ Some (record { value = Some (R.wrapped r.now) })) }
-        ensures missing { R.KIND ≡ kind_of id → IfNone result (held V.kind_of self.old id ≡ None) }
+        ensures missing { R.KIND ≡ id_kind id → IfNone result (held V.kind_of self.old id ≡ None) }
         ensures* written { sem 𝓛 (LendsHeld V.row R.row R.wrapped self.entry id result) }
     {
         let slot = self.slot_mut(id)?;

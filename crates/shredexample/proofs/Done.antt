@@ -1,7 +1,7 @@
 -- What was recorded of a dispatch that is Done: a step of each entry's system, in order.
 use Rattle.std.proofs.Common.{◌≡◌, ℕ, suc, List, [], ◌∷◌, ◌++◌, map, Ok, Err, inl, inr, refl, sym, ap, subst}
 use Rattle.std.specs.List.{AllZip, flat_map}
-use Rattle.shred_model.specs.Plan.{Entry, Group, Stage, Plan}
+use Rattle.shred_model.specs.Plan.{PlanEntry, Group, Stage, Plan}
 use Rattle.shred_model.specs.Record.{Record, Agent, under}
 use Rattle.shred_model.specs.Runs.{Answer, RunsUpToFault, RunsEach}
 use Rattle.shred_world.specs.declared.id.Kind.{Kind}
@@ -9,11 +9,11 @@ use Rattle.shred_world.specs.declared.id.ResourceId.{ResourceId}
 use Rattle.shred_stage.specs.declared.dispatch.run.StageFault.TheVariants.{System, Memory}
 use Rattle.shred_stage.specs.Entries.{EntryRun, GroupRun, entry_answer}
 use Rattle.shred.specs.PlanRuns.{PlanRun, PlanTurn}
-use Rattle.shredexample.specs.Entries.{stage_entries, plan_entries}
+use Rattle.shredexample.specs.Entries.{entries_of_stage, entries_of_plan}
 use Rattle.shred_stage.specs.Steps.{Outcome, Step, Written, IsStep}
 
 -- The record is a step of the entry's system, and it was Done.
-pub record IsDoneStep {V S E : Type 0} (kind : V → Kind) (step : Step V S E) (entry : Entry ResourceId) (r : Written V S E) : Type 0 where
+pub record IsDoneStep {V S E : Type 0} (kind : V → Kind) (step : Step V S E) (entry : PlanEntry ResourceId) (r : Written V S E) : Type 0 where
   pub is_step : IsStep kind step entry.access r
   pub done : r.outcome ≡ Ok tt
 
@@ -53,7 +53,7 @@ singles [] = refl
 singles (x ∷ xs) = ap (λ l. x ∷ l) (singles xs)
 
 module _ {V S E : Type 0} (kind : V → Kind) (step : Step V S E) where
-  inside : (n : ℕ) (entry : Entry ResourceId) (r : Written V S E) → IsDoneStep kind step entry r → IsDoneStep kind step entry (under n r)
+  inside : (n : ℕ) (entry : PlanEntry ResourceId) (r : Written V S E) → IsDoneStep kind step entry r → IsDoneStep kind step entry (under n r)
   inside n entry r h = record {
     is_step = record { declared = h.is_step.declared; lies = h.is_step.lies; sees_only = h.is_step.sees_only; keeps_kinds = h.is_step.keeps_kinds; frame = h.is_step.frame };
     done = h.done;
@@ -63,18 +63,18 @@ module _ {V S E : Type 0} (kind : V → Kind) (step : Step V S E) where
   outcome_done id (Ok done) e = refl
   outcome_done id (Err fault) e = absurd (cc)
 
-  entry_done : (n : ℕ) (entry : Entry ResourceId) (list : List (Written V S E)) → EntryRun kind step n entry list (Ok tt) → AllZip (IsDoneStep kind step) (entry ∷ []) list
+  entry_done : (n : ℕ) (entry : PlanEntry ResourceId) (list : List (Written V S E)) → EntryRun kind step n entry list (Ok tt) → AllZip (IsDoneStep kind step) (entry ∷ []) list
   entry_done n entry list (r, is, at, one, answer) = subst (λ (l : List (Written V S E)). AllZip (IsDoneStep kind step) (entry ∷ []) l) (sym is) (record { is_step = one; done = outcome_done entry.id r.outcome answer }, tt)
 
   group_done : (n : ℕ) (group : Group ResourceId) (list : List (Written V S E)) → GroupRun kind step n group list (Ok tt) → AllZip (IsDoneStep kind step) group list
-  group_done n group list run = subst (λ (es : List (Entry ResourceId)). AllZip (IsDoneStep kind step) es list) (singles group)
+  group_done n group list run = subst (λ (es : List (PlanEntry ResourceId)). AllZip (IsDoneStep kind step) es list) (singles group)
       (UpToFault-done (IsDoneStep kind step) inside (EntryRun kind step) (λ e. e ∷ []) entry_done 0 group list run)
 
-  turn_done : (n : ℕ) (stage : Stage ResourceId) (list : List (Written V S E)) → PlanTurn kind step n stage list (Ok tt) → AllZip (IsDoneStep kind step) (stage_entries stage) list
+  turn_done : (n : ℕ) (stage : Stage ResourceId) (list : List (Written V S E)) → PlanTurn kind step n stage list (Ok tt) → AllZip (IsDoneStep kind step) (entries_of_stage stage) list
   turn_done n stage list (Ok done, inl run, is) = Each-done (IsDoneStep kind step) inside (GroupRun kind step) (λ group. group) group_done 0 stage list run
   turn_done n stage list (Ok done, inr (none, is), same) = absurd (cc)
   turn_done n stage list (Err (System id fault), run, is) = absurd (cc)
   turn_done n stage list (Err Memory, run, is) = absurd (cc)
 
-  pub plan_done : (plan : Plan ResourceId) (list : List (Written V S E)) → PlanRun kind step plan list (Ok tt) → AllZip (IsDoneStep kind step) (plan_entries plan) list
-  plan_done plan list run = UpToFault-done (IsDoneStep kind step) inside (PlanTurn kind step) stage_entries turn_done 0 plan list run
+  pub plan_done : (plan : Plan ResourceId) (list : List (Written V S E)) → PlanRun kind step plan list (Ok tt) → AllZip (IsDoneStep kind step) (entries_of_plan plan) list
+  plan_done plan list run = UpToFault-done (IsDoneStep kind step) inside (PlanTurn kind step) entries_of_stage turn_done 0 plan list run

@@ -6,7 +6,7 @@ use Rattle.std.specs.List.{AllZip, Contains}
 use Rattle.std.proofs.lemmas.Bool.Decides.{nat_tests}
 use Rattle.shred_model.specs.Access.{Declares}
 use Rattle.shred_model.specs.Serializable.{IsSerializable}
-use Rattle.shred_model.specs.Plan.{Entry, Plan}
+use Rattle.shred_model.specs.Plan.{PlanEntry, Plan}
 use Rattle.shred_model.specs.Record.{Agent}
 use Rattle.shred_model.specs.Replay.{Configuration}
 use Rattle.shred_model.proofs.Records.Membership.{is_contained, is_declared}
@@ -19,12 +19,12 @@ use Rattle.shred.specs.PlanRuns.{PlanRun}
 use Rattle.shred_stage.specs.Steps.{Outcome, Written}
 use Rattle.shredexample.specs.declared.Value.{Value}
 use Rattle.shredexample.specs.declared.Value.TheVariants.{Count as counted}
-use Rattle.shredexample.specs.Entries.{plan_entries}
+use Rattle.shredexample.specs.Entries.{entries_of_plan}
 use Rattle.shredexample.proofs.Done.{IsDoneStep, plan_done}
 use Rattle.shredmeasure.specs.declared.adder.AddOne.{AddOne}
 use Rattle.shredmeasure.specs.Adders.{HasOneForEach, occurrences}
 use Rattle.shredmeasure.specs.Adds.{adds_one, IsOneMore}
-use Rattle.shredmeasure.specs.Counts.{kind_of, count_id, count_of, number_of}
+use Rattle.shredmeasure.specs.Counts.{kind_of, count_id, count_value, number_of}
 use Rattle.shredmeasure.specs.Measured.{HasCountEach}
 use Rattle.shredmeasure.proofs.Counted.{counted as stepped, steps_on}
 use Rattle.shredmeasure.proofs.Inserted.{placed_one}
@@ -44,24 +44,24 @@ next_once : (most k : ℕ) → cond (most + 1 == k) 1 0 + cond (nat_lt 0 k && na
 next_once most k = grind (arith, nat_tests)
 
 -- one more system was placed, with the next number
-pub one_for_next : (most : ℕ) (plan placed : Plan ResourceId) (barrier start : ℕ) (dependencies : List ℕ) (entry : Entry ResourceId) → HasOneForEach most plan → entry.access.writes ≡ count_id (most + 1) ∷ [] → IsPlaced plan barrier start dependencies entry placed → HasOneForEach (most + 1) placed
+pub one_for_next : (most : ℕ) (plan placed : Plan ResourceId) (barrier start : ℕ) (dependencies : List ℕ) (entry : PlanEntry ResourceId) → HasOneForEach most plan → entry.access.writes ≡ count_id (most + 1) ∷ [] → IsPlaced plan barrier start dependencies entry placed → HasOneForEach (most + 1) placed
 one_for_next most plan placed barrier start dependencies entry have writes is_placed =
-    let Writes : ℕ → Entry ResourceId → Type 0 = λ number e. e.access.writes ≡ count_id number ∷ [] in
+    let Writes : ℕ → PlanEntry ResourceId → Type 0 = λ number e. e.access.writes ≡ count_id number ∷ [] in
     let one = placed_one plan placed barrier start dependencies entry is_placed in
-    let more = zip_more Writes (most + 1) entry writes have.numbers one.before one.after (subst (λ (es : List (Entry ResourceId)). AllZip Writes have.numbers es) one.old_is have.entries) in
+    let more = zip_more Writes (most + 1) entry writes have.numbers one.before one.after (subst (λ (es : List (PlanEntry ResourceId)). AllZip Writes have.numbers es) one.old_is have.entries) in
     record {
       numbers = more.0;
-      entries = subst (λ (es : List (Entry ResourceId)). AllZip Writes more.0 es) (sym one.new_is) more.1;
+      entries = subst (λ (es : List (PlanEntry ResourceId)). AllZip Writes more.0 es) (sym one.new_is) more.1;
       once = λ k. more.2 k ∙ ap (λ n. cond (most + 1 == k) 1 0 + n) (have.once k) ∙ next_once most k;
     }
 
 -- a Done step of a system that writes the count of this number alone
 record Made (number : ℕ) (r : Written Value AddOne DataError) : Type 0 where
-  pub entry : Entry ResourceId
+  pub entry : PlanEntry ResourceId
   pub writes : entry.access.writes ≡ count_id number ∷ []
   pub step : IsDoneStep kind_of adds_one entry r
 
-all_made : (ns : List ℕ) (entries : List (Entry ResourceId)) (rs : List (Written Value AddOne DataError)) → AllZip (λ number entry. entry.access.writes ≡ count_id number ∷ []) ns entries → AllZip (IsDoneStep kind_of adds_one) entries rs → AllZip Made ns rs
+all_made : (ns : List ℕ) (entries : List (PlanEntry ResourceId)) (rs : List (Written Value AddOne DataError)) → AllZip (λ number entry. entry.access.writes ≡ count_id number ∷ []) ns entries → AllZip (IsDoneStep kind_of adds_one) entries rs → AllZip Made ns rs
 all_made [] [] [] writes made = tt
 all_made [] [] (r ∷ rs) writes made = absurd made
 all_made [] (e ∷ es) rs writes made = absurd writes
@@ -71,7 +71,7 @@ all_made (n ∷ ns) (e ∷ es) (r ∷ rs) writes made = (record { entry = e; wri
 
 -- one more in the count
 abbrev more : Value → Value
-more (counted count) = count_of (int_wrapping_add w64 count.0 (pos 1))
+more (counted count) = count_value (int_wrapping_add w64 count.0 (pos 1))
 
 only : (id q : ResourceId) → Contains (id ∷ []) q → id ≡ q
 only id q (zero, below, is) = is
@@ -97,7 +97,7 @@ hit k r made =
     let own : k ≡ r.before.number = own_number k r made one in
     let there : IsOneMore (r.seen (count_id k)) (r.left (count_id k)) = subst (λ (n : ℕ). IsOneMore (r.seen (count_id n)) (r.left (count_id n))) (sym own) one in (
       inr (subst (λ (ids : List ResourceId). Contains ids (count_id k)) (sym ((λ i. (made.step.is_step.declared i).writes) ∙ made.writes)) (0, omega arith, refl)),
-      λ v seen. there.2 ∙ (let same : count_of there.0 ≡ v = (let before = there.1 in cc) in ap (λ w. Some (more w)) same),
+      λ v seen. there.2 ∙ (let same : count_value there.0 ≡ v = (let before = there.1 in cc) in ap (λ w. Some (more w)) same),
     )
 
 miss : (k n : ℕ) (r : Written Value AddOne DataError) → n ≢ k → Made n r → Declares r.access (count_id k) → r.left (count_id k) ≡ r.seen (count_id k)
@@ -105,11 +105,11 @@ miss k n r other made declared = made.step.is_step.frame (count_id k) (λ has. o
 
 -- where a dispatch is Done, each count from 1 to the number of systems is one more
 dispatched_one_more : (most : ℕ) (plan : Plan ResourceId) (x y : Configuration Agent ResourceId Value AddOne) (k : ℕ) (number : ℤ) → HasOneForEach most plan → 0 < k → k ≤ most
-    → IsSerializable (λ list. PlanRun kind_of adds_one plan list (Ok tt)) x y → x.values (count_id k) ≡ Some (count_of number) → y.values (count_id k) ≡ Some (count_of (int_wrapping_add w64 number (pos 1)))
+    → IsSerializable (λ list. PlanRun kind_of adds_one plan list (Ok tt)) x y → x.values (count_id k) ≡ Some (count_value number) → y.values (count_id k) ≡ Some (count_value (int_wrapping_add w64 number (pos 1)))
 dispatched_one_more most plan x y k number have above below ran here =
-    stepped Made more (count_id k) k (hit k) (miss k) (λ r. is_declared tell_ids r.access (count_id k)) have.numbers ran.list x y (count_of number)
-    (all_made have.numbers (plan_entries plan) ran.list have.entries (plan_done kind_of adds_one plan ran.list ran.run)) ran.replays here
-    ∙ (let once : occurrences k have.numbers ≡ 1 = have.once k ∙ grind (arith, nat_tests) in ap (λ m. Some (steps_on more m (count_of number))) once)
+    stepped Made more (count_id k) k (hit k) (miss k) (λ r. is_declared tell_ids r.access (count_id k)) have.numbers ran.list x y (count_value number)
+    (all_made have.numbers (entries_of_plan plan) ran.list have.entries (plan_done kind_of adds_one plan ran.list ran.run)) ran.replays here
+    ∙ (let once : occurrences k have.numbers ≡ 1 = have.once k ∙ grind (arith, nat_tests) in ap (λ m. Some (steps_on more m (count_value number))) once)
 
 -- what is said of an answer that is no error
 pub on_ok : {T E P : Type 0} {failed : Bool} (result : Result T E) → failed ≡ is_err result → failed ≡ false → OnOk result P → P
@@ -127,5 +127,5 @@ pub dispatched_again : {failed : Bool} (most times : ℕ) (plan left : Plan Reso
 dispatched_again most times plan left x y result is none same ran (have, counts) =
     let done = at_ok (λ (r : Result (Unit {0}) (DispatchError DataError)). IsSerializable (λ list. PlanRun kind_of adds_one plan list r) x y) result is none ran in (
       subst (λ (p : Plan ResourceId). HasOneForEach most p) (sym same) have,
-      λ k above below. dispatched_one_more most plan x y k (int_wrap w64 (pos times)) have above below done (counts k above below) ∙ ap (λ n. Some (count_of n)) (one_more_time times),
+      λ k above below. dispatched_one_more most plan x y k (int_wrap w64 (pos times)) have above below done (counts k above below) ∙ ap (λ n. Some (count_value n)) (one_more_time times),
     )

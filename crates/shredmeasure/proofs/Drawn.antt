@@ -1,13 +1,13 @@
 -- One more system that is drawn, and one more plan.
 use Rattle.std.proofs.Common.{◌≡◌, ℕ, suc, ◌+◌, ◌%◌, ◌^◌, List, [], length, subst, arith}
-use Rattle.shred_model.specs.Plan.{Entry, Plan}
+use Rattle.shred_model.specs.Plan.{PlanEntry, Plan}
 use Rattle.shred_world.specs.declared.id.ResourceId.{ResourceId}
 use Rattle.shred_stage.specs.declared.system.RunningTime.TheVariants.{Average}
 use Rattle.shred_stage.specs.Kept.{IsKept}
 use Rattle.shred_stage.specs.Placement.{IsPlaced}
 use Rattle.shredmeasure.specs.Random.{AreDrawn, AreDrawnOften, ids_drawn, next_seed, reads_drawn, seed_left, writes_drawn}
 
-pub drawn-next : (n next seed last left barrier : ℕ) (plan placed : Plan ResourceId) (entry : Entry ResourceId) (reads writes : List ResourceId) → next ≡ n + 1 → AreDrawn n seed plan last
+pub drawn-next : (n next seed last left barrier : ℕ) (plan placed : Plan ResourceId) (entry : PlanEntry ResourceId) (reads writes : List ResourceId) → next ≡ n + 1 → AreDrawn n seed plan last
     → reads ≡ reads_drawn (ids_drawn (next_seed last)) (next_seed last) → writes ≡ writes_drawn (ids_drawn (next_seed last)) (next_seed last) → left ≡ seed_left (next_seed last)
     → barrier ≡ 0 → IsKept n reads writes Average entry → IsPlaced plan barrier barrier [] entry placed → AreDrawn next seed placed left
 drawn-next n next seed last left barrier plan placed entry reads writes one drawn is_reads is_writes is_left none kept is_placed =

@@ -1,9 +1,9 @@
 -- The entries of a plan, in order, and one more among them.
 use Rattle.std.proofs.Common.{◌≡◌, ℕ, zero, suc, List, [], ◌∷◌, ◌++◌, Some, refl, sym, ap, subst, ◌∙◌, append_assoc, append-nil}
 use Rattle.std.specs.List.{slice_get, slice_set, flat_map}
-use Rattle.shred_model.specs.Plan.{Entry, Plan}
+use Rattle.shred_model.specs.Plan.{PlanEntry, Plan}
 use Rattle.shred_stage.specs.Placement.{IsPlaced, in_new_group, at_end_of_group, in_new_stage}
-use Rattle.shredexample.specs.Entries.{stage_entries, plan_entries}
+use Rattle.shredexample.specs.Entries.{entries_of_stage, entries_of_plan}
 
 -- one more stands somewhere in the list
 pub record HasOneMore {X : Type 0} (x : X) (old new : List X) : Type 0 where
@@ -44,11 +44,11 @@ module _ {X : Type 0} (x : X) where
   push_one f (y ∷ ys) z is = more_before (f y) (flat_map f ys) (flat_map f (ys ++ z ∷ [])) (push_one f ys z is)
 
 -- where an entry is placed, it is one more entry of the plan
-pub placed_one : {I : Type 0} (plan placed : Plan I) (barrier start : ℕ) (dependencies : List ℕ) (entry : Entry I) → IsPlaced plan barrier start dependencies entry placed → HasOneMore entry (plan_entries plan) (plan_entries placed)
+pub placed_one : {I : Type 0} (plan placed : Plan I) (barrier start : ℕ) (dependencies : List ℕ) (entry : PlanEntry I) → IsPlaced plan barrier start dependencies entry placed → HasOneMore entry (entries_of_plan plan) (entries_of_plan placed)
 placed_one plan placed barrier start dependencies entry (in_new_group k stage from at none admits is) =
-    subst (λ p. HasOneMore entry (plan_entries plan) (plan_entries p)) (sym is) (set_one entry stage_entries plan k stage (stage ++ (entry ∷ []) ∷ []) at (push_one entry (λ group. group) stage (entry ∷ []) refl))
+    subst (λ p. HasOneMore entry (entries_of_plan plan) (entries_of_plan p)) (sym is) (set_one entry entries_of_stage plan k stage (stage ++ (entry ∷ []) ∷ []) at (push_one entry (λ group. group) stage (entry ∷ []) refl))
 placed_one plan placed barrier start dependencies entry (at_end_of_group k g stage group from at none admits is) =
-    subst (λ p. HasOneMore entry (plan_entries plan) (plan_entries p)) (sym is)
-    (set_one entry stage_entries plan k stage (slice_set stage g (group ++ entry ∷ [])) at (set_one entry (λ group. group) stage g group (group ++ entry ∷ []) admits.stands (at_end entry group)))
+    subst (λ p. HasOneMore entry (entries_of_plan plan) (entries_of_plan p)) (sym is)
+    (set_one entry entries_of_stage plan k stage (slice_set stage g (group ++ entry ∷ [])) at (set_one entry (λ group. group) stage g group (group ++ entry ∷ []) admits.stands (at_end entry group)))
 placed_one plan placed barrier start dependencies entry (in_new_stage none is) =
-    subst (λ p. HasOneMore entry (plan_entries plan) (plan_entries p)) (sym is) (push_one entry stage_entries plan ((entry ∷ []) ∷ []) refl)
+    subst (λ p. HasOneMore entry (entries_of_plan plan) (entries_of_plan p)) (sym is) (push_one entry entries_of_stage plan ((entry ∷ []) ∷ []) refl)

@@ -3,7 +3,7 @@ use Rattle.std.specs.Prelude.{◌≡◌, ℕ, ◌+◌, ◌==◌, ◌&&◌, nat_l
 use Rattle.std.specs.List.{AllZip}
 use Rattle.shred_model.specs.Plan.{Plan}
 use Rattle.shred_world.specs.declared.id.ResourceId.{ResourceId}
-use Rattle.shredexample.specs.Entries.{plan_entries}
+use Rattle.shredexample.specs.Entries.{entries_of_plan}
 use Rattle.shredmeasure.specs.Counts.{count_id}
 
 -- how often the number stands in the list
@@ -14,5 +14,5 @@ occurrences k (n ∷ ns) = cond (n == k) 1 0 + occurrences k ns
 -- Each entry writes one count alone, and each count from 1 to this number is written by one entry, and no other is.
 pub record HasOneForEach (most : ℕ) (plan : Plan ResourceId) : Type 0 where
   pub numbers : List ℕ
-  pub entries : AllZip (λ number entry. entry.access.writes ≡ count_id number ∷ []) numbers (plan_entries plan)
+  pub entries : AllZip (λ number entry. entry.access.writes ≡ count_id number ∷ []) numbers (entries_of_plan plan)
   pub once : (k : ℕ) → occurrences k numbers ≡ cond (nat_lt 0 k && nat_le k most) 1 0

@@ -16,12 +16,12 @@ abbrev pub count_id : ℕ → ResourceId
 count_id number = id_of (record { 0 = 0 }) number
 
 -- a count as a value
-abbrev pub count_of : ℤ → Value
-count_of number = counted (record { 0 = number })
+abbrev pub count_value : ℤ → Value
+count_value number = counted (record { 0 = number })
 
 -- 0 for each number up to this one, and nothing else
 abbrev pub zeros_to : ℕ → Held Value
-zeros_to most id = cond ((0 == id.kind.0) && nat_le id.dynamic_id most) (Some (count_of (pos 0))) None
+zeros_to most id = cond ((0 == id.kind.0) && nat_le id.dynamic_id most) (Some (count_value (pos 0))) None
 
 -- the number of the count that is held, 0 where none is
 abbrev pub number_of : Option Value → ℤ

@@ -18,8 +18,8 @@ abbrev pub Writes : List ℕ → ℕ → Type 0
 Writes word number = IsNumeral 10 (without_leading_plus word) × (digits_value 10 (without_leading_plus word) < 2 ^ 64) × (number ≡ digits_value 10 (without_leading_plus word))
 
 -- whether the byte is a space
-abbrev pub is_space : ℕ → Bool
-is_space byte = byte == 32
+abbrev pub is_blank : ℕ → Bool
+is_blank byte = byte == 32
 
 -- what stands before the first line feed, or all where there is none
 abbrev pub first_line : List ℕ → List ℕ
@@ -27,7 +27,7 @@ first_line text = before_first (λ byte. byte == 10) text
 
 -- The text has a space.
 abbrev pub HasSpace : List ℕ → Type 0
-HasSpace text = position_or_len is_space text < length text
+HasSpace text = position_or_len is_blank text < length text
 
 -- These words are the mode's, the number of systems, of which there are at most ten thousand, and the number of times.
 pub record AreWords (mode systems times : List ℕ) (order : Order) : Type 0 where
@@ -38,8 +38,8 @@ pub record AreWords (mode systems times : List ℕ) (order : Order) : Type 0 whe
 
 -- The text is this order: three words, with a space between them.
 abbrev pub IsOrder : List ℕ → Order → Type 0
-IsOrder text order = let numbers = after_first is_space text in
-    HasSpace text × HasSpace numbers × AreWords (before_first is_space text) (before_first is_space numbers) (after_first is_space numbers) order
+IsOrder text order = let numbers = after_first is_blank text in
+    HasSpace text × HasSpace numbers × AreWords (before_first is_blank text) (before_first is_blank numbers) (after_first is_blank numbers) order
 
 -- The line is text, and up to its first line feed it is this order.
 abbrev pub Asks : List ℕ → Order → Type 0

@@ -1,6 +1,6 @@
 -- Systems of random accesses, and the plans of them.
 use Rattle.std.specs.Prelude.{◌≡◌, ℕ, zero, suc, ◌+◌, ◌*◌, ◌/◌, ◌%◌, ◌^◌, ◌==◌, Bool, cond, List, [], ◌∷◌, ◌++◌, length}
-use Rattle.shred_model.specs.Plan.{Entry, Plan}
+use Rattle.shred_model.specs.Plan.{PlanEntry, Plan}
 use Rattle.shred_world.specs.declared.id.ResourceId.{ResourceId}
 use Rattle.shred_stage.specs.declared.system.RunningTime.TheVariants.{Average}
 use Rattle.shred_stage.specs.Kept.{IsKept}
@@ -45,7 +45,7 @@ seed_left seed = seed_after (ids_drawn seed) seed
 -- So many systems were drawn, from the first number on, and placed one after another, which gave this plan and left the last number.
 abbrev pub AreDrawn : ℕ → ℕ → Plan ResourceId → ℕ → Type 0
 AreDrawn zero seed plan left = (plan ≡ []) × (left ≡ seed)
-AreDrawn (suc n) seed plan left = (before : Plan ResourceId) × (last : ℕ) × (entry : Entry ResourceId) × AreDrawn n seed before last
+AreDrawn (suc n) seed plan left = (before : Plan ResourceId) × (last : ℕ) × (entry : PlanEntry ResourceId) × AreDrawn n seed before last
     × IsKept n (reads_drawn (ids_drawn (next_seed last)) (next_seed last)) (writes_drawn (ids_drawn (next_seed last)) (next_seed last)) Average entry
     × IsPlaced before 0 0 [] entry plan × (left ≡ seed_left (next_seed last))
 

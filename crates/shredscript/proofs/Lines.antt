@@ -6,12 +6,12 @@ use Rattle.shredscript.specs.declared.script.PlanLine.{PlanLine}
 use Rattle.shredscript.specs.declared.script.SystemLine.{SystemLine}
 use Rattle.shredscript.specs.declared.system.ScriptSystem.{ScriptSystem}
 use Rattle.shredscript.specs.Declares.{read_ids, write_ids}
-use Rattle.shredscript.specs.Lines.{AreTaken, IsAdded, IsBuiltBy, IsTaken, needed}
+use Rattle.shredscript.specs.Lines.{AreTaken, IsLineAdded, IsBuiltBy, IsLineTaken, needed}
 
 -- a system with a line's steps and time was added by what it declares itself
 pub added-by : (line : SystemLine) (old new : Built ScriptSystem) (system : ScriptSystem) (needs : List (List ℕ)) (reads writes : List ResourceId) → needs ≡ needed line
     → system.steps.items ≡ line.steps.items → system.time ≡ line.time → reads ≡ read_ids system.steps.items → writes ≡ write_ids system.steps.items
-    → MayAdd old.known old.next line.name.now needs → IsAddition old new line.name.now needs reads writes system.time system → IsAdded line old new
+    → MayAdd old.known old.next line.name.now needs → IsAddition old new line.name.now needs reads writes system.time system → IsLineAdded line old new
 added-by line old new system needs reads writes n s t r w allowed h = record {
   system = system;
   steps = s;
@@ -23,8 +23,8 @@ added-by line old new system needs reads writes n s t r w allowed h = record {
       (subst (λ x. IsAddition old new line.name.now x reads writes system.time system) n h)));
 }
 
-taken-more : (lines : List PlanLine) (line : PlanLine) (old mid new : Built ScriptSystem) → AreTaken lines old mid → IsTaken line mid new → AreTaken (lines ++ line ∷ []) old new
-taken-more [] line old mid new e h = (new, subst (λ b. IsTaken line b new) e h, refl)
+taken-more : (lines : List PlanLine) (line : PlanLine) (old mid new : Built ScriptSystem) → AreTaken lines old mid → IsLineTaken line mid new → AreTaken (lines ++ line ∷ []) old new
+taken-more [] line old mid new e h = (new, subst (λ b. IsLineTaken line b new) e h, refl)
 taken-more (x ∷ xs) line old mid new (next, t, rest) h = (next, t, taken-more xs line next mid new rest h)
 
 -- no line is taken yet
@@ -32,7 +32,7 @@ pub built-none : (new : Built ScriptSystem) → IsNewBuilt new → IsBuiltBy [] 
 built-none new is = (new, is, refl)
 
 -- one more line is taken
-pub built-more : (lines : List PlanLine) (line : PlanLine) (mid new : Built ScriptSystem) → IsBuiltBy lines mid → IsTaken line mid new → IsBuiltBy (lines ++ line ∷ []) new
+pub built-more : (lines : List PlanLine) (line : PlanLine) (mid new : Built ScriptSystem) → IsBuiltBy lines mid → IsLineTaken line mid new → IsBuiltBy (lines ++ line ∷ []) new
 built-more lines line mid new (empty, is, taken) h = (empty, is, taken-more lines line empty mid new taken h)
 
 -- what is done and what is left of a list, with one more done

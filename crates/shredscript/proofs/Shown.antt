@@ -11,7 +11,7 @@ use Rattle.shred_world.specs.Slots.{among, with_at}
 use Rattle.shred_world.specs.Views.{may_read, may_write, view_held, IsSameView}
 use Rattle.shred_world.proofs.Tables.Slots.{same_id-true}
 use Rattle.shredscript.specs.declared.value.Value.{Value}
-use Rattle.shredscript.specs.Place.{id_at, number_at, shown}
+use Rattle.shredscript.specs.Place.{id_at, number_at, seen_through}
 use Rattle.shredscript.specs.Value.{kind_of}
 
 -- what an id may do is the same in the same view
@@ -30,9 +30,9 @@ readable view id h = ap (λ t. among view.reads.now id || t) h ∙ or_true (amon
 
 -- what is shown after a value was written under an id that may be written
 pub shown-written : (old new : View Value) (id : ResourceId) (v : Value) → IsSameView old new → may_write old id ≡ true
-    → ((q : ResourceId) → view_held kind_of new q ≡ with_at (view_held kind_of old) id (Some v) q) → shown new ≡ with_at (shown old) id (Some v)
+    → ((q : ResourceId) → view_held kind_of new q ≡ with_at (view_held kind_of old) id (Some v) q) → seen_through new ≡ with_at (seen_through old) id (Some v)
 shown-written old new id v same may held = fun_ext (λ q. (λ i. cond (may_read-same old new same q i) (held q i) None) ∙ told q (same_id id q) refl) where
-  told : (q : ResourceId) (b : Bool) → same_id id q ≡ b → cond (may_read old q) (cond b (Some v) (view_held kind_of old q)) None ≡ cond b (Some v) (shown old q)
+  told : (q : ResourceId) (b : Bool) → same_id id q ≡ b → cond (may_read old q) (cond b (Some v) (view_held kind_of old q)) None ≡ cond b (Some v) (seen_through old q)
   told q true e = ap (λ t. cond t (Some v) None) (ap (may_read old) (sym (same_id-true id q e)) ∙ readable old id may)
   told q false e = refl
 
@@ -53,7 +53,7 @@ changes-written old new id v same may there held = record {
   frame q false e out = refl
 
 -- a number that is shown is held
-pub number-held : (view : View Value) (place : ℕ) → IsSome (number_at (shown view) place) → is_some (view_held kind_of view (id_at place)) ≡ true
+pub number-held : (view : View Value) (place : ℕ) → IsSome (number_at (seen_through view) place) → is_some (view_held kind_of view (id_at place)) ≡ true
 number-held view place there = of_shown (may_read view (id_at place)) (view_held kind_of view (id_at place)) there where
   of_shown : (b : Bool) (o : Option Value) → IsSome (option_map (λ (v : Value). v.0) (cond b o None)) → is_some o ≡ true
   of_shown true (Some v) h = refl

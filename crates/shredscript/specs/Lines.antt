@@ -19,7 +19,7 @@ abbrev pub needed : SystemLine → List (List ℕ)
 needed line = texts_of line.dependencies.items
 
 -- The line's name is new and those that it depends on are known, and a system of its steps and time is added under that name, after them.
-pub record IsAdded (line : SystemLine) (old new : Built ScriptSystem) : Type 0 where
+pub record IsLineAdded (line : SystemLine) (old new : Built ScriptSystem) : Type 0 where
   pub system : ScriptSystem
   pub steps : system.steps.items ≡ line.steps.items
   pub time : system.time ≡ line.time
@@ -27,14 +27,14 @@ pub record IsAdded (line : SystemLine) (old new : Built ScriptSystem) : Type 0 w
   pub addition : IsAddition old new line.name.now (needed line) (read_ids line.steps.items) (write_ids line.steps.items) line.time system
 
 -- what a line makes of a builder: its system is added, or the barrier is set
-abbrev pub IsTaken : PlanLine → Built ScriptSystem → Built ScriptSystem → Type 0
-IsTaken (System line) old new = IsAdded line old new
-IsTaken Barrier old new = IsBarrierSet old new
+abbrev pub IsLineTaken : PlanLine → Built ScriptSystem → Built ScriptSystem → Type 0
+IsLineTaken (System line) old new = IsLineAdded line old new
+IsLineTaken Barrier old new = IsBarrierSet old new
 
 -- what lines make of a builder, one after another
 abbrev pub AreTaken : List PlanLine → Built ScriptSystem → Built ScriptSystem → Type 0
 AreTaken [] old new = new ≡ old
-AreTaken (line ∷ lines) old new = (next : Built ScriptSystem) × IsTaken line old next × AreTaken lines next new
+AreTaken (line ∷ lines) old new = (next : Built ScriptSystem) × IsLineTaken line old next × AreTaken lines next new
 
 -- what lines make of an empty builder
 abbrev pub IsBuiltBy : List PlanLine → Built ScriptSystem → Type 0

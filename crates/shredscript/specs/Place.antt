@@ -18,5 +18,5 @@ abbrev pub number_at : Held Value → ℕ → Option ℤ
 number_at seen place = option_map (λ (v : Value). v.0) (seen (id_at place))
 
 -- the values that a view shows of its declared ids
-abbrev pub shown : View Value → Held Value
-shown view = declared_held kind_of view
+abbrev pub seen_through : View Value → Held Value
+seen_through view = declared_held kind_of view

@@ -2,7 +2,7 @@
 use Rattle.std.specs.Prelude.{◌≡◌, ℕ, Bool, true, false, None, Some, List, [], ◌++◌}
 use Rattle.shred_model.specs.Plan.{Plan, plan_ids}
 use Rattle.shred_world.specs.declared.id.ResourceId.{ResourceId}
-use Rattle.shred_stage.specs.Names.{Pair, first_unnamed}
+use Rattle.shred_stage.specs.Names.{NamedId, first_unnamed}
 use Rattle.shred_stage.specs.Printed.{line_feed, plan_text}
 use Rattle.shred_stage.specs.StagePlan.{widest}
 use Rattle.shredscript.specs.declared.error.ScriptError.{ScriptError}
@@ -10,11 +10,11 @@ use Rattle.shredscript.specs.declared.error.ScriptError.TheVariants.{TooLong, In
 use Rattle.shredscript.specs.Texts.{line_of, threads_text}
 
 -- each system of the plan has a name, and the text is the printed plan and a line feed
-abbrev pub IsPrint : List Pair → Plan ResourceId → List ℕ → Type 0
+abbrev pub IsPrint : List NamedId → Plan ResourceId → List ℕ → Type 0
 IsPrint names plan text = (None ≡ first_unnamed names (plan_ids plan)) × (text ≡ plan_text names plan ++ line_feed)
 
 -- why a plan is not printed: a system has no name, and the first such in the plan's order is told; or memory is refused
-abbrev pub IsNotPrinted : List Pair → Plan ResourceId → ScriptError → Type 0
+abbrev pub IsNotPrinted : List NamedId → Plan ResourceId → ScriptError → Type 0
 IsNotPrinted names plan (Unnamed id) = Some id ≡ first_unnamed names (plan_ids plan)
 IsNotPrinted names plan OutOfMemory = Unit {0}
 IsNotPrinted names plan TooLong = ⊥
@@ -24,11 +24,11 @@ IsNotPrinted names plan (Refused number refusal) = ⊥
 IsNotPrinted names plan OutputFailed = ⊥
 
 -- what a report begins with: where the plan is asked for, its print and a line with the greatest number of groups in a stage
-abbrev pub IsPlanPart : Bool → List Pair → Plan ResourceId → List ℕ → Type 0
+abbrev pub IsPlanPart : Bool → List NamedId → Plan ResourceId → List ℕ → Type 0
 IsPlanPart true names plan text = (print : List ℕ) × IsPrint names plan print × (text ≡ print ++ line_of (threads_text (widest plan)))
 IsPlanPart false names plan text = text ≡ []
 
 -- why it is not made: the plan is asked for, and is not printed or memory is refused
-abbrev pub IsNotPlanned : Bool → List Pair → Plan ResourceId → ScriptError → Type 0
+abbrev pub IsNotPlanned : Bool → List NamedId → Plan ResourceId → ScriptError → Type 0
 IsNotPlanned true names plan error = IsNotPrinted names plan error
 IsNotPlanned false names plan error = ⊥

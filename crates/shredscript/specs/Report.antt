@@ -10,8 +10,8 @@ use Rattle.shredscript.specs.Place.{number_at}
 use Rattle.shredscript.specs.Texts.{line_of, outcome_text, value_text}
 
 -- the names of declared resources, in their order
-abbrev pub names_of : {X S : Type 0} → IndexMap (Bor (List ℕ)) X S → List (List ℕ)
-names_of resources = map (λ name. name.now) (keys resources)
+abbrev pub resource_names : {X S : Type 0} → IndexMap (Bor (List ℕ)) X S → List (List ℕ)
+resource_names resources = map (λ name. name.now) (keys resources)
 
 -- each number, under the id of its place
 abbrev pub first_held : List ℤ → Held Value

@@ -11,7 +11,7 @@ use Rattle.shred_model.specs.States.{configuration_of}
 use Rattle.shred_world.specs.declared.id.ResourceId.{ResourceId}
 use Rattle.shred_world.specs.Worked.{Held}
 use Rattle.shred.specs.Built.{Built}
-use Rattle.shred_stage.specs.Names.{AreNames, Pair, first_unnamed}
+use Rattle.shred_stage.specs.Names.{AreNames, NamedId, first_unnamed}
 use Rattle.shred.specs.PlanRuns.{PlanRun}
 use Rattle.shred_stage.specs.Sinks.{AppendsBeginning}
 use Rattle.shred_stage.specs.Steps.{Outcome as Ends}
@@ -28,7 +28,7 @@ use Rattle.shredscript.specs.Endings.{outcome_of, status_of}
 use Rattle.shredscript.specs.Input.{IsLongerThan}
 use Rattle.shredscript.specs.Lines.{IsBuiltBy, IsStopped}
 use Rattle.shredscript.specs.PlanTexts.{IsPlanPart}
-use Rattle.shredscript.specs.Report.{first_held, names_of, report}
+use Rattle.shredscript.specs.Report.{first_held, resource_names, report}
 use Rattle.shredscript.specs.Steps.{steps_left, steps_outcome}
 use Rattle.shredscript.specs.Texts.{error_text, line_of}
 use Rattle.shredscript.specs.Value.{kind_of}
@@ -50,18 +50,18 @@ pub record IsDispatch (plan : Plan ResourceId) (start : Configuration Agent Reso
 pub record IsRunOf (script : Script) (outcome : Outcome) (text : List ℕ) : Type 0 where
   pub built : Built ScriptSystem
   pub made : IsBuiltBy script.plan.items built
-  pub names : List Pair
+  pub names : List NamedId
   pub known : AreNames names built.known
   pub begins : List ℕ
   pub planned : IsPlanPart script.prints_plan names built.plan begins
-  pub dispatch : IsDispatch built.plan (configuration_of built.states (first_held (values script.resources))) (names_of script.resources) begins outcome text
+  pub dispatch : IsDispatch built.plan (configuration_of built.states (first_held (values script.resources))) (resource_names script.resources) begins outcome text
 
 -- A script is not run, since its plan is asked for and a system has no name, of which the first in the plan's order has this id.
 pub record IsUnnamed (script : Script) (id : ℕ) : Type 0 where
   pub asked : script.prints_plan ≡ true
   pub built : Built ScriptSystem
   pub made : IsBuiltBy script.plan.items built
-  pub names : List Pair
+  pub names : List NamedId
   pub known : AreNames names built.known
   pub first : Some id ≡ first_unnamed names (plan_ids built.plan)
 

@@ -1,7 +1,7 @@
 //! The plan that a script's lines make.
 ghost use Rattle.std.specs.Prelude.{OnOk, IfOk, IfErr};
 ghost use Rattle.shred.specs.Builders.{built};
-ghost use Rattle.shredscript.specs.Lines.{IsAdded, IsBuiltBy, IsNotAdded, IsNotTaken, IsStopped, IsTaken};
+ghost use Rattle.shredscript.specs.Lines.{IsLineAdded, IsBuiltBy, IsNotAdded, IsNotTaken, IsStopped, IsLineTaken};
 
 use crate::error::ScriptError;
 use crate::script::{PlanLine, SystemLine};
@@ -35,7 +35,7 @@ fn take_line(
     builder: &mut ScriptBuilder,
     line: PlanLine<'_>,
 ) -> Result<(), ScriptError>
-    ensures taken { OnOk result (IsTaken line.entry (built builder.old) (built builder.new)) }
+    ensures taken { OnOk result (IsLineTaken line.entry (built builder.old) (built builder.new)) }
     ensures not_taken { IfErr result (IsNotTaken line.entry (built builder.old)) }
 {
     match line {
@@ -53,7 +53,7 @@ fn add_system(
     builder: &mut ScriptBuilder,
     line: SystemLine<'_>,
 ) -> Result<(), ScriptError>
-    ensures added { OnOk result (IsAdded line.entry (built builder.old) (built builder.new)) }
+    ensures added { OnOk result (IsLineAdded line.entry (built builder.old) (built builder.new)) }
     ensures not_added { IfErr result (IsNotAdded line.entry (built builder.old)) }
 {
     let SystemLine {

@@ -9,7 +9,7 @@ ghost use Rattle.shred_model.specs.States.{configuration_of};
 ghost use Rattle.shred.specs.Builders.{built, builder_pairs};
 ghost use Rattle.shred.specs.Dispatchers.{dispatcher_plan, dispatcher_states};
 ghost use Rattle.shredscript.specs.declared.error.ScriptError.TheVariants.{OutOfMemory};
-ghost use Rattle.shredscript.specs.Report.{first_held, names_of, report, value_line};
+ghost use Rattle.shredscript.specs.Report.{first_held, resource_names, report, value_line};
 ghost use Rattle.shredscript.specs.PlanTexts.{IsNotPlanned, IsPlanPart};
 ghost use Rattle.shredscript.specs.Runs.{IsDispatch, IsNotRun, IsRunOf};
 ghost use Rattle.shredscript.specs.Place.{number_at};
@@ -67,7 +67,7 @@ fn dispatch<T: Threads + Sync>(
     resources: &Resources<'_>,
     mut text: Vec<u8>,
 ) -> Result<(Outcome, Vec<u8>), ScriptError>
-    ensures dispatch { IfOk result (λ ran. IsDispatch (dispatcher_plan dispatcher) (configuration_of (dispatcher_states dispatcher) (world_held kind_of world)) (names_of resources.now) text.items ran.0 ran.1.items) }
+    ensures dispatch { IfOk result (λ ran. IsDispatch (dispatcher_plan dispatcher) (configuration_of (dispatcher_states dispatcher) (world_held kind_of world)) (resource_names resources.now) text.items ran.0 ran.1.items) }
     ensures err { IfErr result (λ error. error ≡ OutOfMemory) }
 {
     text.reserve(most_bytes(resources))?;
@@ -132,7 +132,7 @@ fn write_report<W: Write>(
     world: &World<Value>,
     outcome: Outcome,
 ) -> io::Result<()>
-    ensures { OnOk result (Appends (W.contents out.old) (W.contents out.new) (report (names_of resources.now) (world_held kind_of world.now) outcome)) }
+    ensures { OnOk result (Appends (W.contents out.old) (W.contents out.new) (report (resource_names resources.now) (world_held kind_of world.now) outcome)) }
 {
     for (place, name) in resources.keys().enumerate() {
         write_resource(out, name, place, world)?;

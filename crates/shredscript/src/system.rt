@@ -10,7 +10,7 @@ ghost use Rattle.shredscript.specs.declared.outcome.Refusal.TheVariants.{Undecla
 ghost use Rattle.shredscript.specs.Change.{changed, operand_number};
 ghost use Rattle.shredscript.specs.Declares.{MayWrite, read_ids, write_ids};
 ghost use Rattle.shredscript.specs.Frame.{ChangesWritten};
-ghost use Rattle.shredscript.specs.Place.{id_at, number_at, shown};
+ghost use Rattle.shredscript.specs.Place.{id_at, number_at, seen_through};
 ghost use Rattle.shredscript.specs.Steps.{change_outcome, change_left, step_outcome, step_left, steps_outcome, steps_left};
 
 use crate::declared::Declared;
@@ -91,8 +91,8 @@ impl System<Value> for ScriptSystem {
 fn run_steps(steps: &[Step], view: &mut View<Value>) -> Result<(), Fault<Refusal>>
     requires writes { All (MayWrite view.old) steps.now }
     requires nothing_out { (id : ResourceId) → is_out view.old id ≡ false }
-    ensures outcome { result ≡ steps_outcome steps.now (shown view.old) }
-    ensures left { shown view.new ≡ steps_left steps.now (shown view.old) }
+    ensures outcome { result ≡ steps_outcome steps.now (seen_through view.old) }
+    ensures left { seen_through view.new ≡ steps_left steps.now (seen_through view.old) }
     ensures changes { ChangesWritten view.old view.new }
 {
     for step in steps {
@@ -107,8 +107,8 @@ fn run_steps(steps: &[Step], view: &mut View<Value>) -> Result<(), Fault<Refusal
 fn run_step(step: Step, view: &mut View<Value>) -> Result<(), Fault<Refusal>>
     requires writes { MayWrite view.old step }
     requires nothing_out { (id : ResourceId) → is_out view.old id ≡ false }
-    ensures outcome { result ≡ step_outcome step (shown view.old) }
-    ensures left { shown view.new ≡ step_left step (shown view.old) }
+    ensures outcome { result ≡ step_outcome step (seen_through view.old) }
+    ensures left { seen_through view.new ≡ step_left step (seen_through view.old) }
     ensures changes { ChangesWritten view.old view.new }
 {
     match step {
@@ -130,8 +130,8 @@ fn change(
 ) -> Result<(), Fault<Refusal>>
     requires writes { may_write view.old (id_at target) ≡ true }
     requires nothing_out { (id : ResourceId) → is_out view.old id ≡ false }
-    ensures outcome { result ≡ change_outcome (changed (shown view.old) target operation operand) }
-    ensures left { shown view.new ≡ change_left (shown view.old) target (changed (shown view.old) target operation operand) }
+    ensures outcome { result ≡ change_outcome (changed (seen_through view.old) target operation operand) }
+    ensures left { seen_through view.new ≡ change_left (seen_through view.old) target (changed (seen_through view.old) target operation operand) }
     ensures changes { ChangesWritten view.old view.new }
 {
     match changed(view, target, operation, operand) {
@@ -151,7 +151,7 @@ fn changed(
     operand: Operand,
 ) -> Result<i64, Fault<Refusal>>
     requires nothing_out { (id : ResourceId) → is_out view.now id ≡ false }
-    ensures { result ≡ changed (shown view.now) target operation operand }
+    ensures { result ≡ changed (seen_through view.now) target operation operand }
 {
     let operand = match operand_number(view, operand) {
         Ok(number) => number,
@@ -170,7 +170,7 @@ fn changed(
 /// The number that an operand stands for.
 fn operand_number(view: &View<Value>, operand: Operand) -> Result<i64, Fault<Refusal>>
     requires nothing_out { (id : ResourceId) → is_out view.now id ≡ false }
-    ensures { result ≡ ok_or (operand_number (shown view.now) operand) (Refused Undeclared) }
+    ensures { result ≡ ok_or (operand_number (seen_through view.now) operand) (Refused Undeclared) }
 {
     match operand {
         Operand::Number(number) => Ok(number),
@@ -181,7 +181,7 @@ fn operand_number(view: &View<Value>, operand: Operand) -> Result<i64, Fault<Ref
 /// The number that is held at a place.
 fn read(view: &View<Value>, place: usize) -> Result<i64, Fault<Refusal>>
     requires nothing_out { (id : ResourceId) → is_out view.now id ≡ false }
-    ensures { result ≡ ok_or (number_at (shown view.now) place) (Refused Undeclared) }
+    ensures { result ≡ ok_or (number_at (seen_through view.now) place) (Refused Undeclared) }
 {
     match view.read::<i64>(id_at(place)) {
         Ok(number) => Ok(*number),
@@ -193,8 +193,8 @@ fn read(view: &View<Value>, place: usize) -> Result<i64, Fault<Refusal>>
 fn write(view: &mut View<Value>, place: usize, number: i64)
     requires writes { may_write view.old (id_at place) ≡ true }
     requires nothing_out { (id : ResourceId) → is_out view.old id ≡ false }
-    requires held { IsSome (number_at (shown view.old) place) }
-    ensures left { shown view.new ≡ with_at (shown view.old) (id_at place) (Some (record { 0 = number })) }
+    requires held { IsSome (number_at (seen_through view.old) place) }
+    ensures left { seen_through view.new ≡ with_at (seen_through view.old) (id_at place) (Some (record { 0 = number })) }
     ensures changes { ChangesWritten view.old view.new }
 {
     let Ok(held) = view.write::<i64>(id_at(place)) else {

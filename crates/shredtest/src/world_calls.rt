@@ -1,6 +1,6 @@
 //! Calls of a world, whose whole effect their caller can say.
 ghost use Rattle.std.specs.Prelude.{◌≡◌, ◌≢◌, None, Some, Err, OnOk, OnErr, IfErr};
-ghost use Rattle.shred_world.specs.Id.{id_of, kind_of as id_kind};
+ghost use Rattle.shred_world.specs.Id.{id_of, id_kind};
 ghost use Rattle.shred_world.specs.Slots.{with_at};
 ghost use Rattle.shred_world.specs.Worlds.{world_held, IsProvided};
 ghost use Rattle.shred_world.specs.declared.id.ResourceId.{ResourceId};

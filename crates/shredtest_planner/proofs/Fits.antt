@@ -9,7 +9,7 @@ use Rattle.std.proofs.lemmas.List.{nil_from_length, get_or-take, get_or-drop}
 use Rattle.std.proofs.lemmas.List.Elements.{Contains-get_or}
 use Rattle.std.proofs.lemmas.Option.{slice_get_within, slice_get_read, slice_get-get_or, get_or_from_slice_get}
 use Rattle.shred_model.specs.Access.{Access, Conflicts}
-use Rattle.shred_model.specs.Plan.{Entry, Group, Stage, Plan, group_ids, group_access, group_time}
+use Rattle.shred_model.specs.Plan.{PlanEntry, Group, Stage, Plan, group_ids, group_access, group_time}
 use Rattle.shred_stage.specs.Placement.{greatest_time, IsTouched, AdmitsNewGroup, AdmitsAtEndOf, HoldsTheOneLeft, NoneAdmits, dependencies_left, IsPlaced, in_new_group, at_end_of_group}
 use Rattle.shred_stage.specs.Search.{group_conflicts, holds_any, is_touched}
 use Rattle.shred_stage.proofs.Planner.Membership.{Some_of, list_any_decides, Contains-nil, Contains-head, Contains-cons_cases}
@@ -21,7 +21,7 @@ use Rattle.shredtest_planner.specs.declared.slow_placement.PlainPlace.TheVariant
 left_is_empty : (left : List ℕ) → Decides (length left == 0) (left ≡ [])
 left_is_empty left = Decides-like (length left == 0) (nil_from_length left) (λ e. ap length e) (Decides-eqb (length left) 0)
 
-pub new_group_fits-Decides : (left : List ℕ) (entry : Entry ℕ) (stage : Stage ℕ) → Decides (new_group_fits left entry stage) (AdmitsNewGroup left entry stage)
+pub new_group_fits-Decides : (left : List ℕ) (entry : PlanEntry ℕ) (stage : Stage ℕ) → Decides (new_group_fits left entry stage) (AdmitsNewGroup left entry stage)
 new_group_fits-Decides left entry stage =
     let Free : Type 0 = (left ≡ []) × (Some_of (λ group. Conflicts (group_access group) entry.access) stage → ⊥) in
     let forth : Free → AdmitsNewGroup left entry stage = λ f. record { none_left = f.0; no_conflict = λ k d lt c. f.1 (get_or stage k d, Contains-get_or stage k d lt, c) } in
@@ -31,7 +31,7 @@ new_group_fits-Decides left entry stage =
     (Decides-not (any_conflicts entry.access stage)
     (list_any_decides (group_conflicts nat_eq entry.access) (λ group. Conflicts (group_access group) entry.access) (λ group. group_conflicts-Decides nat_eq Decides-eqb entry.access group) stage)))
 
-one_held : (left : List ℕ) (entry : Entry ℕ) (group : Group ℕ) → (length left ≡ 1) × (Any (Contains left) (group_ids group) × (Conflicts (group_access group) entry.access → ⊥)) → HoldsTheOneLeft left entry group
+one_held : (left : List ℕ) (entry : PlanEntry ℕ) (group : Group ℕ) → (length left ≡ 1) × (Any (Contains left) (group_ids group) × (Conflicts (group_access group) entry.access → ⊥)) → HoldsTheOneLeft left entry group
 one_held [] entry group h = absurd (omega (arith, h.0))
 one_held (id ∷ []) entry group h =
     let any : Any (Contains (id ∷ [])) (group_ids group) = h.1.0 in
@@ -39,7 +39,7 @@ one_held (id ∷ []) entry group h =
     (id, refl, rw same (any.0, any.2, any.3), h.1.1)
 one_held (id ∷ other ∷ more) entry group h = absurd (omega (arith, h.0))
 
-one_left_is_held-Decides : (left : List ℕ) (entry : Entry ℕ) (group : Group ℕ) → Decides (one_left_is_held left entry.access group) (HoldsTheOneLeft left entry group)
+one_left_is_held-Decides : (left : List ℕ) (entry : PlanEntry ℕ) (group : Group ℕ) → Decides (one_left_is_held left entry.access group) (HoldsTheOneLeft left entry group)
 one_left_is_held-Decides left entry group =
     let back : HoldsTheOneLeft left entry group → (length left ≡ 1) × (Any (Contains left) (group_ids group) × (Conflicts (group_access group) entry.access → ⊥)) =
     λ h. (ap length h.1, ((h.2.0, h.0, h.2.1, h.2.2, rw h.1 (Contains-head h.0 [])), h.3)) in
@@ -88,11 +88,11 @@ others_touched-Decides left access stage g =
     (list_any_decides (is_touched nat_eq left access) (IsTouched left access) each (drop (g + 1) stage)))
 
 -- the conditions on the end of a group, but for the group's place
-Conditions : List ℕ → Entry ℕ → Stage ℕ → ℕ → Group ℕ → Type 0
+Conditions : List ℕ → PlanEntry ℕ → Stage ℕ → ℕ → Group ℕ → Type 0
 Conditions left entry stage g group =
     IsTouched left entry.access group × ((Other (IsTouched left entry.access) stage g → ⊥) × (((left ≡ []) ⊎ HoldsTheOneLeft left entry group) × ((length group < 4) × (entry.time < 2 * (greatest_time stage - group_time group)))))
 
-conditions-Decides : (left : List ℕ) (entry : Entry ℕ) (stage : Stage ℕ) (g : ℕ) (group : Group ℕ) → Decides (end_fits left entry stage g group) (Conditions left entry stage g group)
+conditions-Decides : (left : List ℕ) (entry : PlanEntry ℕ) (stage : Stage ℕ) (g : ℕ) (group : Group ℕ) → Decides (end_fits left entry stage g group) (Conditions left entry stage g group)
 unfolding Conditions
 conditions-Decides left entry stage g group =
     let behind = nat_lt entry.time (2 * (greatest_time stage - group_time group)) in
@@ -103,7 +103,7 @@ conditions-Decides left entry stage g group =
     (Decides-and waits fits (Decides-or (length left == 0) (one_left_is_held left entry.access group) (left_is_empty left) (one_left_is_held-Decides left entry group))
     (Decides-and (nat_lt (length group) 4) behind (Decides-ltb (length group) 4) (Decides-ltb entry.time (2 * (greatest_time stage - group_time group))))))
 
-pub admits_from_end_fits : (left : List ℕ) (entry : Entry ℕ) (stage : Stage ℕ) (g : ℕ) (group : Group ℕ) → slice_get stage g ≡ Some group → end_fits left entry stage g group ≡ true → AdmitsAtEndOf left entry stage g group
+pub admits_from_end_fits : (left : List ℕ) (entry : PlanEntry ℕ) (stage : Stage ℕ) (g : ℕ) (group : Group ℕ) → slice_get stage g ≡ Some group → end_fits left entry stage g group ≡ true → AdmitsAtEndOf left entry stage g group
 unfolding Conditions
 admits_from_end_fits left entry stage g group at fits =
     let all = (conditions-Decides left entry stage g group).0 fits in
@@ -116,14 +116,14 @@ admits_from_end_fits left entry stage g group at fits =
       balance = all.1.1.1.1;
     }
 
-pub end_fits_from_admits : (left : List ℕ) (entry : Entry ℕ) (stage : Stage ℕ) (g : ℕ) (group : Group ℕ) → AdmitsAtEndOf left entry stage g group → end_fits left entry stage g group ≡ true
+pub end_fits_from_admits : (left : List ℕ) (entry : PlanEntry ℕ) (stage : Stage ℕ) (g : ℕ) (group : Group ℕ) → AdmitsAtEndOf left entry stage g group → end_fits left entry stage g group ≡ true
 unfolding Conditions
 end_fits_from_admits left entry stage g group admits =
     (conditions-Decides left entry stage g group).1
     (admits.touched, ((λ other. admits.only_touched other.0 other.1 other.2 other.3 other.4), (admits.dependencies, (admits.room, admits.balance))))
 
 -- the groups that were looked at, and one more
-pub no_end_more : (left : List ℕ) (entry : Entry ℕ) (stage : Stage ℕ) (place : ℕ) → ((g : ℕ) (group : Group ℕ) → g < place → AdmitsAtEndOf left entry stage g group → ⊥) → end_fits left entry stage place (get_or stage place []) ≡ false
+pub no_end_more : (left : List ℕ) (entry : PlanEntry ℕ) (stage : Stage ℕ) (place : ℕ) → ((g : ℕ) (group : Group ℕ) → g < place → AdmitsAtEndOf left entry stage g group → ⊥) → end_fits left entry stage place (get_or stage place []) ≡ false
     → (g : ℕ) (group : Group ℕ) → g < place + 1 → AdmitsAtEndOf left entry stage g group → ⊥
 no_end_more left entry stage place before not_here g group lt admits =
     ⊎_elim
@@ -137,40 +137,40 @@ no_end_more left entry stage place before not_here g group lt admits =
     false_is_not_true : false ≡ true → ⊥
     false_is_not_true e = cc
 
-pub no_end_at_all : (left : List ℕ) (entry : Entry ℕ) (stage : Stage ℕ) (place : ℕ) → length stage ≤ place → ((g : ℕ) (group : Group ℕ) → g < place → AdmitsAtEndOf left entry stage g group → ⊥)
+pub no_end_at_all : (left : List ℕ) (entry : PlanEntry ℕ) (stage : Stage ℕ) (place : ℕ) → length stage ≤ place → ((g : ℕ) (group : Group ℕ) → g < place → AdmitsAtEndOf left entry stage g group → ⊥)
     → (g : ℕ) (group : Group ℕ) → AdmitsAtEndOf left entry stage g group → ⊥
 no_end_at_all left entry stage place past none g group admits = none g group (omega (arith, past, slice_get_within stage g group admits.stands)) admits
 
-pub end_at : (left : List ℕ) (entry : Entry ℕ) (stage : Stage ℕ) (place : ℕ) → place < length stage → end_fits left entry stage place (get_or stage place []) ≡ true → (group : Group ℕ) × AdmitsAtEndOf left entry stage place group
+pub end_at : (left : List ℕ) (entry : PlanEntry ℕ) (stage : Stage ℕ) (place : ℕ) → place < length stage → end_fits left entry stage place (get_or stage place []) ≡ true → (group : Group ℕ) × AdmitsAtEndOf left entry stage place group
 end_at left entry stage place within fits = (get_or stage place [], admits_from_end_fits left entry stage place (get_or stage place []) (slice_get-get_or stage place [] within) fits)
 
-pub found_new : (plan : Plan ℕ) (barrier start : ℕ) (dependencies left : List ℕ) (entry : Entry ℕ) (k : ℕ) (stage : Stage ℕ) → start ≤ k → slice_get plan k ≡ Some stage → NoneAdmits plan barrier start dependencies entry k
+pub found_new : (plan : Plan ℕ) (barrier start : ℕ) (dependencies left : List ℕ) (entry : PlanEntry ℕ) (k : ℕ) (stage : Stage ℕ) → start ≤ k → slice_get plan k ≡ Some stage → NoneAdmits plan barrier start dependencies entry k
     → left ≡ dependencies_left plan barrier dependencies k → new_group_fits left entry stage ≡ true → FoundIs plan barrier start dependencies entry (NewGroup k)
 found_new plan barrier start dependencies left entry k stage le at none there fits =
     (stage, le, at, none, subst (λ ids. AdmitsNewGroup ids entry stage) there ((new_group_fits-Decides left entry stage).0 fits))
 
-pub found_end : (plan : Plan ℕ) (barrier start : ℕ) (dependencies left : List ℕ) (entry : Entry ℕ) (k : ℕ) (stage : Stage ℕ) (g : ℕ) → start ≤ k → slice_get plan k ≡ Some stage → NoneAdmits plan barrier start dependencies entry k
+pub found_end : (plan : Plan ℕ) (barrier start : ℕ) (dependencies left : List ℕ) (entry : PlanEntry ℕ) (k : ℕ) (stage : Stage ℕ) (g : ℕ) → start ≤ k → slice_get plan k ≡ Some stage → NoneAdmits plan barrier start dependencies entry k
     → left ≡ dependencies_left plan barrier dependencies k → (group : Group ℕ) × AdmitsAtEndOf left entry stage g group → FoundIs plan barrier start dependencies entry (EndOf k g)
 found_end plan barrier start dependencies left entry k stage g le at none there end =
     (stage, end.0, le, at, none, subst (λ ids. AdmitsAtEndOf ids entry stage g end.0) there end.1)
 
-pub none_so_far : (plan : Plan ℕ) (barrier start : ℕ) (dependencies left : List ℕ) (entry : Entry ℕ) (k : ℕ) (stage : Stage ℕ) → slice_get plan k ≡ Some stage → NoneAdmits plan barrier start dependencies entry k
+pub none_so_far : (plan : Plan ℕ) (barrier start : ℕ) (dependencies left : List ℕ) (entry : PlanEntry ℕ) (k : ℕ) (stage : Stage ℕ) → slice_get plan k ≡ Some stage → NoneAdmits plan barrier start dependencies entry k
     → left ≡ dependencies_left plan barrier dependencies k → new_group_fits left entry stage ≡ false → ((g : ℕ) (group : Group ℕ) → AdmitsAtEndOf left entry stage g group → ⊥) → NoneAdmits plan barrier start dependencies entry (k + 1)
 none_so_far plan barrier start dependencies left entry k stage at none there not_new no_end =
     none_yet plan barrier start dependencies left entry k stage none at there
     (λ le. ⊎_elim (not_from_Decides (new_group_fits left entry stage) (new_group_fits-Decides left entry stage) not_new) (λ end. no_end end.0 end.1 end.2))
 
-pub placed_new : (plan placed : Plan ℕ) (barrier start : ℕ) (dependencies : List ℕ) (entry : Entry ℕ) (k : ℕ) → FoundIs plan barrier start dependencies entry (NewGroup k) → placed ≡ set plan k (get_or plan k [] ++ (entry ∷ []) ∷ []) → IsPlaced plan barrier start dependencies entry placed
+pub placed_new : (plan placed : Plan ℕ) (barrier start : ℕ) (dependencies : List ℕ) (entry : PlanEntry ℕ) (k : ℕ) → FoundIs plan barrier start dependencies entry (NewGroup k) → placed ≡ set plan k (get_or plan k [] ++ (entry ∷ []) ∷ []) → IsPlaced plan barrier start dependencies entry placed
 placed_new plan placed barrier start dependencies entry k found is =
     in_new_group k found.0 found.1 found.2 found.3 found.4 (is ∙ ap (λ stage. set plan k (stage ++ (entry ∷ []) ∷ [])) (get_or_from_slice_get plan k found.0 [] found.2))
 
-pub placed_end : (plan placed : Plan ℕ) (barrier start : ℕ) (dependencies : List ℕ) (entry : Entry ℕ) (k g : ℕ) → FoundIs plan barrier start dependencies entry (EndOf k g) → placed ≡ set plan k (set (get_or plan k []) g (get_or (get_or plan k []) g [] ++ entry ∷ [])) → IsPlaced plan barrier start dependencies entry placed
+pub placed_end : (plan placed : Plan ℕ) (barrier start : ℕ) (dependencies : List ℕ) (entry : PlanEntry ℕ) (k g : ℕ) → FoundIs plan barrier start dependencies entry (EndOf k g) → placed ≡ set plan k (set (get_or plan k []) g (get_or (get_or plan k []) g [] ++ entry ∷ [])) → IsPlaced plan barrier start dependencies entry placed
 placed_end plan placed barrier start dependencies entry k g found is =
     let stage : get_or plan k [] ≡ found.0 = get_or_from_slice_get plan k found.0 [] found.3 in
     let group : get_or found.0 g [] ≡ found.1 = get_or_from_slice_get found.0 g found.1 [] found.5.stands in
     at_end_of_group k g found.0 found.1 found.2 found.3 found.4 found.5
     (is ∙ ap (λ stage. set plan k (set stage g (get_or stage g [] ++ entry ∷ []))) stage ∙ ap (λ group. set plan k (set found.0 g (group ++ entry ∷ []))) group)
 
-pub place_within : (plan : Plan ℕ) (barrier start : ℕ) (dependencies : List ℕ) (entry : Entry ℕ) (k g : ℕ) → FoundIs plan barrier start dependencies entry (EndOf k g) → (k < length plan) × (g < length (get_or plan k []))
+pub place_within : (plan : Plan ℕ) (barrier start : ℕ) (dependencies : List ℕ) (entry : PlanEntry ℕ) (k g : ℕ) → FoundIs plan barrier start dependencies entry (EndOf k g) → (k < length plan) × (g < length (get_or plan k []))
 place_within plan barrier start dependencies entry k g found =
     (slice_get_within plan k found.0 found.3, rw (get_or_from_slice_get plan k found.0 [] found.3) (slice_get_within found.0 g found.1 found.5.stands))

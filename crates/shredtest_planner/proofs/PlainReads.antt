@@ -8,7 +8,7 @@ use Rattle.std.proofs.lemmas.List.{map-set, set-get_or, get_or-map, get_or_defau
 use Rattle.std.proofs.lemmas.List.Folds.{list_any_at}
 use Rattle.shred_model.specs.Access.{Access}
 use Rattle.shred_model.specs.Plan.{Plan, group_ids, group_time}
-use Rattle.shred_stage.specs.Placement.{greatest_time, difference, dependencies_left, without}
+use Rattle.shred_stage.specs.Placement.{greatest_time, difference, dependencies_left, without_one}
 use Rattle.shred_stage.specs.Search.{holds_any}
 use Rattle.shred_stage.proofs.Planner.Membership.{list_any-map}
 use Rattle.shred_stage.proofs.Planner.Times.{greatest_time-push, group_time-le-greatest}
@@ -30,7 +30,7 @@ pub greatest_more : (groups : List PlainGroup) (i : ℕ) (x : PlainGroup) → i 
 greatest_more groups i x lt is = ap greatest_time (read_more group_of groups i x lt is) ∙ greatest_time-push (map group_of (take i groups)) (group_of x)
 
 pub ids_more : (left now next : List ℕ) (entries : List PlainEntry) (i : ℕ) (x : PlainEntry) → i < length entries → x ≡ get_or entries i x → now ≡ difference left (group_ids (map entry_of (take i entries)))
-    → next ≡ without x.id now → next ≡ difference left (group_ids (map entry_of (take (i + 1) entries)))
+    → next ≡ without_one x.id now → next ≡ difference left (group_ids (map entry_of (take (i + 1) entries)))
 ids_more left now next entries i x lt is before step =
     let ids : group_ids (map entry_of (take (i + 1) entries)) ≡ group_ids (map entry_of (take i entries)) ++ x.id ∷ [] = ap group_ids (read_more entry_of entries i x lt is) ∙ map-append (λ e. e.id) (map entry_of (take i entries)) (entry_of x ∷ []) in
     rw ids (rw (difference-append left (group_ids (map entry_of (take i entries))) (x.id ∷ [])) (rw (← before) step))
@@ -56,13 +56,13 @@ time_within groups i x lt is =
     let here : get_or (map group_of groups) i [] ≡ group_of x = get_or-map group_of groups i x [] lt ∙ ap group_of (sym is) in
     rw here at (group_time-le-greatest (map group_of groups) i (rw (length-map groups group_of) lt))
 
-pub removed_first : (old now new : List ℕ) (place id x : ℕ) → now ≡ old → place < length now → x ≡ get_or now place x → x ≡ id → ((k : ℕ) → k < place → get_or old k 0 ≢ id) → new ≡ remove now place → new ≡ without id old
+pub removed_first : (old now new : List ℕ) (place id x : ℕ) → now ≡ old → place < length now → x ≡ get_or now place x → x ≡ id → ((k : ℕ) → k < place → get_or old k 0 ≢ id) → new ≡ remove now place → new ≡ without_one id old
 removed_first old now new place id x same lt is found none step =
     let within : place < length old = rw same at lt in
     let here : get_or old place 0 ≡ id = get_or_default old place 0 x within ∙ rw (← same) (sym is ∙ found) in
     step ∙ ap (λ xs. remove xs place) same ∙ sym (without-first id old place within here none)
 
-pub removed_none : (old now : List ℕ) (place id : ℕ) → now ≡ old → length old ≤ place → ((k : ℕ) → k < place → get_or old k 0 ≢ id) → now ≡ without id old
+pub removed_none : (old now : List ℕ) (place id : ℕ) → now ≡ old → length old ≤ place → ((k : ℕ) → k < place → get_or old k 0 ≢ id) → now ≡ without_one id old
 removed_none old now place id same past none = same ∙ sym (without-absent id old (λ k lt. none k (omega (arith, lt, past))))
 
 pub others_when_before : (left : List ℕ) (access : Access ℕ) (groups : List PlainGroup) (g : ℕ) (first : Bool) → first ≡ any_touched left access (map group_of (take g groups)) → first ≡ true → first ≡ others_touched left access (map group_of groups) g

@@ -1,9 +1,9 @@
 //! The placement rule, followed word for word and without haste.
 ghost use Rattle.std.specs.Prelude.{◌≡◌, ◌<◌, ◌≤◌, ◌^◌, ℕ, List, [], ◌∷◌, ◌++◌, length, map, nat_eq, slice_index_or, slice_set, take, drop, IsTrue, IfOk, OnOk, OnErr, MatchOption};
 ghost use Rattle.shred_model.specs.Plan.{group_ids, group_time, stage_ids};
-ghost use Rattle.shred_stage.specs.Placement.{difference, dependencies_left, greatest_time, without, AdmitsAtEndOf, AdmitsNewGroup, IsPlaced};
+ghost use Rattle.shred_stage.specs.Placement.{difference, dependencies_left, greatest_time, without_one, AdmitsAtEndOf, AdmitsNewGroup, IsPlaced};
 ghost use Rattle.shred_stage.specs.Search.{accesses_conflict, group_conflicts, holds_any, is_touched, share_item};
-ghost use Rattle.shredtest_planner.specs.Plain.{access_of, entry_of, group_of, stage_of, plan_of};
+ghost use Rattle.shredtest_planner.specs.Plain.{access_of_plain, entry_of, group_of, stage_of, plan_of_plain};
 ghost use Rattle.shredtest_planner.specs.Slow.{any_conflicts, any_touched, end_fits, EndIs, FoundIs, new_group_fits, one_left_is_held, others_touched};
 
 use crate::plain_plan::{PlainEntry, PlainGroup, PlainPlan, PlainStage};
@@ -25,13 +25,13 @@ fn share(first: &Vec<u32>, second: &Vec<u32>) -> bool
 }
 
 fn conflicts(a: &PlainEntry, b: &PlainEntry) -> bool
-    ensures { result ≡ accesses_conflict nat_eq (access_of a.now) (access_of b.now) }
+    ensures { result ≡ accesses_conflict nat_eq (access_of_plain a.now) (access_of_plain b.now) }
 {
     share(&a.writes, &b.writes) || share(&a.writes, &b.reads) || share(&a.reads, &b.writes)
 }
 
 fn group_conflicts(group: &PlainGroup, entry: &PlainEntry) -> bool
-    ensures { result ≡ group_conflicts nat_eq (access_of entry.now) (group_of group.now) }
+    ensures { result ≡ group_conflicts nat_eq (access_of_plain entry.now) (group_of group.now) }
 {
     for member in &group.entries {
         if conflicts(member, entry) {
@@ -53,13 +53,13 @@ fn holds_any(group: &PlainGroup, left: &[usize]) -> bool
 }
 
 fn is_touched(group: &PlainGroup, left: &[usize], entry: &PlainEntry) -> bool
-    ensures { result ≡ is_touched nat_eq left.now (access_of entry.now) (group_of group.now) }
+    ensures { result ≡ is_touched nat_eq left.now (access_of_plain entry.now) (group_of group.now) }
 {
     holds_any(group, left) || group_conflicts(group, entry)
 }
 
 fn any_conflicts(groups: &[PlainGroup], entry: &PlainEntry) -> bool
-    ensures { result ≡ any_conflicts (access_of entry.now) (map group_of groups.now) }
+    ensures { result ≡ any_conflicts (access_of_plain entry.now) (map group_of groups.now) }
 {
     for group in groups {
         if group_conflicts(group, entry) {
@@ -70,7 +70,7 @@ fn any_conflicts(groups: &[PlainGroup], entry: &PlainEntry) -> bool
 }
 
 fn any_touched(groups: &[PlainGroup], left: &[usize], entry: &PlainEntry) -> bool
-    ensures { result ≡ any_touched left.now (access_of entry.now) (map group_of groups.now) }
+    ensures { result ≡ any_touched left.now (access_of_plain entry.now) (map group_of groups.now) }
 {
     for group in groups {
         if is_touched(group, left, entry) {
@@ -103,7 +103,7 @@ fn greatest_time(stage: &PlainStage) -> u128
 }
 
 fn take_id(left: &mut Vec<usize>, id: usize)
-    ensures { left.new.items ≡ without id left.old.items }
+    ensures { left.new.items ≡ without_one id left.old.items }
 {
     for place in 0..left.len() {
         if left[place] == id {
@@ -138,7 +138,7 @@ fn left_before(
     dependencies: &[usize],
 ) -> Result<Vec<usize>, OutOfMemory>
     requires { stage ≤ length plan.now.stages.items }
-    ensures { IfOk result (λ left. left.items ≡ dependencies_left (plan_of plan.now) barrier dependencies.now stage) }
+    ensures { IfOk result (λ left. left.items ≡ dependencies_left (plan_of_plain plan.now) barrier dependencies.now stage) }
 {
     let mut left = match Vec::from_slice(alloc, dependencies) {
         Ok(left) => left,
@@ -157,14 +157,14 @@ fn admits_new_group(left: &[usize], entry: &PlainEntry, stage: &PlainStage) -> b
 }
 
 fn holds_the_one_left(group: &PlainGroup, left: &[usize], entry: &PlainEntry) -> bool
-    ensures { result ≡ one_left_is_held left.now (access_of entry.now) (group_of group.now) }
+    ensures { result ≡ one_left_is_held left.now (access_of_plain entry.now) (group_of group.now) }
 {
     left.len() == 1 && holds_any(group, left) && !group_conflicts(group, entry)
 }
 
 fn others_touched(groups: &[PlainGroup], group: usize, left: &[usize], entry: &PlainEntry) -> bool
     requires { group < length groups.now }
-    ensures { result ≡ others_touched left.now (access_of entry.now) (map group_of groups.now) group }
+    ensures { result ≡ others_touched left.now (access_of_plain entry.now) (map group_of groups.now) group }
 {
     any_touched(&groups[..group], left, entry) || any_touched(&groups[group + 1..], left, entry)
 }
@@ -202,7 +202,7 @@ fn find(
     dependencies: &[usize],
     entry: &PlainEntry,
 ) -> Result<PlainPlace, OutOfMemory>
-    ensures { IfOk result (FoundIs (plan_of plan.now) barrier start dependencies.now (entry_of entry.now)) }
+    ensures { IfOk result (FoundIs (plan_of_plain plan.now) barrier start dependencies.now (entry_of entry.now)) }
 {
     for stage in start..plan.stages.len() {
         let left = match left_before(alloc, plan, barrier, stage, dependencies) {
@@ -255,8 +255,8 @@ fn push_group(alloc: Global, stage: &mut PlainStage, entry: PlainEntry) -> Resul
 }
 
 fn push_stage(alloc: Global, plan: &mut PlainPlan, entry: PlainEntry) -> Result<(), OutOfMemory>
-    ensures ok { OnOk result (plan_of plan.new ≡ plan_of plan.old ++ ((entry_of entry ∷ []) ∷ []) ∷ []) }
-    ensures err { OnErr result (plan_of plan.new ≡ plan_of plan.old) }
+    ensures ok { OnOk result (plan_of_plain plan.new ≡ plan_of_plain plan.old ++ ((entry_of entry ∷ []) ∷ []) ∷ []) }
+    ensures err { OnErr result (plan_of_plain plan.new ≡ plan_of_plain plan.old) }
 {
     let mut stage = PlainStage {
         groups: Vec::new(alloc),
@@ -284,11 +284,11 @@ fn push_entry_at(
     group: usize,
     entry: PlainEntry,
 ) -> Result<(), OutOfMemory>
-    requires within { stage < length (plan_of plan.old) }
-    requires within_stage { group < length (slice_index_or (plan_of plan.old) stage []) }
-    ensures ok { let here = slice_index_or (plan_of plan.old) stage [] in
-        OnOk result (plan_of plan.new ≡ slice_set (plan_of plan.old) stage (slice_set here group (slice_index_or here group [] ++ entry_of entry ∷ []))) }
-    ensures err { OnErr result (plan_of plan.new ≡ plan_of plan.old) }
+    requires within { stage < length (plan_of_plain plan.old) }
+    requires within_stage { group < length (slice_index_or (plan_of_plain plan.old) stage []) }
+    ensures ok { let here = slice_index_or (plan_of_plain plan.old) stage [] in
+        OnOk result (plan_of_plain plan.new ≡ slice_set (plan_of_plain plan.old) stage (slice_set here group (slice_index_or here group [] ++ entry_of entry ∷ []))) }
+    ensures err { OnErr result (plan_of_plain plan.new ≡ plan_of_plain plan.old) }
 {
     push_entry_in(&mut plan.stages[stage], group, entry)
 }
@@ -299,9 +299,9 @@ fn push_group_at(
     stage: usize,
     entry: PlainEntry,
 ) -> Result<(), OutOfMemory>
-    requires { stage < length (plan_of plan.old) }
-    ensures ok { OnOk result (plan_of plan.new ≡ slice_set (plan_of plan.old) stage (slice_index_or (plan_of plan.old) stage [] ++ (entry_of entry ∷ []) ∷ [])) }
-    ensures err { OnErr result (plan_of plan.new ≡ plan_of plan.old) }
+    requires { stage < length (plan_of_plain plan.old) }
+    ensures ok { OnOk result (plan_of_plain plan.new ≡ slice_set (plan_of_plain plan.old) stage (slice_index_or (plan_of_plain plan.old) stage [] ++ (entry_of entry ∷ []) ∷ [])) }
+    ensures err { OnErr result (plan_of_plain plan.new ≡ plan_of_plain plan.old) }
 {
     push_group(alloc, &mut plan.stages[stage], entry)
 }
@@ -315,8 +315,8 @@ pub fn slow_placement(
     dependencies: &[usize],
     entry: PlainEntry,
 ) -> Result<(), OutOfMemory>
-    ensures placed { OnOk result (IsPlaced (plan_of plan.old) barrier start dependencies.now (entry_of entry) (plan_of plan.new)) }
-    ensures err { OnErr result (plan_of plan.new ≡ plan_of plan.old) }
+    ensures placed { OnOk result (IsPlaced (plan_of_plain plan.old) barrier start dependencies.now (entry_of entry) (plan_of_plain plan.new)) }
+    ensures err { OnErr result (plan_of_plain plan.new ≡ plan_of_plain plan.old) }
 {
     match find(alloc, &*plan, barrier, start, dependencies, &entry) {
         Ok(PlainPlace::NewGroup(stage)) => push_group_at(alloc, plan, stage, entry),

@@ -2,7 +2,7 @@
 use Rattle.std.proofs.Common.{◌≡◌, ◌≢◌, ℕ, ◌<◌, ◌+◌, ◌⊎◌, inl, inr, ⊎_elim, Bool, true, false, cond, List, [], ◌∷◌, Some, None, refl, sym, ◌∙◌, ap, subst, arith}
 use Rattle.std.proofs.lemmas.Slice.Eq.{bytes_eq-Decides}
 use Rattle.std.specs.Str.{bytes_eq}
-use Rattle.shred_model.specs.Plan.{Entry, Plan, entry_at}
+use Rattle.shred_model.specs.Plan.{PlanEntry, Plan, entry_at}
 use Rattle.shred_model.specs.Record.{Agent}
 use Rattle.shred_stage.specs.Added.{IsNewAt}
 use Rattle.shred.specs.Built.{Built, IsConsistent}
@@ -17,7 +17,7 @@ path-cases path place = told (bytes_eq path place) refl where
   told false is = inr (λ e. absurd (let f : false ≡ true = sym is ∙ (bytes_eq-Decides path place).1 e in cc))
 
 -- where one more stands in a plan, an id stands at its place and is its own, or stands where it stood
-placed-cases : {I : Type 0} (plan placed : Plan I) (place : Agent) (entry : Entry I) → IsNewAt place (entry_at plan) (entry_at placed) entry → (path : Agent) (id : ℕ) → HasIdAt placed path id → ((path ≡ place) × (id ≡ entry.id)) ⊎ HasIdAt plan path id
+placed-cases : {I : Type 0} (plan placed : Plan I) (place : Agent) (entry : PlanEntry I) → IsNewAt place (entry_at plan) (entry_at placed) entry → (path : Agent) (id : ℕ) → HasIdAt placed path id → ((path ≡ place) × (id ≡ entry.id)) ⊎ HasIdAt plan path id
 placed-cases plan placed place entry new path id (found, at, is) =
     ⊎_elim
     (λ e. inl (e, (let f : Some found ≡ Some entry = sym at ∙ ap (entry_at placed) e ∙ new.stands in let same : found ≡ entry = cc in sym is ∙ ap (λ e. e.id) same)))
@@ -57,7 +57,7 @@ module _ {S : Type 0} where
     one_name = λ name other id e d. absurd (let f : Some id ≡ None = sym e ∙ unknown name in cc);
     empty_unknown = unknown [];
   } where
-    nowhere-empty : (place : Agent) (found : Entry ResourceId) → entry_at [] place ≡ Some found → ⊥
+    nowhere-empty : (place : Agent) (found : PlanEntry ResourceId) → entry_at [] place ≡ Some found → ⊥
     nowhere-empty [] found at = absurd (let f : None ≡ Some found = at in cc)
     nowhere-empty (k ∷ rest) found at = absurd (let f : None ≡ Some found = at in cc)
 
@@ -77,7 +77,7 @@ module _ {S : Type 0} where
     stood place id there = subst (λ p. HasIdAt p place id) plan there
 
   -- with one more entry of the next id, and its name
-  pub entered-consistent : (old new : Built S) (at : Agent) (entry : Entry ResourceId) (name : List ℕ) → entry.id ≡ old.next → IsNewAt at (entry_at old.plan) (entry_at new.plan) entry
+  pub entered-consistent : (old new : Built S) (at : Agent) (entry : PlanEntry ResourceId) (name : List ℕ) → entry.id ≡ old.next → IsNewAt at (entry_at old.plan) (entry_at new.plan) entry
       → ((q : List ℕ) → new.known q ≡ with_name old.known name old.next q) → new.next ≡ old.next + 1 → IsConsistent old → IsConsistent new
   entered-consistent old new at entry name same_id is_new enters next before = record {
     below = λ place id there. below-next id (⊎_elim (λ here. inr (here.1 ∙ same_id)) (λ stood. inl (before.below place id stood)) (cases place id there));

@@ -11,7 +11,7 @@ use Rattle.std.specs.Prelude.{unwrap_or}
 use Rattle.std.specs.Str.{bytes_eq}
 use Rattle.std.specs.String.{string_bytes, string_eq}
 use Rattle.std.specs.declared.string.String.{String}
-use Rattle.shred_stage.specs.Known.{Known, KnowsBefore, ids_of, with_name}
+use Rattle.shred_stage.specs.Known.{Known, KnowsBefore, known_ids, with_name}
 use Rattle.shred_stage.specs.PlanOf.{numbers_of}
 use Rattle.shred_stage.proofs.Planner.Touching.{read_more}
 use Rattle.shred_stage.specs.Names.{names_of}
@@ -56,8 +56,8 @@ known-number None stands id is e = ap (λ i. i.0) is ∙ ap (λ o. unwrap_or o 0
 known-number (Some found) stands id is e = ap (λ i. i.0) is ∙ ap (λ o. unwrap_or o 0) e
 
 -- one more id was looked up
-pub ids-next : (known : Known) (names : List (List ℕ)) (place : ℕ) (name : List ℕ) (ids next : List SystemId) (id : SystemId) → slice_get names place ≡ Some name → numbers_of ids ≡ ids_of known (take place names) → id.0 ≡ unwrap_or (known name) 0
-    → next ≡ ids ++ id ∷ [] → numbers_of next ≡ ids_of known (take (place + 1) names)
+pub ids-next : (known : Known) (names : List (List ℕ)) (place : ℕ) (name : List ℕ) (ids next : List SystemId) (id : SystemId) → slice_get names place ≡ Some name → numbers_of ids ≡ known_ids known (take place names) → id.0 ≡ unwrap_or (known name) 0
+    → next ≡ ids ++ id ∷ [] → numbers_of next ≡ known_ids known (take (place + 1) names)
 ids-next known names place name ids next id at before is pushed =
-    ap numbers_of pushed ∙ map-append (λ (i : SystemId). i.0) ids (id ∷ []) ∙ ap (λ l. l ++ id.0 ∷ []) before ∙ ap (λ n. ids_of known (take place names) ++ n ∷ []) is
+    ap numbers_of pushed ∙ map-append (λ (i : SystemId). i.0) ids (id ∷ []) ∙ ap (λ l. l ++ id.0 ∷ []) before ∙ ap (λ n. known_ids known (take place names) ++ n ∷ []) is
     ∙ sym (read_more (λ name. unwrap_or (known name) 0) names place name (slice_get_within names place name at) (sym (get_or_from_slice_get names place name name at)))

@@ -7,12 +7,12 @@ use Rattle.std.specs.Str.{bytes_eq}
 use Rattle.std.proofs.lemmas.Bool.Decides.{Decides-eqb}
 use Rattle.std.proofs.lemmas.List.{length-map, get_or-map}
 use Rattle.std.proofs.lemmas.Option.{slice_get_within, get_or_from_slice_get, slice_get-map, slice_get-get_or}
-use Rattle.shred_model.specs.Plan.{Entry, Plan, group_ids, stage_ids, plan_ids, entry_at}
+use Rattle.shred_model.specs.Plan.{PlanEntry, Plan, group_ids, stage_ids, plan_ids, entry_at}
 use Rattle.shred_model.specs.Record.{Agent}
 use Rattle.shred_model.specs.States.{own_state, listed_states}
 use Rattle.shred_stage.specs.Added.{IsNewAt}
 use Rattle.shred_stage.specs.Earlier.{ComesAfter, HasId, StandsAfter, plan_has}
-use Rattle.shred_stage.specs.Known.{Known, KnowsAll, ids_of, with_name}
+use Rattle.shred_stage.specs.Known.{Known, KnowsAll, known_ids, with_name}
 use Rattle.shred_stage.proofs.Planner.Earlier.{entry-of_id}
 use Rattle.shred_stage.proofs.Planner.Membership.{Contains-flat_map, Some_of, list_any_decides}
 
@@ -32,7 +32,7 @@ own-is y [] x e = cc
 own-is y (n ∷ path) x e = absurd (let f : None ≡ Some x = e in cc)
 
 -- the id of an entry is one of the plan's
-contains-standing : {I : Type 0} (plan : Plan I) (path : Agent) (entry : Entry I) → entry_at plan path ≡ Some entry → Contains (plan_ids plan) entry.id
+contains-standing : {I : Type 0} (plan : Plan I) (path : Agent) (entry : PlanEntry I) → entry_at plan path ≡ Some entry → Contains (plan_ids plan) entry.id
 contains-standing plan path entry e =
     let (k, in_stage, stage, at_stage, e_stage) = listed-cases (listed_states (listed_states own_state)) plan path entry e in
     let (g, in_group, group, at_group, e_group) = listed-cases (listed_states own_state) stage in_stage entry e_stage in
@@ -51,13 +51,13 @@ test-from_has plan id (path, there) =
     (list_any_decides (λ n. n == id) (λ n. n ≡ id) (λ n. Decides-eqb n id) (plan_ids plan)).1 (there.0.id, contains-standing plan path there.0 there.1, there.2)
 
 -- what stands in a plan stands in it when one more is added
-has-still : {I : Type 0} (plan placed : Plan I) (place : Agent) (entry : Entry I) (id : ℕ) → IsNewAt place (entry_at plan) (entry_at placed) entry → HasId plan id → HasId placed id
+has-still : {I : Type 0} (plan placed : Plan I) (place : Agent) (entry : PlanEntry I) (id : ℕ) → IsNewAt place (entry_at plan) (entry_at placed) entry → HasId plan id → HasId placed id
 has-still plan placed place entry id new (path, there) =
     let apart : path ≢ place = λ e. absurd (let f : Some there.0 ≡ None = sym there.1 ∙ ap (entry_at plan) e ∙ new.was_free in cc) in
     (path, (there.0, new.others path apart ∙ there.1, there.2))
 
 -- with one more name and its entry, what is known stands in the plan
-pub known-still : {I : Type 0} (plan placed : Plan I) (place : Agent) (entry : Entry I) (known later : Known) (name : List ℕ) (next : ℕ) → entry.id ≡ next → IsNewAt place (entry_at plan) (entry_at placed) entry
+pub known-still : {I : Type 0} (plan placed : Plan I) (place : Agent) (entry : PlanEntry I) (known later : Known) (name : List ℕ) (next : ℕ) → entry.id ≡ next → IsNewAt place (entry_at plan) (entry_at placed) entry
     → ((q : List ℕ) → later q ≡ with_name known name next q) → ((q : List ℕ) (id : ℕ) → known q ≡ Some id → plan_has plan id ≡ true) → (q : List ℕ) (id : ℕ) → later q ≡ Some id → plan_has placed id ≡ true
 known-still plan placed place entry known later name next same new enters before q id e = test-from_has placed id (told name (sym (enters q) ∙ e)) where
   old : known q ≡ Some id → HasId placed id
@@ -79,8 +79,8 @@ of-known None some = absurd (let f : false ≡ true = some in cc)
 of-known (Some id) some = refl
 
 -- the ids of known names all stand in the plan, so what comes after them comes after all of them
-pub stands-after_all : {I : Type 0} (plan : Plan I) (known : Known) (names : List (List ℕ)) (place : Agent) → ((q : List ℕ) (id : ℕ) → known q ≡ Some id → plan_has plan id ≡ true) → KnowsAll known names → ComesAfter plan (ids_of known names) place
-    → StandsAfter plan (ids_of known names) place
+pub stands-after_all : {I : Type 0} (plan : Plan I) (known : Known) (names : List (List ℕ)) (place : Agent) → ((q : List ℕ) (id : ℕ) → known q ≡ Some id → plan_has plan id ≡ true) → KnowsAll known names → ComesAfter plan (known_ids known names) place
+    → StandsAfter plan (known_ids known names) place
 stands-after_all plan known names place planned all after id (k, within, is) =
     let f : List ℕ → ℕ = λ name. unwrap_or (known name) 0 in
     let inside : k < length names = omega (arith, within, length-map names f) in

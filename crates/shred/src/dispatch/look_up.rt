@@ -4,7 +4,7 @@ ghost use Rattle.std.specs.Option.{option_map};
 ghost use Rattle.std.specs.HashMap.{IsUnique};
 ghost use Rattle.std.specs.Str.{bytes_eq};
 ghost use Rattle.std.specs.String.{string_eq};
-ghost use Rattle.shred_stage.specs.Known.{ids_of, texts_of, with_name, IsFirstUnknown, KnowsAll};
+ghost use Rattle.shred_stage.specs.Known.{known_ids, texts_of, with_name, IsFirstUnknown, KnowsAll};
 ghost use Rattle.shred_stage.specs.Names.{names_of};
 ghost use Rattle.shred_stage.specs.PlanOf.{numbers_of};
 
@@ -38,7 +38,7 @@ pub(crate) fn ids_of(
     names: &HashMap<String, SystemId>,
     wanted: &[&str],
 ) -> Result<Vec<SystemId>, OutOfMemory>
-    ensures { IfOk result (λ ids. numbers_of ids.items ≡ ids_of (names_of names.now) (texts_of wanted.now)) }
+    ensures { IfOk result (λ ids. numbers_of ids.items ≡ known_ids (names_of names.now) (texts_of wanted.now)) }
 {
     let mut ids = Vec::new(alloc);
     for place in 0..wanted.len() {

@@ -3,14 +3,14 @@ use Rattle.std.proofs.Common.{◌≡◌, ℕ, suc, ◌+◌, ◌≤◌, Bool, tru
 use Rattle.std.specs.List.{flat_map, slice_get}
 use Rattle.std.specs.Option.{option_copied}
 use Rattle.std.proofs.lemmas.Option.{slice_get_within, get_or_from_slice_get}
-use Rattle.shred_stage.specs.Names.{Pair, least_name, first_unnamed}
+use Rattle.shred_stage.specs.Names.{NamedId, least_name, first_unnamed}
 
 -- what is left of a list from an item on
 rest-from : {X : Type 0} (xs : List X) (i : ℕ) (x : X) → slice_get xs i ≡ Some x → drop i xs ≡ x ∷ drop (i + 1) xs
 rest-from xs i x at =
     drop-cons xs i x (slice_get_within xs i x at) ∙ ap (λ y. y ∷ drop (suc i) xs) (get_or_from_slice_get xs i x x at) ∙ ap (λ n. x ∷ drop n xs) (sym (add-one i))
 
-module _ (pairs : List Pair) where
+module _ (pairs : List NamedId) where
   first : (id : ℕ) (ids : List ℕ) (b : Bool) → is_some (least_name pairs id) ≡ b → first_unnamed pairs (id ∷ ids) ≡ cond b (first_unnamed pairs ids) (Some id)
   first id ids b is = ap (λ c. cond c (first_unnamed pairs ids) (Some id)) is
 

@@ -3,12 +3,12 @@ use Rattle.std.proofs.Common.{◌≡◌, ◌≢◌, ℕ, zero, suc, ◌+◌, ◌
 use Rattle.std.specs.List.{slice_get, slice_range}
 use Rattle.std.proofs.lemmas.Bool.{cases_eq}
 use Rattle.std.proofs.lemmas.Option.{slice_get_within, slice_get_past, slice_get-get_or}
-use Rattle.shred_model.specs.Plan.{Entry, Group, Stage, Plan, group_ids, stage_ids, plan_ids, entry_at}
+use Rattle.shred_model.specs.Plan.{PlanEntry, Group, Stage, Plan, group_ids, stage_ids, plan_ids, entry_at}
 use Rattle.shred_model.specs.Record.{Agent}
 use Rattle.shred_model.proofs.Records.Places.{slice_get-set_same}
 use Rattle.shred_stage.specs.Added.{IsNewAt}
 use Rattle.shred_stage.specs.Earlier.{IsEarlier, IsFromBarrier, HasIdAt, HasId, ComesAfter, AllBeforeBarrier}
-use Rattle.shred_stage.specs.Placement.{without, difference, dependencies_left, IsPlaced, in_new_group, at_end_of_group, in_new_stage, HoldsTheOneLeft}
+use Rattle.shred_stage.specs.Placement.{without_one, difference, dependencies_left, IsPlaced, in_new_group, at_end_of_group, in_new_stage, HoldsTheOneLeft}
 use Rattle.shred_stage.proofs.Planner.Ids.{eqb-refl_at, eqb_other}
 use Rattle.shred_stage.proofs.Planner.Membership.{Contains-nil, Contains-head, Contains-tail, Contains-from_same, Contains-cons_cases, Contains-flat_map_cases}
 use Rattle.shred_stage.proofs.Planner.Touching.{slice_get-push_end}
@@ -48,13 +48,13 @@ slice_get-range xs a b k x at =
     (sym (slice_get-drop a xs k) ∙ found.0, omega (arith, found.1))
 
 -- the entry of an id that a group holds
-group_has : {I : Type 0} (group : Group I) (id : ℕ) → Contains (group_ids group) id → (i : ℕ) × (entry : Entry I) × (slice_get group i ≡ Some entry) × (entry.id ≡ id)
+group_has : {I : Type 0} (group : Group I) (id : ℕ) → Contains (group_ids group) id → (i : ℕ) × (entry : PlanEntry I) × (slice_get group i ≡ Some entry) × (entry.id ≡ id)
 group_has [] id h = absurd (Contains-nil id h)
 group_has (e ∷ group) id h =
     ⊎_elim (λ s. (zero, e, refl, s)) (λ c. let found = group_has group id c in (suc found.0, found.1, found.2, found.3)) (Contains-cons_cases e.id (group_ids group) id h)
 
 -- the entry of an id that a plan holds, with its stage
-entry-of_place : {I : Type 0} (plan : Plan I) (id : ℕ) → Contains (plan_ids plan) id → (k g i : ℕ) × (stage : Stage I) × (group : Group I) × (entry : Entry I) × (slice_get plan k ≡ Some stage) × (slice_get stage g ≡ Some group) × (slice_get group i ≡ Some entry) × (entry.id ≡ id)
+entry-of_place : {I : Type 0} (plan : Plan I) (id : ℕ) → Contains (plan_ids plan) id → (k g i : ℕ) × (stage : Stage I) × (group : Group I) × (entry : PlanEntry I) × (slice_get plan k ≡ Some stage) × (slice_get stage g ≡ Some group) × (slice_get group i ≡ Some entry) × (entry.id ≡ id)
 entry-of_place plan id h =
     let in_stage = Contains-flat_map_cases stage_ids plan id h in
     let in_group = Contains-flat_map_cases group_ids in_stage.0 id in_stage.2 in
@@ -63,7 +63,7 @@ entry-of_place plan id h =
     let g = slice_get-of_contains in_stage.0 in_group.0 in_group.1 in
     (k.0, g.0, found.0, in_stage.0, in_group.0, found.1, k.1, g.1, found.2, found.3)
 
-entry_there : {I : Type 0} (plan : Plan I) (k g i : ℕ) (stage : Stage I) (group : Group I) (entry : Entry I) → slice_get plan k ≡ Some stage → slice_get stage g ≡ Some group → slice_get group i ≡ Some entry
+entry_there : {I : Type 0} (plan : Plan I) (k g i : ℕ) (stage : Stage I) (group : Group I) (entry : PlanEntry I) → slice_get plan k ≡ Some stage → slice_get stage g ≡ Some group → slice_get group i ≡ Some entry
     → entry_at plan (k ∷ g ∷ i ∷ []) ≡ Some entry
 entry_there plan k g i stage group entry at_stage at_group at_entry = rw (at_stage, at_group, at_entry) refl
 
@@ -80,21 +80,21 @@ has_earlier plan barrier k id path h =
     ((barrier + n) ∷ g ∷ i ∷ [], (entry, entry_there plan (barrier + n) g i stage group entry there.0 at_group at_entry, is), inl (barrier + n, k, g ∷ i ∷ [], path, refl, refl, there.1))
 
 -- what is taken out of a list is one of the others
-kept-or_taken : (xs : List ℕ) (y x : ℕ) → Contains xs x → Contains (without y xs) x ⊎ (y ≡ x)
+kept-or_taken : (xs : List ℕ) (y x : ℕ) → Contains xs x → Contains (without_one y xs) x ⊎ (y ≡ x)
 kept-or_taken [] y x h = absurd (Contains-nil x h)
 kept-or_taken (z ∷ xs) y x h =
-    let later : Contains xs x → Contains (without y xs) x ⊎ (y ≡ x) = λ c. kept-or_taken xs y x c in
+    let later : Contains xs x → Contains (without_one y xs) x ⊎ (y ≡ x) = λ c. kept-or_taken xs y x c in
     ⊎_elim
     (λ e. let same : (y == z) ≡ true = eqb-refl_at y z (sym e) in ⊎_elim (λ s. inr (e ∙ s)) (λ c. inl (rw same c)) (Contains-cons_cases z xs x h))
     (λ ne.
     let other : (y == z) ≡ false = eqb_other y z (λ e. ne (sym e)) in
-    ⊎_elim (λ s. inl (rw other (Contains-from_same z (without y xs) x (inl s)))) (λ c. ⊎_elim (λ k. inl (rw other (Contains-tail z (without y xs) x k))) (λ s. inr s) (later c)) (Contains-cons_cases z xs x h))
+    ⊎_elim (λ s. inl (rw other (Contains-from_same z (without_one y xs) x (inl s)))) (λ c. ⊎_elim (λ k. inl (rw other (Contains-tail z (without_one y xs) x k))) (λ s. inr s) (later c)) (Contains-cons_cases z xs x h))
     (cases_eq y z)
 
 left-or_met : (xs ys : List ℕ) (x : ℕ) → Contains xs x → Contains (difference xs ys) x ⊎ Contains ys x
 left-or_met xs [] x h = inl h
 left-or_met xs (y ∷ ys) x h =
-    ⊎_elim (λ k. ⊎_elim (λ l. inl l) (λ m. inr (Contains-tail y ys x m)) (left-or_met (without y xs) ys x k)) (λ s. inr (rw s (Contains-head x ys))) (kept-or_taken xs y x h)
+    ⊎_elim (λ k. ⊎_elim (λ l. inl l) (λ m. inr (Contains-tail y ys x m)) (left-or_met (without_one y xs) ys x k)) (λ s. inr (rw s (Contains-head x ys))) (kept-or_taken xs y x h)
 
 module _ {I : Type 0} (plan : Plan I) (barrier : ℕ) (dependencies : List ℕ) where
   -- a dependency is left at stage k, or stands in an earlier stage
@@ -108,7 +108,7 @@ module _ {I : Type 0} (plan : Plan I) (barrier : ℕ) (dependencies : List ℕ) 
       ⊎_elim (λ l. absurd (Contains-nil id (subst (λ left. Contains left id) none l))) (λ there. there) (left-or_earlier k id path h)
 
   -- where one is left at stage k and the group holds it, all stand in earlier stages or earlier in the group
-  pub after-one_left : (k g : ℕ) (stage : Stage I) (group : Group I) (entry : Entry I) → slice_get plan k ≡ Some stage → slice_get stage g ≡ Some group → HoldsTheOneLeft (dependencies_left plan barrier dependencies k) entry group
+  pub after-one_left : (k g : ℕ) (stage : Stage I) (group : Group I) (entry : PlanEntry I) → slice_get plan k ≡ Some stage → slice_get stage g ≡ Some group → HoldsTheOneLeft (dependencies_left plan barrier dependencies k) entry group
       → ComesAfter plan dependencies (k ∷ g ∷ length group ∷ [])
   after-one_left k g stage group entry at_stage at_group one id h has =
       ⊎_elim held (λ there. there) (left-or_earlier k id (g ∷ length group ∷ []) h) where
@@ -138,7 +138,7 @@ after-all plan dependencies path id h (other, there) =
     (other, there, inl (k, length plan, p, path, e, refl, below))
 
 -- what is placed stands from the barrier on, after its dependencies
-pub stands-after : {I : Type 0} (plan placed : Plan I) (barrier : ℕ) (dependencies : List ℕ) (entry : Entry I) (place : Agent) → barrier ≤ length plan → IsPlaced plan barrier barrier dependencies entry placed
+pub stands-after : {I : Type 0} (plan placed : Plan I) (barrier : ℕ) (dependencies : List ℕ) (entry : PlanEntry I) (place : Agent) → barrier ≤ length plan → IsPlaced plan barrier barrier dependencies entry placed
     → IsNewAt place (entry_at plan) (entry_at placed) entry → IsFromBarrier barrier place × ComesAfter plan dependencies place
 stands-after plan placed barrier dependencies entry place within (in_new_group k stage from at none admits is) new =
     let other : Agent = k ∷ length stage ∷ zero ∷ [] in

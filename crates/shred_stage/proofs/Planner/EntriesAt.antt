@@ -10,22 +10,22 @@ use Rattle.shred_stage.specs.EntriesAt.{group_entries, stage_entries, plan_entri
 use Rattle.shred_stage.specs.PlanOf.{entry_plan, group_plan}
 use Rattle.shred_stage.specs.Plans.{stage_states, plan_states}
 use Rattle.shred_stage.specs.StagePlan.{stage_plan, plan_of}
-use Rattle.shred_stage.specs.declared.dispatch.entry.Entry.{Entry}
+use Rattle.shred_stage.specs.declared.dispatch.entry.SystemEntry.{SystemEntry}
 use Rattle.shred_stage.specs.declared.dispatch.entry.Group.{Group}
 use Rattle.shred_stage.specs.declared.dispatch.stage.Stage.{Stage}
 use Rattle.shred_stage.proofs.Planner.Added.{own_is_new, new_alone, new_at_end, listed_states-map, listed_states-of, new_mapped}
 
-pub new_in_group : {V S : Type 0} (group : Group V S) (entry : Entry V S) → group.entries.items ≡ entry ∷ [] → IsNew nothing_at (group_entries group) entry
-new_in_group {V} {S} group entry e = subst (λ (items : List (Entry V S)). IsNew nothing_at (listed_states own_state items) entry) (sym e) (new_alone own_state entry entry (own_is_new entry))
+pub new_in_group : {V S : Type 0} (group : Group V S) (entry : SystemEntry V S) → group.entries.items ≡ entry ∷ [] → IsNew nothing_at (group_entries group) entry
+new_in_group {V} {S} group entry e = subst (λ (items : List (SystemEntry V S)). IsNew nothing_at (listed_states own_state items) entry) (sym e) (new_alone own_state entry entry (own_is_new entry))
 
-pub new_at_end_of_group : {V S : Type 0} (old new : Group V S) (entry : Entry V S) → new.entries.items ≡ old.entries.items ++ entry ∷ [] → IsNew (group_entries old) (group_entries new) entry
+pub new_at_end_of_group : {V S : Type 0} (old new : Group V S) (entry : SystemEntry V S) → new.entries.items ≡ old.entries.items ++ entry ∷ [] → IsNew (group_entries old) (group_entries new) entry
 new_at_end_of_group {V} {S} old new entry e =
-    subst (λ (items : List (Entry V S)). IsNew (group_entries old) (listed_states own_state items) entry) (sym e) (new_at_end own_state old.entries.items entry entry (own_is_new entry))
+    subst (λ (items : List (SystemEntry V S)). IsNew (group_entries old) (listed_states own_state items) entry) (sym e) (new_at_end own_state old.entries.items entry entry (own_is_new entry))
 
 pub same_in_group : {V S : Type 0} (old new : Group V S) → new.entries.items ≡ old.entries.items → AreSame (group_entries old) (group_entries new)
-same_in_group {V} {S} old new e path = ap (λ (items : List (Entry V S)). listed_states own_state items path) e
+same_in_group {V} {S} old new e path = ap (λ (items : List (SystemEntry V S)). listed_states own_state items path) e
 
-own_mapped : {V S X : Type 0} (f : Entry V S → X) (entry : Entry V S) (path : Agent) → own_state (f entry) path ≡ option_map f (own_state entry path)
+own_mapped : {V S X : Type 0} (f : SystemEntry V S → X) (entry : SystemEntry V S) (path : Agent) → own_state (f entry) path ≡ option_map f (own_state entry path)
 own_mapped f entry [] = refl
 own_mapped f entry (n ∷ path) = refl
 
@@ -44,7 +44,7 @@ plan_states-of =
     listed_states-of own_state entry_states (λ e. e.system) (own_mapped (λ e. e.system)) group.entries.items) stage.groups.items)
 
 -- where an entry is new, what is planned of it and its system are
-pub added_with : {V S E X : Type 0} {gv gs gx : _} (old new : List (Stage V S E X gv gs gx)) (entry : Entry V S) (system : S) → entry.system ≡ system → IsNew (plan_entries old) (plan_entries new) entry
+pub added_with : {V S E X : Type 0} {gv gs gx : _} (old new : List (Stage V S E X gv gs gx)) (entry : SystemEntry V S) (system : S) → entry.system ≡ system → IsNew (plan_entries old) (plan_entries new) entry
     → IsAdded (plan_of old) (plan_of new) (plan_states old) (plan_states new) (entry_plan entry) system
 added_with old new entry system same is = record {
   place = is.0;

@@ -8,7 +8,7 @@ use Rattle.std.proofs.lemmas.Bool.Decides.{nat_tests, Decides-and, Decides-like,
 use Rattle.shred_world.specs.Id.{same_id}
 use Rattle.shred_world.specs.declared.id.ResourceId.{ResourceId}
 use Rattle.shred_stage.specs.declared.dispatch.entry.SystemId.{SystemId}
-use Rattle.shred_stage.specs.Placement.{without}
+use Rattle.shred_stage.specs.Placement.{without_one}
 use Rattle.shred_stage.specs.PlanOf.{numbers_of}
 use Rattle.shred_stage.specs.Search.{share_item}
 use Rattle.shred_stage.proofs.Planner.Membership.{list_any-map, list_any_agree}
@@ -32,20 +32,20 @@ share_item-none (n ∷ ns) [] e = share_item-none ns [] e
 share_item-none ns (id ∷ ids) e = absurd (grind (arith, nat_tests))
 
 -- the first x stands at i
-pub without-first : (x : ℕ) (xs : List ℕ) (i : ℕ) → i < length xs → get_or xs i 0 ≡ x → ((k : ℕ) → k < i → get_or xs k 0 ≢ x) → without x xs ≡ remove xs i
+pub without-first : (x : ℕ) (xs : List ℕ) (i : ℕ) → i < length xs → get_or xs i 0 ≡ x → ((k : ℕ) → k < i → get_or xs k 0 ≢ x) → without_one x xs ≡ remove xs i
 without-first x [] i lt at before = absurd (omega (arith, lt))
 without-first x (y ∷ ys) zero lt at before = let same : (x == y) ≡ true = eqb-refl_at x y at in rw same refl
 without-first x (y ∷ ys) (suc i) lt at before =
     let other : (x == y) ≡ false = eqb_other x y (before 0 (omega arith)) in
-    let rest : without x ys ≡ remove ys i = without-first x ys i (omega (arith, lt)) at (λ k l. before (suc k) (omega (arith, l))) in
+    let rest : without_one x ys ≡ remove ys i = without-first x ys i (omega (arith, lt)) at (λ k l. before (suc k) (omega (arith, l))) in
     rw (other, rest) refl
 
 -- no x stands in the list
-pub without-absent : (x : ℕ) (xs : List ℕ) → ((k : ℕ) → k < length xs → get_or xs k 0 ≢ x) → without x xs ≡ xs
+pub without-absent : (x : ℕ) (xs : List ℕ) → ((k : ℕ) → k < length xs → get_or xs k 0 ≢ x) → without_one x xs ≡ xs
 without-absent x [] none = refl
 without-absent x (y ∷ ys) none =
     let other : (x == y) ≡ false = eqb_other x y (none 0 (omega arith)) in
-    let rest : without x ys ≡ ys = without-absent x ys (λ k l. none (suc k) (omega (arith, l))) in
+    let rest : without_one x ys ≡ ys = without-absent x ys (λ k l. none (suc k) (omega (arith, l))) in
     rw (other, rest) refl
 
 pub get_or-numbers_of : (ids : List SystemId) (i : ℕ) (d : SystemId) → i < length ids → get_or (numbers_of ids) i 0 ≡ (get_or ids i d).0

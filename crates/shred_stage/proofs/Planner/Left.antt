@@ -3,7 +3,7 @@ use Rattle.std.proofs.Common.{◌≡◌, ℕ, ◌+◌, ◌<◌, List, [], ◌∷
 use Rattle.std.specs.List.{flat_map}
 use Rattle.std.proofs.lemmas.Grind.{flat_map-append}
 use Rattle.std.proofs.lemmas.List.{map-append, take-append-drop, append-nil}
-use Rattle.shred_stage.specs.Placement.{without, difference}
+use Rattle.shred_stage.specs.Placement.{without_one, difference}
 use Rattle.shred_stage.proofs.Planner.Touching.{read_more}
 
 pub difference-nil : (ys : List ℕ) → difference [] ys ≡ []
@@ -12,7 +12,7 @@ difference-nil (y ∷ ys) = difference-nil ys
 
 pub difference-append : (xs ys zs : List ℕ) → difference xs (ys ++ zs) ≡ difference (difference xs ys) zs
 difference-append xs [] zs = refl
-difference-append xs (y ∷ ys) zs = difference-append (without y xs) ys zs
+difference-append xs (y ∷ ys) zs = difference-append (without_one y xs) ys zs
 
 -- f reads the ids of an item as the walk sees it, and the walk has read i items
 pub left_more : {X Y : Type 0} (f : X → Y) (ids : Y → List ℕ) (xs : List X) (i : ℕ) (x : X) (start now next : List ℕ) → i < length xs → x ≡ get_or xs i x

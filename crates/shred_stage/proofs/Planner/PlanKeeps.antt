@@ -48,13 +48,13 @@ plan_when_refused (Ok done) stages k new is = tt
 plan_when_refused (Err e) stages k new is = rw (map-set stage_plan stages k new, is) (set-get_or (plan_of stages) k [])
 
 -- where a new group was found to go, no group conflicts
-pub found_group_free : {I : Type 0} (plan : model.Plan I) (barrier start : ℕ) (dependencies : List ℕ) (entry : model.Entry I) (k : ℕ) → PlaceIs plan barrier start dependencies entry (Some (k, NewGroup))
+pub found_group_free : {I : Type 0} (plan : model.Plan I) (barrier start : ℕ) (dependencies : List ℕ) (entry : model.PlanEntry I) (k : ℕ) → PlaceIs plan barrier start dependencies entry (Some (k, NewGroup))
     → (k < length plan) × All (λ group. Conflicts (group_access group) entry.access → ⊥) (get_or plan k [])
 found_group_free plan barrier start dependencies entry k found =
     (slice_get_within plan k found.2 found.3, rw (get_or_from_slice_get plan k found.2 [] found.3) found.4.no_conflict)
 
 -- a group that was found to take the entry has room, and the others do not conflict
-pub found_end_fits : {I : Type 0} (plan : model.Plan I) (barrier start : ℕ) (dependencies : List ℕ) (entry : model.Entry I) (k g : ℕ) → PlaceIs plan barrier start dependencies entry (Some (k, EndOf g))
+pub found_end_fits : {I : Type 0} (plan : model.Plan I) (barrier start : ℕ) (dependencies : List ℕ) (entry : model.PlanEntry I) (k g : ℕ) → PlaceIs plan barrier start dependencies entry (Some (k, EndOf g))
     → record { within : k < length plan; within_stage : g < length (get_or plan k []); room : length (get_or (get_or plan k []) g []) < 4; others : OthersDoNotConflict (get_or plan k []) g entry.access }
 found_end_fits plan barrier start dependencies entry k g found =
     let stage : get_or plan k [] ≡ found.2 = get_or_from_slice_get plan k found.2 [] found.3 in
@@ -67,12 +67,12 @@ found_end_fits plan barrier start dependencies entry k g found =
       others = rw stage (λ h other at ne conflict. admits.only_touched h other at ne (inl conflict));
     }
 
-pub placed_in_new_group : {I : Type 0} (plan placed : model.Plan I) (barrier start : ℕ) (dependencies : List ℕ) (entry : model.Entry I) (k : ℕ) → PlaceIs plan barrier start dependencies entry (Some (k, NewGroup))
+pub placed_in_new_group : {I : Type 0} (plan placed : model.Plan I) (barrier start : ℕ) (dependencies : List ℕ) (entry : model.PlanEntry I) (k : ℕ) → PlaceIs plan barrier start dependencies entry (Some (k, NewGroup))
     → placed ≡ set plan k (get_or plan k [] ++ (entry ∷ []) ∷ []) → IsPlaced plan barrier start dependencies entry placed
 placed_in_new_group plan placed barrier start dependencies entry k found is =
     in_new_group k found.2 found.0 found.3 found.1 found.4 (is ∙ ap (λ stage. set plan k (stage ++ (entry ∷ []) ∷ [])) (get_or_from_slice_get plan k found.2 [] found.3))
 
-pub placed_at_end : {I : Type 0} (plan placed : model.Plan I) (barrier start : ℕ) (dependencies : List ℕ) (entry : model.Entry I) (k g : ℕ) → PlaceIs plan barrier start dependencies entry (Some (k, EndOf g))
+pub placed_at_end : {I : Type 0} (plan placed : model.Plan I) (barrier start : ℕ) (dependencies : List ℕ) (entry : model.PlanEntry I) (k g : ℕ) → PlaceIs plan barrier start dependencies entry (Some (k, EndOf g))
     → placed ≡ set plan k (set (get_or plan k []) g (get_or (get_or plan k []) g [] ++ entry ∷ [])) → IsPlaced plan barrier start dependencies entry placed
 placed_at_end plan placed barrier start dependencies entry k g found is =
     let stage : get_or plan k [] ≡ found.2 = get_or_from_slice_get plan k found.2 [] found.3 in
@@ -81,12 +81,12 @@ placed_at_end plan placed barrier start dependencies entry k g found is =
     (is ∙ ap (λ stage. set plan k (set stage g (get_or stage g [] ++ entry ∷ []))) stage ∙ ap (λ group. set plan k (set found.2 g (group ++ entry ∷ []))) group)
 
 -- the search over the list that was copied answered this place
-pub known_place : {I : Type 0} (plan : model.Plan I) (barrier start : ℕ) (copied dependencies : List ℕ) (entry : model.Entry I) (answer : Option (ℕ × Spot)) (k : ℕ) (found spot : Spot)
+pub known_place : {I : Type 0} (plan : model.Plan I) (barrier start : ℕ) (copied dependencies : List ℕ) (entry : model.PlanEntry I) (answer : Option (ℕ × Spot)) (k : ℕ) (found spot : Spot)
     → PlaceIs plan barrier start copied entry answer → copied ≡ dependencies → answer ≡ Some (k, found) → found ≡ spot → PlaceIs plan barrier start dependencies entry (Some (k, spot))
 known_place plan barrier start copied dependencies entry answer k found spot is same e f =
     subst (λ s. PlaceIs plan barrier start dependencies entry (Some (k, s))) f (subst (λ a. PlaceIs plan barrier start dependencies entry a) e (subst (λ ids. PlaceIs plan barrier start ids entry answer) same is))
 
-pub known_none : {I : Type 0} (plan : model.Plan I) (barrier start : ℕ) (copied dependencies : List ℕ) (entry : model.Entry I) (answer : Option (ℕ × Spot))
+pub known_none : {I : Type 0} (plan : model.Plan I) (barrier start : ℕ) (copied dependencies : List ℕ) (entry : model.PlanEntry I) (answer : Option (ℕ × Spot))
     → PlaceIs plan barrier start copied entry answer → copied ≡ dependencies → answer ≡ None → NoneAdmits plan barrier start dependencies entry (length plan)
 known_none plan barrier start copied dependencies entry answer is same e =
     subst (λ a. PlaceIs plan barrier start dependencies entry a) e (subst (λ ids. PlaceIs plan barrier start ids entry answer) same is)

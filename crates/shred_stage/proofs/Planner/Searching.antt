@@ -6,7 +6,7 @@ use Rattle.std.proofs.lemmas.Bool.{cases_eq}
 use Rattle.std.proofs.lemmas.Grind.{flat_map-append}
 use Rattle.std.proofs.lemmas.List.{take_more, get_or-drop, append-nil, length-map, get_or-map}
 use Rattle.std.proofs.lemmas.Option.{slice_get_within, get_or_from_slice_get, slice_get-get_or, slice_get-map}
-use Rattle.shred_model.specs.Plan.{Entry, Stage, Plan, stage_ids, plan_ids}
+use Rattle.shred_model.specs.Plan.{PlanEntry, Stage, Plan, stage_ids, plan_ids}
 use Rattle.shred_stage.specs.Placement.{difference, dependencies_left, Admits, NoneAdmits}
 use Rattle.shred_stage.specs.Search.{SpotIs, PlaceIs}
 use Rattle.shred_stage.specs.declared.dispatch.stage.Spot.{Spot}
@@ -36,13 +36,13 @@ left_next plan barrier dependencies k stage le at =
     ∙ ap (difference dependencies) (flat_map-append stage_ids (slice_range plan barrier k) (stage ∷ []) ∙ ap (λ ids. plan_ids (slice_range plan barrier k) ++ ids) (append-nil (stage_ids stage)))
     ∙ difference-append dependencies (plan_ids (slice_range plan barrier k)) (stage_ids stage)
 
-pub none_admits_first : {I : Type 0} (plan : Plan I) (barrier start : ℕ) (dependencies : List ℕ) (entry : Entry I) → barrier ≤ start → NoneAdmits plan barrier start dependencies entry barrier
+pub none_admits_first : {I : Type 0} (plan : Plan I) (barrier start : ℕ) (dependencies : List ℕ) (entry : PlanEntry I) → barrier ≤ start → NoneAdmits plan barrier start dependencies entry barrier
 none_admits_first plan barrier start dependencies entry le = λ j stage from before at admits. omega arith
 
 same_stage : {X : Type 0} (xs : List X) (j k : ℕ) (x y : X) → j ≡ k → slice_get xs j ≡ Some x → slice_get xs k ≡ Some y → x ≡ y
 same_stage xs j k x y e at_j at_k = sym (get_or_from_slice_get xs j x x at_j) ∙ rw e (get_or_from_slice_get xs k y x at_k)
 
-pub none_admits_next : {I : Type 0} (plan : Plan I) (barrier start : ℕ) (dependencies : List ℕ) (entry : Entry I) (k : ℕ) (stage : Stage I) → NoneAdmits plan barrier start dependencies entry k → slice_get plan k ≡ Some stage
+pub none_admits_next : {I : Type 0} (plan : Plan I) (barrier start : ℕ) (dependencies : List ℕ) (entry : PlanEntry I) (k : ℕ) (stage : Stage I) → NoneAdmits plan barrier start dependencies entry k → slice_get plan k ≡ Some stage
     → (start ≤ k → Admits (dependencies_left plan barrier dependencies k) entry stage → ⊥) → NoneAdmits plan barrier start dependencies entry (k + 1)
 none_admits_next plan barrier start dependencies entry k stage none at not_here j other from before at_j admits =
     ⊎_elim
@@ -56,11 +56,11 @@ mapped_read f xs i x lt is =
     slice_get-get_or (map f xs) i (f x) (rw (length-map xs f) lt) ∙ ap (λ y. Some y) (get_or-map f xs i x (f x) lt ∙ ap f (sym is))
 
 -- what the search has come to, by what it has read
-pub found_place : {I : Type 0} (plan : Plan I) (barrier start : ℕ) (dependencies left : List ℕ) (entry : Entry I) (k : ℕ) (stage : Stage I) (spot : Spot) → start ≤ k → NoneAdmits plan barrier start dependencies entry k
+pub found_place : {I : Type 0} (plan : Plan I) (barrier start : ℕ) (dependencies left : List ℕ) (entry : PlanEntry I) (k : ℕ) (stage : Stage I) (spot : Spot) → start ≤ k → NoneAdmits plan barrier start dependencies entry k
     → slice_get plan k ≡ Some stage → left ≡ dependencies_left plan barrier dependencies k → SpotIs left entry stage (Some spot) → PlaceIs plan barrier start dependencies entry (Some (k, spot))
 found_place plan barrier start dependencies left entry k stage spot le none at there is = (le, none, stage, at, subst (λ ids. SpotIs ids entry stage (Some spot)) there is)
 
-pub none_yet : {I : Type 0} (plan : Plan I) (barrier start : ℕ) (dependencies left : List ℕ) (entry : Entry I) (k : ℕ) (stage : Stage I) → NoneAdmits plan barrier start dependencies entry k → slice_get plan k ≡ Some stage
+pub none_yet : {I : Type 0} (plan : Plan I) (barrier start : ℕ) (dependencies left : List ℕ) (entry : PlanEntry I) (k : ℕ) (stage : Stage I) → NoneAdmits plan barrier start dependencies entry k → slice_get plan k ≡ Some stage
     → left ≡ dependencies_left plan barrier dependencies k → (start ≤ k → Admits left entry stage → ⊥) → NoneAdmits plan barrier start dependencies entry (k + 1)
 none_yet plan barrier start dependencies left entry k stage none at there not_here = none_admits_next plan barrier start dependencies entry k stage none at (rw (← there) not_here)
 

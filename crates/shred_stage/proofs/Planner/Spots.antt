@@ -8,7 +8,7 @@ use Rattle.std.proofs.lemmas.Bool.Decides.{Decides-and, Decides-or, Decides-not,
 use Rattle.std.proofs.lemmas.List.{nil_from_length}
 use Rattle.std.proofs.lemmas.Option.{slice_get-get_or, slice_get_within, get_or_from_slice_get}
 use Rattle.shred_model.specs.Access.{Access, Conflicts}
-use Rattle.shred_model.specs.Plan.{Entry, Group, Stage, group_ids, group_access, group_time}
+use Rattle.shred_model.specs.Plan.{PlanEntry, Group, Stage, group_ids, group_access, group_time}
 use Rattle.shred_stage.specs.Placement.{greatest_time, IsTouched, Admits, AdmitsNewGroup, AdmitsAtEndOf, HoldsTheOneLeft}
 use Rattle.shred_stage.specs.Search.{is_touched, group_conflicts, waits_for_group, may_end, TouchedIs, SpotIs}
 use Rattle.shred_stage.specs.declared.dispatch.stage.Spot.{Spot}
@@ -29,7 +29,7 @@ waits-Decides same agrees left access group =
     (Decides-and (length left == 1) (not (group_conflicts same access group)) (Decides-eqb (length left) 1)
     (Decides-not (group_conflicts same access group) (group_conflicts-Decides same agrees access group)))
 
-may_end-Decides : {I : Type 0} (same : I → I → Bool) → Agrees same → (left : List ℕ) (entry : Entry I) (stage : Stage I) (group : Group I)
+may_end-Decides : {I : Type 0} (same : I → I → Bool) → Agrees same → (left : List ℕ) (entry : PlanEntry I) (stage : Stage I) (group : Group I)
     → Decides (may_end same left entry stage group) ((length group < 4) × (Waits left entry.access group × (entry.time < 2 * (greatest_time stage - group_time group))))
 may_end-Decides same agrees left entry stage group =
     Decides-and (nat_lt (length group) 4) (waits_for_group same left entry.access group && nat_lt entry.time (2 * (greatest_time stage - group_time group))) (Decides-ltb (length group) 4)
@@ -37,7 +37,7 @@ may_end-Decides same agrees left entry stage group =
     (Decides-ltb entry.time (2 * (greatest_time stage - group_time group))))
 
 -- a touched group that does not conflict holds the one id that is left
-the_one_held : {I : Type 0} (left : List ℕ) (entry : Entry I) (group : Group I) → IsTouched left entry.access group → length left ≡ 1 → (Conflicts (group_access group) entry.access → ⊥) → HoldsTheOneLeft left entry group
+the_one_held : {I : Type 0} (left : List ℕ) (entry : PlanEntry I) (group : Group I) → IsTouched left entry.access group → length left ≡ 1 → (Conflicts (group_access group) entry.access → ⊥) → HoldsTheOneLeft left entry group
 the_one_held [] entry group touched one free = absurd (omega (arith, one))
 the_one_held (id ∷ []) entry group touched one free =
     let any : Any (Contains (id ∷ [])) (group_ids group) = ⊎_elim (λ c. absurd (free c)) (λ a. a) touched in
@@ -45,36 +45,36 @@ the_one_held (id ∷ []) entry group touched one free =
     (id, refl, rw same (any.0, any.2, any.3), free)
 the_one_held (id ∷ other ∷ more) entry group touched one free = absurd (omega (arith, one))
 
-dependencies_of : {I : Type 0} (left : List ℕ) (entry : Entry I) (group : Group I) → IsTouched left entry.access group → Waits left entry.access group → (left ≡ []) ⊎ HoldsTheOneLeft left entry group
+dependencies_of : {I : Type 0} (left : List ℕ) (entry : PlanEntry I) (group : Group I) → IsTouched left entry.access group → Waits left entry.access group → (left ≡ []) ⊎ HoldsTheOneLeft left entry group
 unfolding Waits
 dependencies_of left entry group touched waits = ⊎_elim (λ e. inl e) (λ w. inr (the_one_held left entry group touched w.0 w.1)) waits
 
-waits_of : {I : Type 0} (left : List ℕ) (entry : Entry I) (group : Group I) → (left ≡ []) ⊎ HoldsTheOneLeft left entry group → Waits left entry.access group
+waits_of : {I : Type 0} (left : List ℕ) (entry : PlanEntry I) (group : Group I) → (left ≡ []) ⊎ HoldsTheOneLeft left entry group → Waits left entry.access group
 unfolding Waits
 waits_of left entry group dependencies = ⊎_elim (λ e. inl e) (λ h. inr (ap length h.1, h.3)) dependencies
 
 -- a stage with a touched group admits no new group
-touched_bars : {I : Type 0} (left : List ℕ) (entry : Entry I) (stage : Stage I) (g : ℕ) (group : Group I) → slice_get stage g ≡ Some group → IsTouched left entry.access group → AdmitsNewGroup left entry stage → ⊥
+touched_bars : {I : Type 0} (left : List ℕ) (entry : PlanEntry I) (stage : Stage I) (g : ℕ) (group : Group I) → slice_get stage g ≡ Some group → IsTouched left entry.access group → AdmitsNewGroup left entry stage → ⊥
 touched_bars left entry stage g group at touched new =
     ⊎_elim
     (λ c. new.no_conflict g group (slice_get_within stage g group at) (rw (get_or_from_slice_get stage g group group at) c))
     (λ any. Contains-nil any.1 (let h : Contains left any.1 = any.4 in rw new.none_left at h))
     touched
 
-pub admits_new_group : {I : Type 0} (same : I → I → Bool) → Agrees same → (left : List ℕ) (entry : Entry I) (stage : Stage I) → TouchedIs (is_touched same left entry.access) stage Nothing → left ≡ [] → AdmitsNewGroup left entry stage
+pub admits_new_group : {I : Type 0} (same : I → I → Bool) → Agrees same → (left : List ℕ) (entry : PlanEntry I) (stage : Stage I) → TouchedIs (is_touched same left entry.access) stage Nothing → left ≡ [] → AdmitsNewGroup left entry stage
 admits_new_group same agrees left entry stage none empty = record {
   none_left = empty;
   no_conflict = λ k d lt c. not_from_Decides (is_touched same left entry.access (get_or stage k d)) (is_touched-Decides same agrees left entry.access (get_or stage k d))
       (none k (get_or stage k d) (slice_get-get_or stage k d lt)) (inl c);
 }
 
-pub admits_not_while_left : {I : Type 0} (same : I → I → Bool) → Agrees same → (left : List ℕ) (entry : Entry I) (stage : Stage I) → TouchedIs (is_touched same left entry.access) stage Nothing → left ≢ [] → Admits left entry stage → ⊥
+pub admits_not_while_left : {I : Type 0} (same : I → I → Bool) → Agrees same → (left : List ℕ) (entry : PlanEntry I) (stage : Stage I) → TouchedIs (is_touched same left entry.access) stage Nothing → left ≢ [] → Admits left entry stage → ⊥
 admits_not_while_left same agrees left entry stage none some =
     ⊎_elim
     (λ new. some new.none_left)
     (λ at. not_from_Decides (is_touched same left entry.access at.1) (is_touched-Decides same agrees left entry.access at.1) (none at.0 at.1 at.2.stands) at.2.touched)
 
-pub admits_at_end : {I : Type 0} (same : I → I → Bool) → Agrees same → (left : List ℕ) (entry : Entry I) (stage : Stage I) (g : ℕ) → TouchedIs (is_touched same left entry.access) stage (One g)
+pub admits_at_end : {I : Type 0} (same : I → I → Bool) → Agrees same → (left : List ℕ) (entry : PlanEntry I) (stage : Stage I) (g : ℕ) → TouchedIs (is_touched same left entry.access) stage (One g)
     → may_end same left entry stage (get_or stage g []) ≡ true → (group : Group I) × AdmitsAtEndOf left entry stage g group
 admits_at_end {I} same agrees left entry stage g one may =
     let group : Group I = one.0 in
@@ -91,7 +91,7 @@ admits_at_end {I} same agrees left entry stage g one may =
       },
     )
 
-pub admits_not_at_end : {I : Type 0} (same : I → I → Bool) → Agrees same → (left : List ℕ) (entry : Entry I) (stage : Stage I) (g : ℕ) → TouchedIs (is_touched same left entry.access) stage (One g)
+pub admits_not_at_end : {I : Type 0} (same : I → I → Bool) → Agrees same → (left : List ℕ) (entry : PlanEntry I) (stage : Stage I) (g : ℕ) → TouchedIs (is_touched same left entry.access) stage (One g)
     → may_end same left entry stage (get_or stage g []) ≡ false → Admits left entry stage → ⊥
 admits_not_at_end {I} same agrees left entry stage g one may_not =
     let group : Group I = one.0 in
@@ -112,7 +112,7 @@ admits_not_at_end {I} same agrees left entry stage g one may_not =
     false_is_not : (b : Bool) → b ≡ false → b ≡ true → ⊥
     false_is_not b f t = cc
 
-pub admits_not_between : {I : Type 0} (same : I → I → Bool) → Agrees same → (left : List ℕ) (entry : Entry I) (stage : Stage I) → TouchedIs (is_touched same left entry.access) stage Several → Admits left entry stage → ⊥
+pub admits_not_between : {I : Type 0} (same : I → I → Bool) → Agrees same → (left : List ℕ) (entry : PlanEntry I) (stage : Stage I) → TouchedIs (is_touched same left entry.access) stage Several → Admits left entry stage → ⊥
 admits_not_between {I} same agrees left entry stage two =
     let first : IsTouched left entry.access two.2 = (is_touched-Decides same agrees left entry.access two.2).0 two.7 in
     let second : IsTouched left entry.access two.3 = (is_touched-Decides same agrees left entry.access two.3).0 two.8 in
@@ -131,12 +131,12 @@ false_is_not_true e = cc
 
 -- where a stage takes an entry, as the planner answers it
 
-pub spot_when_nothing : {I : Type 0} (same : I → I → Bool) → Agrees same → (left : List ℕ) (entry : Entry I) (stage : Stage I) → TouchedIs (is_touched same left entry.access) stage Nothing
+pub spot_when_nothing : {I : Type 0} (same : I → I → Bool) → Agrees same → (left : List ℕ) (entry : PlanEntry I) (stage : Stage I) → TouchedIs (is_touched same left entry.access) stage Nothing
     → (b : Bool) → b ≡ (length left == 0) → (answer : Option Spot) → answer ≡ then_some b NewGroup → SpotIs left entry stage answer
 spot_when_nothing same agrees left entry stage none true b answer is = rw is (admits_new_group same agrees left entry stage none (nil_from_length left (eqb_eq (length left) 0 (sym b))))
 spot_when_nothing same agrees left entry stage none false b answer is = rw is (admits_not_while_left same agrees left entry stage none (λ empty. false_is_not_true (b ∙ ap (λ ids. length ids == 0) empty)))
 
-pub spot_when_one : {I : Type 0} (same : I → I → Bool) → Agrees same → (left : List ℕ) (entry : Entry I) (stage : Stage I) (g : ℕ) → TouchedIs (is_touched same left entry.access) stage (One g)
+pub spot_when_one : {I : Type 0} (same : I → I → Bool) → Agrees same → (left : List ℕ) (entry : PlanEntry I) (stage : Stage I) (g : ℕ) → TouchedIs (is_touched same left entry.access) stage (One g)
     → (b : Bool) → b ≡ may_end same left entry stage (get_or stage g []) → (answer : Option Spot) → answer ≡ then_some b (EndOf g) → SpotIs left entry stage answer
 spot_when_one same agrees left entry stage g one true b answer is = rw is (admits_at_end same agrees left entry stage g one (sym b))
 spot_when_one same agrees left entry stage g one false b answer is = rw is (admits_not_at_end same agrees left entry stage g one (sym b))

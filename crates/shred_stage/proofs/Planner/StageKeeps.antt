@@ -12,21 +12,21 @@ use Rattle.shred_model.specs.Plan as model
 use Rattle.shred_model.specs.Plan.{group_access}
 use Rattle.shred_stage.specs.Hands.{KeepsRoom}
 use Rattle.shred_stage.specs.OwnLists.{IsOwnGroup}
-use Rattle.shred_stage.specs.PlanOf.{access_of, entry_plan, group_plan, groups_plan, KeepsIds}
+use Rattle.shred_stage.specs.PlanOf.{access_of, entry_plan, group_plan, groups_plan, HasEntryIds}
 use Rattle.shred_stage.specs.Search.{OthersDoNotConflict}
 use Rattle.shred_stage.specs.Soundness.{IsSmallGroup}
-use Rattle.shred_stage.specs.declared.dispatch.entry.Entry.{Entry}
+use Rattle.shred_stage.specs.declared.dispatch.entry.SystemEntry.{SystemEntry}
 use Rattle.shred_stage.specs.declared.dispatch.entry.Group.{Group}
 use Rattle.shred_stage.proofs.Planner.Apart.{AreApart-push, AreApart-set}
 
 -- what a stage keeps of its groups
 abbrev pub IsKeptBy : {V S : Type 0} → (reads writes : S → List ResourceId) → List (Group V S) → Type 0
-IsKeptBy reads writes groups = record { some_group : 0 < length groups; small_groups : All IsSmallGroup (groups_plan groups); apart : AreApart group_access (groups_plan groups); keep_ids : All KeepsIds groups; keep_room : All KeepsRoom groups; own_lists : All (IsOwnGroup reads writes) groups }
+IsKeptBy reads writes groups = record { some_group : 0 < length groups; small_groups : All IsSmallGroup (groups_plan groups); apart : AreApart group_access (groups_plan groups); keep_ids : All HasEntryIds groups; keep_room : All KeepsRoom groups; own_lists : All (IsOwnGroup reads writes) groups }
 
-single_is_small : {I : Type 0} (entry : model.Entry I) (group : model.Group I) → group ≡ entry ∷ [] → IsSmallGroup group
+single_is_small : {I : Type 0} (entry : model.PlanEntry I) (group : model.Group I) → group ≡ entry ∷ [] → IsSmallGroup group
 single_is_small entry group e = rw e (omega arith, omega arith)
 
-pub kept_after_group : {V S : Type 0} (reads writes : S → List ResourceId) (groups : List (Group V S)) (new : Group V S) (entry : Entry V S) → IsKeptBy reads writes groups → group_plan new ≡ entry_plan entry ∷ [] → KeepsIds new → KeepsRoom new → IsOwnGroup reads writes new
+pub kept_after_group : {V S : Type 0} (reads writes : S → List ResourceId) (groups : List (Group V S)) (new : Group V S) (entry : SystemEntry V S) → IsKeptBy reads writes groups → group_plan new ≡ entry_plan entry ∷ [] → HasEntryIds new → KeepsRoom new → IsOwnGroup reads writes new
     → All (λ group. Conflicts (group_access group) (access_of entry) → ⊥) (groups_plan groups) → IsKeptBy reads writes (groups ++ new ∷ [])
 kept_after_group {S} reads writes groups new entry kept single ids room own free =
     let plan : groups_plan (groups ++ new ∷ []) ≡ groups_plan groups ++ group_plan new ∷ [] = map_push group_plan groups new in
@@ -34,34 +34,34 @@ kept_after_group {S} reads writes groups new entry kept single ids room own free
       some_group = omega (arith, length_push groups new);
       small_groups = rw plan (All-push IsSmallGroup (groups_plan groups) (group_plan new) kept.small_groups (single_is_small (entry_plan entry) (group_plan new) single));
       apart = rw plan (rw single (AreApart-push (groups_plan groups) (entry_plan entry) kept.apart free));
-      keep_ids = All-push KeepsIds groups new kept.keep_ids ids;
+      keep_ids = All-push HasEntryIds groups new kept.keep_ids ids;
       keep_room = All-push KeepsRoom groups new kept.keep_room room;
       own_lists = All-push (IsOwnGroup reads writes) groups new kept.own_lists own;
     }
 
-pub kept_alone : {V S : Type 0} (reads writes : S → List ResourceId) (group : Group V S) (entry : Entry V S) (groups : List (Group V S)) → groups ≡ group ∷ [] → group_plan group ≡ entry_plan entry ∷ [] → KeepsIds group → KeepsRoom group
+pub kept_alone : {V S : Type 0} (reads writes : S → List ResourceId) (group : Group V S) (entry : SystemEntry V S) (groups : List (Group V S)) → groups ≡ group ∷ [] → group_plan group ≡ entry_plan entry ∷ [] → HasEntryIds group → KeepsRoom group
     → IsOwnGroup reads writes group → IsKeptBy reads writes groups
 kept_alone reads writes group entry groups e single ids room own = rw e (record {
   some_group = omega arith;
   small_groups = All-cons IsSmallGroup (group_plan group) [] (single_is_small (entry_plan entry) (group_plan group) single) (All-nil IsSmallGroup);
   apart = λ i j d lt within. absurd (omega (arith, lt, within));
-  keep_ids = All-cons KeepsIds group [] ids (All-nil KeepsIds);
+  keep_ids = All-cons HasEntryIds group [] ids (All-nil HasEntryIds);
   keep_room = All-cons KeepsRoom group [] room (All-nil KeepsRoom);
   own_lists = All-cons (IsOwnGroup reads writes) group [] own (All-nil (IsOwnGroup reads writes));
 })
 
-pub plan_after_group : {V S : Type 0} (groups now : List (Group V S)) (new : Group V S) (entry : model.Entry ResourceId) → now ≡ groups ++ new ∷ [] → group_plan new ≡ entry ∷ [] → groups_plan now ≡ groups_plan groups ++ (entry ∷ []) ∷ []
+pub plan_after_group : {V S : Type 0} (groups now : List (Group V S)) (new : Group V S) (entry : model.PlanEntry ResourceId) → now ≡ groups ++ new ∷ [] → group_plan new ≡ entry ∷ [] → groups_plan now ≡ groups_plan groups ++ (entry ∷ []) ∷ []
 plan_after_group groups now new entry e single = ap groups_plan e ∙ map_push group_plan groups new ∙ ap (λ g. groups_plan groups ++ g ∷ []) single
 
 -- a group with the entry at its end, where the push was done, and else as before
-abbrev pub IsPushed : {I E : Type 0} → Result (Unit {0}) E → model.Group I → model.Entry I → model.Group I → Type 0
+abbrev pub IsPushed : {I E : Type 0} → Result (Unit {0}) E → model.Group I → model.PlanEntry I → model.Group I → Type 0
 IsPushed result before entry after = OnOk result (after ≡ before ++ entry ∷ []) × OnErr result (after ≡ before)
 
-pushed_cases : {I E : Type 0} (result : Result (Unit {0}) E) (before after : model.Group I) (entry : model.Entry I) → IsPushed result before entry after → (after ≡ before ++ entry ∷ []) ⊎ (after ≡ before)
+pushed_cases : {I E : Type 0} (result : Result (Unit {0}) E) (before after : model.Group I) (entry : model.PlanEntry I) → IsPushed result before entry after → (after ≡ before ++ entry ∷ []) ⊎ (after ≡ before)
 pushed_cases (Ok done) before after entry h = inl h.0
 pushed_cases (Err e) before after entry h = inr h.1
 
-small_after : {I E : Type 0} (result : Result (Unit {0}) E) (before after : model.Group I) (entry : model.Entry I) → IsPushed result before entry after → IsSmallGroup before → length before < 4 → IsSmallGroup after
+small_after : {I E : Type 0} (result : Result (Unit {0}) E) (before after : model.Group I) (entry : model.PlanEntry I) → IsPushed result before entry after → IsSmallGroup before → length before < 4 → IsSmallGroup after
 small_after result before after entry pushed small room =
     ⊎_elim
     (λ e. let longer : length after ≡ length before + 1 = ap length e ∙ length_push before entry in (omega (arith, longer), omega (arith, longer, room)))
@@ -71,7 +71,7 @@ small_after result before after entry pushed small room =
 plan_after : {V S : Type 0} (groups : List (Group V S)) (g : ℕ) (new : Group V S) → groups_plan (set groups g new) ≡ set (groups_plan groups) g (group_plan new)
 plan_after groups g new = map-set group_plan groups g new
 
-apart_after : {I E : Type 0} (result : Result (Unit {0}) E) (stage : model.Stage I) (g : ℕ) (entry : model.Entry I) (after : model.Group I) → IsPushed result (get_or stage g []) entry after → g < length stage
+apart_after : {I E : Type 0} (result : Result (Unit {0}) E) (stage : model.Stage I) (g : ℕ) (entry : model.PlanEntry I) (after : model.Group I) → IsPushed result (get_or stage g []) entry after → g < length stage
     → AreApart group_access stage → OthersDoNotConflict stage g entry.access → AreApart group_access (set stage g after)
 apart_after result stage g entry after pushed within apart free =
     ⊎_elim
@@ -79,25 +79,25 @@ apart_after result stage g entry after pushed within apart free =
     (λ e. rw e (rw set-get_or apart))
     (pushed_cases result (get_or stage g []) after entry pushed)
 
-pub kept_after_entry : {V S E : Type 0} (reads writes : S → List ResourceId) (result : Result (Unit {0}) E) (groups : List (Group V S)) (g : ℕ) (new : Group V S) (entry : Entry V S) → IsKeptBy reads writes groups → g < length (groups_plan groups)
-    → length (get_or (groups_plan groups) g []) < 4 → OthersDoNotConflict (groups_plan groups) g (access_of entry) → IsPushed result (get_or (groups_plan groups) g []) (entry_plan entry) (group_plan new) → KeepsIds new → KeepsRoom new → IsOwnGroup reads writes new
+pub kept_after_entry : {V S E : Type 0} (reads writes : S → List ResourceId) (result : Result (Unit {0}) E) (groups : List (Group V S)) (g : ℕ) (new : Group V S) (entry : SystemEntry V S) → IsKeptBy reads writes groups → g < length (groups_plan groups)
+    → length (get_or (groups_plan groups) g []) < 4 → OthersDoNotConflict (groups_plan groups) g (access_of entry) → IsPushed result (get_or (groups_plan groups) g []) (entry_plan entry) (group_plan new) → HasEntryIds new → KeepsRoom new → IsOwnGroup reads writes new
     → IsKeptBy reads writes (set groups g new)
 kept_after_entry reads writes result groups g new entry kept within few free pushed ids room own = record {
   some_group = omega (arith, length-set groups g new, kept.some_group);
   small_groups = rw (plan_after groups g new) (All-set IsSmallGroup (groups_plan groups) g (group_plan new)
       (small_after result (get_or (groups_plan groups) g []) (group_plan new) (entry_plan entry) pushed (kept.small_groups g [] within) few) kept.small_groups);
   apart = rw (plan_after groups g new) (apart_after result (groups_plan groups) g (entry_plan entry) (group_plan new) pushed within kept.apart free);
-  keep_ids = All-set KeepsIds groups g new ids kept.keep_ids;
+  keep_ids = All-set HasEntryIds groups g new ids kept.keep_ids;
   keep_room = All-set KeepsRoom groups g new room kept.keep_room;
   own_lists = All-set (IsOwnGroup reads writes) groups g new own kept.own_lists;
 }
 
-pub plan_when_pushed : {V S E : Type 0} (result : Result (Unit {0}) E) (groups : List (Group V S)) (g : ℕ) (new : Group V S) (entry : model.Entry ResourceId) → IsPushed result (get_or (groups_plan groups) g []) entry (group_plan new)
+pub plan_when_pushed : {V S E : Type 0} (result : Result (Unit {0}) E) (groups : List (Group V S)) (g : ℕ) (new : Group V S) (entry : model.PlanEntry ResourceId) → IsPushed result (get_or (groups_plan groups) g []) entry (group_plan new)
     → OnOk result (groups_plan (set groups g new) ≡ set (groups_plan groups) g (get_or (groups_plan groups) g [] ++ entry ∷ []))
 plan_when_pushed (Ok done) groups g new entry pushed = rw (plan_after groups g new, pushed.0) refl
 plan_when_pushed (Err e) groups g new entry pushed = tt
 
-pub plan_when_refused : {V S E : Type 0} (result : Result (Unit {0}) E) (groups : List (Group V S)) (g : ℕ) (new : Group V S) (entry : model.Entry ResourceId) → IsPushed result (get_or (groups_plan groups) g []) entry (group_plan new)
+pub plan_when_refused : {V S E : Type 0} (result : Result (Unit {0}) E) (groups : List (Group V S)) (g : ℕ) (new : Group V S) (entry : model.PlanEntry ResourceId) → IsPushed result (get_or (groups_plan groups) g []) entry (group_plan new)
     → OnErr result (groups_plan (set groups g new) ≡ groups_plan groups)
 plan_when_refused (Ok done) groups g new entry pushed = tt
 plan_when_refused (Err e) groups g new entry pushed = rw (plan_after groups g new, pushed.1) (set-get_or (groups_plan groups) g [])

@@ -6,21 +6,21 @@ use Rattle.shred_model.specs.Plan as model
 use Rattle.shred_world.specs.declared.id.ResourceId.{ResourceId}
 use Rattle.shred_stage.specs.Hands.{KeepsRoom}
 use Rattle.shred_stage.specs.OwnLists.{IsOwnGroup}
-use Rattle.shred_stage.specs.PlanOf.{group_plan, group_numbers, groups_plan, KeepsIds}
+use Rattle.shred_stage.specs.PlanOf.{group_plan, group_numbers, groups_plan, HasEntryIds}
 use Rattle.shred_model.specs.Beside.{AreApart}
 use Rattle.shred_stage.specs.Soundness.{IsSmallGroup}
 use Rattle.shred_stage.proofs.Planner.StageKeeps.{IsKeptBy}
 use Rattle.shred_stage.specs.declared.dispatch.entry.Group.{Group}
 
-keeps_alike : {V S : Type 0} (x z : Group V S) → group_plan x ≡ group_plan z → group_numbers x ≡ group_numbers z → KeepsIds z → KeepsIds x
+keeps_alike : {V S : Type 0} (x z : Group V S) → group_plan x ≡ group_plan z → group_numbers x ≡ group_numbers z → HasEntryIds z → HasEntryIds x
 keeps_alike x z plan ids keep = ids ∙ keep ∙ ap model.group_ids (sym plan)
 
-ids_stay : {V S : Type 0} (new old : List (Group V S)) → map group_plan new ≡ map group_plan old → map group_numbers new ≡ map group_numbers old → All KeepsIds old → All KeepsIds new
+ids_stay : {V S : Type 0} (new old : List (Group V S)) → map group_plan new ≡ map group_plan old → map group_numbers new ≡ map group_numbers old → All HasEntryIds old → All HasEntryIds new
 ids_stay [] old plan ids keep = λ k d below. absurd (omega arith)
 ids_stay (x ∷ new) [] plan ids keep = cc
 ids_stay (x ∷ new) (z ∷ old) plan ids keep =
     at (keeps_alike x z (cc) (cc) (keep 0 z (omega arith))) (ids_stay new old (cc) (cc) (λ k d below. keep (suc k) d (omega arith))) where
-      at : KeepsIds x → All KeepsIds new → All KeepsIds (x ∷ new)
+      at : HasEntryIds x → All HasEntryIds new → All HasEntryIds (x ∷ new)
       at first rest zero d below = first
       at first rest (suc k) d below = rest k d (omega arith)
 

@@ -5,7 +5,7 @@ use Rattle.std.specs.List.{Contains, Any, list_any}
 use Rattle.std.specs.Prelude.{nat_eq}
 use Rattle.std.proofs.lemmas.Bool.Decides.{Decides-or, Decides-like, Decides-eqb}
 use Rattle.shred_model.specs.Access.{Access, Conflicts}
-use Rattle.shred_model.specs.Plan.{Entry, Group, group_ids, group_access}
+use Rattle.shred_model.specs.Plan.{PlanEntry, Group, group_ids, group_access}
 use Rattle.shred_stage.specs.Placement.{IsTouched}
 use Rattle.shred_stage.specs.Search.{share_item, accesses_conflict, group_conflicts, holds_any, is_touched}
 use Rattle.shred_stage.proofs.Planner.Membership.{Some_of, list_any_decides, Contains-flat_map, Contains-flat_map_cases}
@@ -39,7 +39,7 @@ accesses_conflict-Decides {I} same agrees a b =
     (Decides-or (share_item same a.writes b.reads) (share_item same a.reads b.writes) (share_item-Decides same agrees a.writes b.reads) (share_item-Decides same agrees a.reads b.writes)))
 
 -- a group conflicts where one of its entries does
-pub Conflicts-of_entry : {I : Type 0} (group : Group I) (e : Entry I) (access : Access I) → Contains group e → Conflicts e.access access → Conflicts (group_access group) access
+pub Conflicts-of_entry : {I : Type 0} (group : Group I) (e : PlanEntry I) (access : Access I) → Contains group e → Conflicts e.access access → Conflicts (group_access group) access
 Conflicts-of_entry group e access at s =
     let reads : Contains e.access.reads s.0 → Contains (group_access group).reads s.0 = Contains-flat_map (λ e. e.access.reads) group e s.0 at in
     let writes : Contains e.access.writes s.0 → Contains (group_access group).writes s.0 = Contains-flat_map (λ e. e.access.writes) group e s.0 at in

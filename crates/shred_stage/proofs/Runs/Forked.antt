@@ -18,11 +18,11 @@ use Rattle.shred_world.specs.Shown.{shown, HasOwnSlots, IsSameSlots}
 use Rattle.shred_world.specs.Slots.{slot_at, slot_held, held, among, or_slot}
 use Rattle.shred_world.proofs.Tables.Ids.{among-true, among-contains}
 use Rattle.shred_world.proofs.Parted.Pairs.{zip-get}
-use Rattle.shred_stage.specs.Hands.{KeepsRoom, IsSameButHand, WriteApart, Fits, IsBack, IsMovedOut, carried, is_single, HasPlace}
+use Rattle.shred_stage.specs.Hands.{KeepsRoom, IsSameButHand, WriteApart, FitsGroup, IsBack, IsMovedOut, carried, is_single, HasPlace}
 use Rattle.shred_stage.specs.Lanes.{IsReady}
 use Rattle.shred_stage.specs.OwnLists.{IsOwnEntry, IsOwnGroup}
 use Rattle.shred_stage.specs.PlanOf.{entry_plan, group_plan, groups_plan}
-use Rattle.shred_stage.specs.declared.dispatch.entry.Entry.{Entry}
+use Rattle.shred_stage.specs.declared.dispatch.entry.SystemEntry.{SystemEntry}
 use Rattle.shred_stage.specs.declared.dispatch.entry.Group.{Group}
 use Rattle.shred_stage.proofs.Runs.HandSlots.{room-of_empty, carried-held, back-held}
 use Rattle.shred_stage.proofs.Planner.Membership.{Contains-head, Contains-tail, Contains-flat_map}
@@ -53,19 +53,19 @@ module _ {V S : Type 0} where
       among-contains x.written.items q (subst (λ (ids : List ResourceId). Contains ids q) (sym room.same_writes)
       (Contains-flat_map (λ e. e.access.writes) (group_plan x) (get_or (group_plan x) k d) q (contains-at (group_plan x) k d below) (among-true (get_or (group_plan x) k d).access.writes q there)))
 
-  pub entry-writes : (x : Group V S) → KeepsRoom x → (k : ℕ) (d : Entry V S) → k < length x.entries.items → (q : ResourceId) → among (get_or x.entries.items k d).writes.items q ≡ true → among x.written.items q ≡ true
+  pub entry-writes : (x : Group V S) → KeepsRoom x → (k : ℕ) (d : SystemEntry V S) → k < length x.entries.items → (q : ResourceId) → among (get_or x.entries.items k d).writes.items q ≡ true → among x.written.items q ≡ true
   entry-writes x room k d below q there =
       written_by_group x room k (entry_plan d) (rw (length-map x.entries.items entry_plan) below) q (rw (get_or-map entry_plan x.entries.items k d (entry_plan d) below) there)
 
-  single_writes : (entries : List (Entry V S)) (k : ℕ) (d : Entry V S) → k < length entries → (length entries == 1) ≡ true → (q : ResourceId)
-      → among (flat_map (λ (e : model.Entry ResourceId). e.access.writes) (map entry_plan entries)) q ≡ among (get_or entries k d).writes.items q
+  single_writes : (entries : List (SystemEntry V S)) (k : ℕ) (d : SystemEntry V S) → k < length entries → (length entries == 1) ≡ true → (q : ResourceId)
+      → among (flat_map (λ (e : model.PlanEntry ResourceId). e.access.writes) (map entry_plan entries)) q ≡ among (get_or entries k d).writes.items q
   single_writes [] k d below one q = absurd (omega arith)
   single_writes (e ∷ []) zero d below one q = ap (λ ids. among ids q) (append-nil e.writes.items)
   single_writes (e ∷ []) (suc k) d below one q = absurd (omega arith)
   single_writes (e ∷ f ∷ rest) k d below one q = absurd (grind (arith, nat_tests))
 
   -- what the only entry of a group writes is what the group writes
-  pub single-writes : (x : Group V S) → KeepsRoom x → (k : ℕ) (d : Entry V S) → k < length x.entries.items → is_single x ≡ true → (q : ResourceId) → among (get_or x.entries.items k d).writes.items q ≡ among x.written.items q
+  pub single-writes : (x : Group V S) → KeepsRoom x → (k : ℕ) (d : SystemEntry V S) → k < length x.entries.items → is_single x ≡ true → (q : ResourceId) → among (get_or x.entries.items k d).writes.items q ≡ among x.written.items q
   single-writes x room k d below one q = sym (ap (λ ids. among ids q) room.same_writes ∙ single_writes x.entries.items k d below one q)
 
   -- what a group writes, its access writes
@@ -98,15 +98,15 @@ module _ {V : Type 0} (before after : Table V) (taken : ResourceId → Bool) (le
   -- a group whose values were moved out is ready to run
   pub is-ready : {S : Type 0} (reads writes : S → List ResourceId) (x y : Group V S) → KeepsRoom x → IsOwnGroup reads writes x → IsMovedOut before x y → IsReady reads writes (slot_at after) y
   is-ready {S} reads writes x y room own moved = record {
-    places = subst (λ (items : List (Entry V S)). All (HasPlace (length items == 1) y.hand) items) (ap (λ entries. entries.items) (sym moved.0.entries)) (λ k d below. at k d below (is_single x) refl);
-    own_lists = subst (λ (items : List (Entry V S)). All (IsOwnEntry reads writes) items) (ap (λ entries. entries.items) (sym moved.0.entries)) own;
+    places = subst (λ (items : List (SystemEntry V S)). All (HasPlace (length items == 1) y.hand) items) (ap (λ entries. entries.items) (sym moved.0.entries)) (λ k d below. at k d below (is_single x) refl);
+    own_lists = subst (λ (items : List (SystemEntry V S)). All (IsOwnEntry reads writes) items) (ap (λ entries. entries.items) (sym moved.0.entries)) own;
     own_slots = subst (λ plan. All (λ e. HasOwnSlots e.access.writes (slot_at after) y.hand) plan) (sym (same-plan x y moved.0)) (λ k d below q there none.
         absurd (let e = sym (there_is q (same-written x y moved.0 q ∙ written_by_group x room k d below q there)) ∙ ap is_some none in cc));
   } where
     there_is : (q : ResourceId) → among y.written.items q ≡ true → is_some (slot_at y.hand q) ≡ true
     there_is q there = ap is_some (moved.1 q) ∙ ap (λ (b : Bool). is_some (cond b (carried (slot_at before q)) None)) there
 
-    at : (k : ℕ) (d : Entry V S) → k < length x.entries.items → (single : Bool) → is_single x ≡ single → HasPlace single y.hand (get_or x.entries.items k d)
+    at : (k : ℕ) (d : SystemEntry V S) → k < length x.entries.items → (single : Bool) → is_single x ≡ single → HasPlace single y.hand (get_or x.entries.items k d)
     at k d below true one = λ q out.
         moved.1 q ∙ ap (λ (b : Bool). cond b (carried (slot_at before q)) None) (same-written x y moved.0 q ∙ sym (single-writes x room k d below one q) ∙ out)
     at k d below false several = λ q.
@@ -114,7 +114,7 @@ module _ {V : Type 0} (before after : Table V) (taken : ResourceId → Bool) (le
         room-of_empty (among e.writes.items q) (slot_at e.hand q) (slot_at y.hand q) (λ there. there_is q (same-written x y moved.0 q ∙ entry-writes x room k d below q there)) ((own k d below).hand q)
 
   -- after the run, its hand has the slots that it had
-  pub fits-after : {S : Type 0} (x y z : Group V S) → IsMovedOut before x y → IsSameSlots y.hand z.hand → z.written ≡ y.written → Fits z
+  pub fits-after : {S : Type 0} (x y z : Group V S) → IsMovedOut before x y → IsSameSlots y.hand z.hand → z.written ≡ y.written → FitsGroup z
   fits-after x y z moved slots written q =
       slots q ∙ ap is_some (moved.1 q) ∙ each (among y.written.items q) ∙ ap (λ ids. among ids.items q) (sym written) where
         each : (b : Bool) → is_some (cond b (carried (slot_at before q)) None) ≡ b
@@ -131,7 +131,7 @@ module _ {V : Type 0} (before after : Table V) (taken : ResourceId → Bool) (le
         rw is (ap (slot_held kind q) (sym (left q ∙ ap (λ (b : Bool). cond b (emptied (slot_at before q)) (slot_at before q)) (only e))))
 
   -- where the hand is put back, the table holds what was shown
-  pub puts : {S : Type 0} (kind : V → Kind) (end : Table V) (z : Group V S) → Fits z → IsBack after end z → (q : ResourceId) → among z.written.items q ≡ true → taken q ≡ true
+  pub puts : {S : Type 0} (kind : V → Kind) (end : Table V) (z : Group V S) → FitsGroup z → IsBack after end z → (q : ResourceId) → among z.written.items q ≡ true → taken q ≡ true
       → option_map kind (shown kind (slot_at after) z.hand q) ≡ option_map kind (held kind before q) → held kind end q ≡ shown kind (slot_at after) z.hand q
   puts kind end z fit back q there gone kinds =
       let is : slot_at after q ≡ emptied (slot_at before q) = left q ∙ ap (λ (b : Bool). cond b (emptied (slot_at before q)) (slot_at before q)) gone in

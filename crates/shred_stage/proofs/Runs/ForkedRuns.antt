@@ -23,11 +23,11 @@ use Rattle.shred_world.specs.Shown.{shown}
 use Rattle.shred_world.specs.Slots.{slot_at, slot_held, held, among}
 use Rattle.shred_world.proofs.Tables.Ids.{tell_ids}
 use Rattle.shred_world.proofs.Parted.Pairs.{zip-length}
-use Rattle.shred_stage.specs.declared.dispatch.entry.Entry.{Entry}
+use Rattle.shred_stage.specs.declared.dispatch.entry.SystemEntry.{SystemEntry}
 use Rattle.shred_stage.specs.declared.dispatch.entry.Group.{Group}
 use Rattle.shred_stage.specs.declared.dispatch.run.StageFault.{StageFault}
 use Rattle.shred_stage.specs.Entries.{GroupRun, StageRun, group_states}
-use Rattle.shred_stage.specs.Hands.{KeepsRoom, IsSameButHand, some_writes, Fits, IsBack, IsMovedOut, IsLeftEmpty, WriteApart}
+use Rattle.shred_stage.specs.Hands.{KeepsRoom, IsSameButHand, some_writes, FitsGroup, IsBack, IsMovedOut, IsLeftEmpty, WriteApart}
 use Rattle.shred_stage.specs.OwnLists.{IsOwnEntry, IsOwnGroup}
 use Rattle.shred_stage.specs.Lanes.{IsReady, GroupWent}
 use Rattle.shred_stage.specs.PlanOf.{group_plan, groups_plan, group_numbers, numbers_of}
@@ -67,7 +67,7 @@ module _ {V S : Type 0} where
   left-states xs ys zip = zip-states xs ys (zip-both IsLeftEmpty (λ x. ⊤) (λ x y. (p : Agent) → group_states y p ≡ group_states x p) (λ x y s any. states-left x y s.0) xs ys zip (λ k d below. tt))
 
   pub own-left : (reads writes : S → List ResourceId) (x y : Group V S) → IsLeftEmpty x y → IsOwnGroup reads writes x → IsOwnGroup reads writes y
-  own-left reads writes x y s own = subst (λ (items : List (Entry V S)). All (IsOwnEntry reads writes) items) (ap (λ entries. entries.items) (sym s.0.entries)) own
+  own-left reads writes x y s own = subst (λ (items : List (SystemEntry V S)). All (IsOwnEntry reads writes) items) (ap (λ entries. entries.items) (sym s.0.entries)) own
 
   pub room-left : (x y : Group V S) → IsLeftEmpty x y → x.written.items ≡ (group_access (group_plan x)).writes → KeepsRoom y
   room-left x y s says = record { same_writes = ap (λ written. written.items) s.0.written ∙ says ∙ ap (λ g. (group_access g).writes) (sym (same-plan x y s.0)); empty = s.1 }
@@ -131,7 +131,7 @@ module _ {V S E : Type 0} (kind : V → Kind) (step : Step V S E) (reads writes 
 
   -- The hand of a group that ran fits, its plan says what it writes, and the kinds of what it shows are those of what was held.
   record FitsStill (z : Group V S) : Type 0 where
-    fit : Fits z
+    fit : FitsGroup z
     its_writes : (i : ResourceId) → Contains (group_access (group_plan z)).writes i → among z.written.items i ≡ true
     its_kinds : (i : ResourceId) → among z.written.items i ≡ true → option_map kind (Seen z i) ≡ option_map kind (held kind before i)
 
@@ -148,7 +148,7 @@ module _ {V S E : Type 0} (kind : V → Kind) (step : Step V S E) (reads writes 
       let same : AllZip Same start ran = zip-both Ended KeepsRoom Same (λ x z e keeps q. ap (λ written. among written.items q) e.3.written ∙ same-written x e.0 e.1.0 q) start ran ended room in
       write-apart-same start ran same (sym (zip-length Same start ran same)) (write-apart start room apart)
 
-  pub forked-fits : All Fits ran
+  pub forked-fits : All FitsGroup ran
   forked-fits k d below = (fits k d below).fit
 
   module _ (end : Table V) (back : All (IsBack after end) ran) (others : (q : ResourceId) → some_writes ran q ≡ false → slot_at end q ≡ slot_at after q) where

@@ -12,7 +12,7 @@ use Rattle.shred_stage.specs.Entries.{EntryRun, GroupRun, StageRun}
 use Rattle.shred_stage.specs.Plans.{StageTurn}
 
 module _ {V S E : Type 0} (kind : V → Kind) (step : Step V S E) where
-  entry_framed : (place : ℕ) (entry : model.Entry ResourceId) (list : List (Written V S E)) (a : Answer (StageFault E)) → EntryRun kind step place entry list a → AllFramed list
+  entry_framed : (place : ℕ) (entry : model.PlanEntry ResourceId) (list : List (Written V S E)) (a : Answer (StageFault E)) → EntryRun kind step place entry list a → AllFramed list
   entry_framed place entry list a (r, is, at, one, answer) = AllByRecursion-same IsFramed list (r ∷ []) is (one.frame, tt)
 
   group_framed : (place : ℕ) (group : model.Group ResourceId) (list : List (Written V S E)) (a : Answer (StageFault E)) → GroupRun kind step place group list a → AllFramed list

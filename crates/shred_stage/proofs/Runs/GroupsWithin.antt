@@ -13,7 +13,7 @@ use Rattle.shred_stage.specs.Steps.{Step, Written}
 use Rattle.shred_stage.specs.Entries.{EntryRun, GroupRun}
 
 module _ {V S E : Type 0} (kind : V → Kind) (step : Step V S E) where
-  entry-within : (place : ℕ) (entry : model.Entry ResourceId) (list : List (Written V S E)) (a : Answer (StageFault E)) → EntryRun kind step place entry list a → AllByRecursion (IsWithin entry.access) list
+  entry-within : (place : ℕ) (entry : model.PlanEntry ResourceId) (list : List (Written V S E)) (a : Answer (StageFault E)) → EntryRun kind step place entry list a → AllByRecursion (IsWithin entry.access) list
   entry-within place entry list a (r, is, at, one, answer) = AllByRecursion-same (IsWithin entry.access) list (r ∷ []) is (
     record {
       framed = one.frame;
@@ -24,4 +24,4 @@ module _ {V S E : Type 0} (kind : V → Kind) (step : Step V S E) where
   )
 
   pub group-within : (group : model.Group ResourceId) (list : List (Written V S E)) (a : Answer (StageFault E)) → GroupRun kind step 0 group list a → AllByRecursion (IsWithin (model.group_access group)) list
-  group-within group list a run = RunsUpToFault-within (λ (e : model.Entry ResourceId). e.access) (EntryRun kind step) entry-within 0 group list a run
+  group-within group list a run = RunsUpToFault-within (λ (e : model.PlanEntry ResourceId). e.access) (EntryRun kind step) entry-within 0 group list a run

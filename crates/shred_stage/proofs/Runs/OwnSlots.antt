@@ -26,7 +26,7 @@ planned_here {X} {Y} view P now old i x below same all =
     subst P (get_or-map view now i x (view x) below) (each i (view x) (let e = length-map now view in omega arith))
 
 -- an entry's written slots, after other entries ran
-pub own_slots-here : {V X : Type 0} (view : X → model.Entry ResourceId) (lent : Lent V) (old new : Table V) (now before : List X) (i : ℕ) (x : X) → i < length now → map view now ≡ map view before → IsSameSlots old new
+pub own_slots-here : {V X : Type 0} (view : X → model.PlanEntry ResourceId) (lent : Lent V) (old new : Table V) (now before : List X) (i : ℕ) (x : X) → i < length now → map view now ≡ map view before → IsSameSlots old new
     → HasGroupSlots lent old (map view before) → HasOwnSlots (view (get_or now i x)).access.writes lent new
 own_slots-here view lent old new now before i x below same slots has =
     own_slots-kept lent old new slots (view (get_or now i x)).access.writes (planned_here view (λ e. HasOwnSlots e.access.writes lent old) now before i x below same has)

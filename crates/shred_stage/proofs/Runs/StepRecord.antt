@@ -27,7 +27,7 @@ declared_of-declared a held id (inr w) = rw (among-contains a.writes id w) (eith
 declared_of-other : {V : Type 0} (a : Access ResourceId) (held : Held V) (id : ResourceId) → (Declares a id → ⊥) → declared_of a held id ≡ None
 declared_of-other a held id out = rw (among-false a.reads id (λ r. out (inl r)), among-false a.writes id (λ w. out (inr w))) refl
 
-module _ {V S E : Type 0} (kind : V → Kind) (step : Step V S E) (entry : model.Entry ResourceId) (s t : S) (x y : Held V) (o : Outcome E)
+module _ {V S E : Type 0} (kind : V → Kind) (step : Step V S E) (entry : model.PlanEntry ResourceId) (s t : S) (x y : Held V) (o : Outcome E)
     (lies : step s (declared_of entry.access x) o t (declared_of entry.access y))
     (kinds : (id : ResourceId) → option_map kind (y id) ≡ option_map kind (x id))
     (frame : (id : ResourceId) → among entry.access.writes id ≡ false → y id ≡ x id) where

@@ -4,8 +4,8 @@ ghost use Rattle.shred_model.specs.Plan.{group_ids, group_time};
 ghost use Rattle.shred_world.specs.Id.{same_id};
 ghost use Rattle.shred_world.specs.Parting.{IsEmptyHand};
 ghost use Rattle.shred_stage.specs.Hands.{KeepsRoom};
-ghost use Rattle.shred_stage.specs.PlanOf.{access_of, entry_plan, group_plan, numbers_of, KeepsIds};
-ghost use Rattle.shred_stage.specs.Placement.{difference, without};
+ghost use Rattle.shred_stage.specs.PlanOf.{access_of, entry_plan, group_plan, numbers_of, HasEntryIds};
+ghost use Rattle.shred_stage.specs.Placement.{difference, without_one};
 ghost use Rattle.shred_stage.specs.Sides.{side_of, group_side};
 ghost use Rattle.shred_stage.specs.Search.{share_item, accesses_conflict, group_conflicts, holds_any, is_touched};
 
@@ -39,7 +39,7 @@ pub(crate) enum Side {
 /// A system, with what was kept of it when it was placed, and a slot for each id that it writes, into which the value is
 /// moved while the system runs, where its group has other entries.
 #[derive(Drop)]
-pub(crate) struct Entry<V, S> {
+pub(crate) struct SystemEntry<V, S> {
     pub(crate) id: SystemId,
     pub(crate) reads: Vec<ResourceId>,
     pub(crate) writes: Vec<ResourceId>,
@@ -53,7 +53,7 @@ pub(crate) struct Entry<V, S> {
 #[derive(Drop)]
 pub(crate) struct Group<V, S> {
     pub(crate) ids: ArrayVec<SystemId, 4>,
-    pub(crate) entries: Vec<Entry<V, S>>,
+    pub(crate) entries: Vec<SystemEntry<V, S>>,
     pub(crate) written: Vec<ResourceId>,
     pub(crate) hand: Table<V>,
 }
@@ -64,7 +64,7 @@ fn shares_resource(first: &Vec<ResourceId>, second: &Vec<ResourceId>) -> bool
     check_intersection(first.as_slice(), second.as_slice())
 }
 
-impl<V, S> Entry<V, S> {
+impl<V, S> SystemEntry<V, S> {
     /// One of the two kept lists.
     fn side(&self, side: Side) -> &[ResourceId]
         ensures { result.now ≡ side_of side (access_of self.now) }
@@ -76,7 +76,7 @@ impl<V, S> Entry<V, S> {
     }
 
     /// Whether one entry writes what the other reads or writes.
-    pub(crate) fn conflicts(&self, other: &Entry<V, S>) -> bool
+    pub(crate) fn conflicts(&self, other: &SystemEntry<V, S>) -> bool
         ensures { result ≡ accesses_conflict same_id (access_of self.now) (access_of other.now) }
     {
         shares_resource(&self.writes, &other.writes)
@@ -87,7 +87,7 @@ impl<V, S> Entry<V, S> {
 
 impl<V, S> Group<V, S> {
     /// Whether an entry of the group conflicts with this one.
-    pub(crate) fn conflicts(&self, entry: &Entry<V, S>) -> bool
+    pub(crate) fn conflicts(&self, entry: &SystemEntry<V, S>) -> bool
         ensures { result ≡ group_conflicts same_id (access_of entry.now) (group_plan self.now) }
     {
         for member in &self.entries {
@@ -100,15 +100,15 @@ impl<V, S> Group<V, S> {
 
     /// Whether the group holds one of these ids.
     fn holds_any(&self, ids: &[SystemId]) -> bool
-        requires { KeepsIds self.now }
+        requires { HasEntryIds self.now }
         ensures { result ≡ holds_any (numbers_of ids.now) (group_plan self.now) }
     {
         !ids.is_empty() && check_intersection(self.ids.as_slice(), ids)
     }
 
     /// Whether the entry has to come after this group: they conflict, or the group holds an id that is left.
-    pub(crate) fn is_touched(&self, left: &[SystemId], entry: &Entry<V, S>) -> bool
-        requires { KeepsIds self.now }
+    pub(crate) fn is_touched(&self, left: &[SystemId], entry: &SystemEntry<V, S>) -> bool
+        requires { HasEntryIds self.now }
         ensures { result ≡ is_touched same_id (numbers_of left.now) (access_of entry.now) (group_plan self.now) }
     {
         self.holds_any(left) || self.conflicts(entry)
@@ -128,12 +128,12 @@ impl<V, S> Group<V, S> {
     }
 
     /// A group of one entry.
-    pub(crate) fn new(alloc: Global, entry: Entry<V, S>) -> Result<Self, OutOfMemory>
+    pub(crate) fn new(alloc: Global, entry: SystemEntry<V, S>) -> Result<Self, OutOfMemory>
     where
         V: Drop,
         S: Drop,
         ensures plan { IfOk result (λ group. group_plan group ≡ entry_plan entry ∷ []) }
-        ensures ids { IfOk result KeepsIds }
+        ensures ids { IfOk result HasEntryIds }
         ensures entries { IfOk result (λ group. group.entries.items ≡ entry ∷ []) }
         ensures room { IfOk result KeepsRoom }
     {
@@ -179,16 +179,16 @@ impl<V, S> Group<V, S> {
     }
 
     /// Puts the entry at the group's end.
-    pub(crate) fn push(&mut self, entry: Entry<V, S>) -> Result<(), OutOfMemory>
+    pub(crate) fn push(&mut self, entry: SystemEntry<V, S>) -> Result<(), OutOfMemory>
     where
         V: Drop,
         S: Drop,
         requires few { length self.old.entries.items < 4 }
-        requires ids { KeepsIds self.old }
+        requires ids { HasEntryIds self.old }
         requires room { KeepsRoom self.old }
         ensures ok { OnOk result (group_plan self.new ≡ group_plan self.old ++ entry_plan entry ∷ []) }
         ensures err { OnErr result (group_plan self.new ≡ group_plan self.old) }
-        ensures ids { KeepsIds self.new }
+        ensures ids { HasEntryIds self.new }
         ensures added { OnOk result (self.new.entries.items ≡ self.old.entries.items ++ entry ∷ []) }
         ensures unchanged { OnErr result (self.new.entries.items ≡ self.old.entries.items) }
         ensures room { KeepsRoom self.new }
@@ -223,7 +223,7 @@ impl<V, S> Group<V, S> {
 
     /// Takes out of the list, for each of the group's ids, one that equals it.
     pub(crate) fn take_ids(&self, left: &mut SmallVec<SystemId, 4>)
-        requires { KeepsIds self.now }
+        requires { HasEntryIds self.now }
         ensures { numbers_of left.new.items ≡ difference (numbers_of left.old.items) (group_ids (group_plan self.now)) }
     {
         for id in self.ids.as_slice() {
@@ -233,7 +233,7 @@ impl<V, S> Group<V, S> {
 }
 
 fn take_id(left: &mut SmallVec<SystemId, 4>, id: SystemId)
-    ensures { numbers_of left.new.items ≡ without id.0 (numbers_of left.old.items) }
+    ensures { numbers_of left.new.items ≡ without_one id.0 (numbers_of left.old.items) }
 {
     if let Some(place) = place_of(left.as_slice(), id) {
         left.remove(place);
@@ -243,8 +243,8 @@ fn take_id(left: &mut SmallVec<SystemId, 4>, id: SystemId)
 /// The first place of the id in the list, if it stands there.
 fn place_of(ids: &[SystemId], id: SystemId) -> Option<usize>
     ensures within { IfSome result (λ place. place < length ids.now) }
-    ensures found { IfSome result (λ place. without id.0 (numbers_of ids.now) ≡ remove (numbers_of ids.now) place) }
-    ensures absent { IfNone result (without id.0 (numbers_of ids.now) ≡ numbers_of ids.now) }
+    ensures found { IfSome result (λ place. without_one id.0 (numbers_of ids.now) ≡ remove (numbers_of ids.now) place) }
+    ensures absent { IfNone result (without_one id.0 (numbers_of ids.now) ≡ numbers_of ids.now) }
 {
     for (place, other) in ids.iter().enumerate() {
         if *other == id {

@@ -4,7 +4,7 @@ ghost use Rattle.std.specs.List.{AllZip};
 ghost use Rattle.shred_world.specs.Parting.{emptied, given, slot_value};
 ghost use Rattle.shred_world.specs.Slots.{slot_at, among};
 ghost use Rattle.shred_world.specs.declared.id.ResourceId.{ResourceId};
-ghost use Rattle.shred_stage.specs.Hands.{HasEmptyHand, WriteApart, some_writes, Fits, IsBack, IsMovedOut, IsLeftEmpty};
+ghost use Rattle.shred_stage.specs.Hands.{HasEmptyHand, WriteApart, some_writes, FitsGroup, IsBack, IsMovedOut, IsLeftEmpty};
 
 use crate::dispatch::entry::Group;
 use shred_world::Table;
@@ -22,7 +22,7 @@ impl<V: Drop, S> Group<V, S> {
 
     // Moves what is in the group's hand back.
     fn move_back(&mut self, table: &mut Table<V>)
-        requires { Fits self.old }
+        requires { FitsGroup self.old }
         ensures hand { IsLeftEmpty self.old self.new }
         ensures back { (q : ResourceId) → slot_at table.new q ≡ cond (among self.old.written.items q) (given (slot_value (slot_at self.old.hand q)) (slot_at table.old q)) (slot_at table.old q) }
     {
@@ -45,7 +45,7 @@ pub(crate) fn move_all_out<V: Drop, S>(groups: &mut [Group<V, S>], table: &mut T
 // Moves what is in the groups' hands back into the slots that it left.
 pub(crate) fn move_all_back<V: Drop, S>(groups: &mut [Group<V, S>], table: &mut Table<V>)
     requires apart { WriteApart groups.old }
-    requires fit { All Fits groups.old }
+    requires fit { All FitsGroup groups.old }
     ensures hands { AllZip IsLeftEmpty groups.old groups.new }
     ensures back { All (IsBack table.old table.new) groups.old }
     ensures others { (q : ResourceId) → some_writes groups.old q ≡ false → slot_at table.new q ≡ slot_at table.old q }

@@ -4,7 +4,7 @@ ghost use Rattle.std.specs.List.{flat_map};
 ghost use Rattle.std.specs.Option.{option_map};
 ghost use Rattle.shred_model.specs.Plan.{plan_ids, stage_ids};
 ghost use Rattle.shred_stage.specs.BuilderPlan.{planned};
-ghost use Rattle.shred_stage.specs.Names.{first_unnamed, least_name, lesser, pairs_of};
+ghost use Rattle.shred_stage.specs.Names.{first_unnamed, least_name, lesser, named_ids};
 ghost use Rattle.shred_stage.specs.PlanOf.{numbers_of};
 ghost use Rattle.shred_stage.specs.Printed.{cleaned, group_text, ids_text, plan_text, printed_name, stage_text, system_line};
 ghost use Rattle.shred_stage.specs.Prints.{IsPrinted};
@@ -46,7 +46,7 @@ pub(crate) fn least_name<'name>(
     names: &'name HashMap<String, SystemId>,
     id: SystemId,
 ) -> Option<&'name str>
-    ensures { option_copied result ≡ least_name (pairs_of names.now) id.0 }
+    ensures { option_copied result ≡ least_name (named_ids names.now) id.0 }
 {
     let mut best: Option<&str> = None;
     for (name, other) in names.iter() {
@@ -59,7 +59,7 @@ pub(crate) fn least_name<'name>(
 
 // The first of these ids that no name stands for.
 fn first_unnamed_of(ids: &[SystemId], names: &HashMap<String, SystemId>) -> Option<SystemId>
-    ensures { option_map (λ id. id.0) result ≡ first_unnamed (pairs_of names.now) (numbers_of ids.now) }
+    ensures { option_map (λ id. id.0) result ≡ first_unnamed (named_ids names.now) (numbers_of ids.now) }
 {
     for id in ids {
         if least_name(names, *id).is_none() {
@@ -74,7 +74,7 @@ fn first_unnamed_in<V: ResourceValue, S: System<V>>(
     stage: &Stage<V, S>,
     names: &HashMap<String, SystemId>,
 ) -> Option<SystemId>
-    ensures { option_map (λ id. id.0) result ≡ first_unnamed (pairs_of names.now) (stage_ids (stage_plan stage.now)) }
+    ensures { option_map (λ id. id.0) result ≡ first_unnamed (named_ids names.now) (stage_ids (stage_plan stage.now)) }
 {
     for place in 0..stage.max_threads() {
         if let Some(ids) = stage.group_ids(place) {
@@ -91,7 +91,7 @@ pub(crate) fn first_unnamed<V: ResourceValue, S: System<V>>(
     stages: &Vec<Stage<V, S>>,
     names: &HashMap<String, SystemId>,
 ) -> Option<SystemId>
-    ensures { option_map (λ id. id.0) result ≡ first_unnamed (pairs_of names.now) (plan_ids (plan_of stages.now.items)) }
+    ensures { option_map (λ id. id.0) result ≡ first_unnamed (named_ids names.now) (plan_ids (plan_of stages.now.items)) }
 {
     for place in 0..stages.len() {
         if let Some(id) = first_unnamed_in(&stages[place], names) {
@@ -128,7 +128,7 @@ fn put_name<W: PlanSink>(
     names: &HashMap<String, SystemId>,
     id: SystemId,
 ) -> Result<(), SinkFailed>
-    ensures { IsPut (W.told sink.old) (W.told sink.new) (W.failures sink.old) (W.failures sink.new) (printed_name (pairs_of names.now) id.0) result }
+    ensures { IsPut (W.told sink.old) (W.told sink.new) (W.failures sink.old) (W.failures sink.new) (printed_name (named_ids names.now) id.0) result }
 {
     put_cleaned(sink, least_name(names, id).unwrap_or("").as_bytes())
 }
@@ -138,7 +138,7 @@ fn put_system<W: PlanSink>(
     names: &HashMap<String, SystemId>,
     id: SystemId,
 ) -> Result<(), SinkFailed>
-    ensures { IsPut (W.told sink.old) (W.told sink.new) (W.failures sink.old) (W.failures sink.new) (system_line (pairs_of names.now) id.0) result }
+    ensures { IsPut (W.told sink.old) (W.told sink.new) (W.failures sink.old) (W.failures sink.new) (system_line (named_ids names.now) id.0) result }
 {
     if let Err(e) = put_all(sink, b"\t\t\t") {
         return Err(e);
@@ -154,7 +154,7 @@ fn put_ids<W: PlanSink>(
     names: &HashMap<String, SystemId>,
     ids: &[SystemId],
 ) -> Result<(), SinkFailed>
-    ensures { IsPut (W.told sink.old) (W.told sink.new) (W.failures sink.old) (W.failures sink.new) (flat_map (system_line (pairs_of names.now)) (numbers_of ids.now)) result }
+    ensures { IsPut (W.told sink.old) (W.told sink.new) (W.failures sink.old) (W.failures sink.new) (flat_map (system_line (named_ids names.now)) (numbers_of ids.now)) result }
 {
     for id in ids {
         if let Err(e) = put_system(sink, names, *id) {
@@ -169,7 +169,7 @@ fn put_group<W: PlanSink>(
     names: &HashMap<String, SystemId>,
     ids: &[SystemId],
 ) -> Result<(), SinkFailed>
-    ensures { IsPut (W.told sink.old) (W.told sink.new) (W.failures sink.old) (W.failures sink.new) (ids_text (pairs_of names.now) (numbers_of ids.now)) result }
+    ensures { IsPut (W.told sink.old) (W.told sink.new) (W.failures sink.old) (W.failures sink.new) (ids_text (named_ids names.now) (numbers_of ids.now)) result }
 {
     if let Err(e) = put_all(sink, b"\t\tseq![\n") {
         return Err(e);
@@ -185,7 +185,7 @@ fn put_groups<W: PlanSink, V: ResourceValue, S: System<V>>(
     names: &HashMap<String, SystemId>,
     stage: &Stage<V, S>,
 ) -> Result<(), SinkFailed>
-    ensures { IsPut (W.told sink.old) (W.told sink.new) (W.failures sink.old) (W.failures sink.new) (flat_map (group_text (pairs_of names.now)) (stage_plan stage.now)) result }
+    ensures { IsPut (W.told sink.old) (W.told sink.new) (W.failures sink.old) (W.failures sink.new) (flat_map (group_text (named_ids names.now)) (stage_plan stage.now)) result }
 {
     for place in 0..stage.max_threads() {
         if let Some(ids) = stage.group_ids(place) {
@@ -202,7 +202,7 @@ fn put_stage<W: PlanSink, V: ResourceValue, S: System<V>>(
     names: &HashMap<String, SystemId>,
     stage: &Stage<V, S>,
 ) -> Result<(), SinkFailed>
-    ensures { IsPut (W.told sink.old) (W.told sink.new) (W.failures sink.old) (W.failures sink.new) (stage_text (pairs_of names.now) (stage_plan stage.now)) result }
+    ensures { IsPut (W.told sink.old) (W.told sink.new) (W.failures sink.old) (W.failures sink.new) (stage_text (named_ids names.now) (stage_plan stage.now)) result }
 {
     if let Err(e) = put_all(sink, b"\tpar![\n") {
         return Err(e);
@@ -218,7 +218,7 @@ fn put_stages<W: PlanSink, V: ResourceValue, S: System<V>>(
     names: &HashMap<String, SystemId>,
     stages: &Vec<Stage<V, S>>,
 ) -> Result<(), SinkFailed>
-    ensures { IsPut (W.told sink.old) (W.told sink.new) (W.failures sink.old) (W.failures sink.new) (flat_map (stage_text (pairs_of names.now)) (plan_of stages.now.items)) result }
+    ensures { IsPut (W.told sink.old) (W.told sink.new) (W.failures sink.old) (W.failures sink.new) (flat_map (stage_text (named_ids names.now)) (plan_of stages.now.items)) result }
 {
     for place in 0..stages.len() {
         if let Err(e) = put_stage(sink, names, &stages[place]) {
@@ -234,7 +234,7 @@ pub(crate) fn put_plan<W: PlanSink, V: ResourceValue, S: System<V>>(
     names: &HashMap<String, SystemId>,
     stages: &Vec<Stage<V, S>>,
 ) -> Result<(), SinkFailed>
-    ensures { IsPut (W.told sink.old) (W.told sink.new) (W.failures sink.old) (W.failures sink.new) (plan_text (pairs_of names.now) (plan_of stages.now.items)) result }
+    ensures { IsPut (W.told sink.old) (W.told sink.new) (W.failures sink.old) (W.failures sink.new) (plan_text (named_ids names.now) (plan_of stages.now.items)) result }
 {
     if let Err(e) = put_all(sink, b"seq![\n") {
         return Err(e);
@@ -252,7 +252,7 @@ pub(crate) fn print<W: PlanSink, V: ResourceValue, S: System<V>>(
     stages: &Vec<Stage<V, S>>,
     end: &[u8],
 ) -> Result<(), PrintError>
-    ensures { let plan = plan_of stages.now.items in let pairs = pairs_of names.now in
+    ensures { let plan = plan_of stages.now.items in let pairs = named_ids names.now in
         IsPrinted W.told W.failures sink.old sink.new (first_unnamed pairs (plan_ids plan)) (plan_text pairs plan ++ end.now) result }
 {
     if let Some(id) = first_unnamed(stages, names) {
@@ -270,7 +270,7 @@ fn put_with_end<W: PlanSink, V: ResourceValue, S: System<V>>(
     stages: &Vec<Stage<V, S>>,
     end: &[u8],
 ) -> Result<(), SinkFailed>
-    ensures { IsPut (W.told sink.old) (W.told sink.new) (W.failures sink.old) (W.failures sink.new) (plan_text (pairs_of names.now) (plan_of stages.now.items) ++ end.now) result }
+    ensures { IsPut (W.told sink.old) (W.told sink.new) (W.failures sink.old) (W.failures sink.new) (plan_text (named_ids names.now) (plan_of stages.now.items) ++ end.now) result }
 {
     if let Err(e) = put_plan(sink, names, stages) {
         return Err(e);
@@ -285,7 +285,7 @@ pub fn print_with_end<V: ResourceValue, S: System<V>, W: PlanSink>(
     names: &HashMap<String, SystemId>,
     end: &[u8],
 ) -> Result<(), PrintError>
-    ensures { let pairs = pairs_of names.now in
+    ensures { let pairs = named_ids names.now in
         IsPrinted W.told W.failures sink.old sink.new (first_unnamed pairs (plan_ids (planned builder.now))) (plan_text pairs (planned builder.now) ++ end.now) result }
 {
     print(sink, names, &builder.stages, end)

@@ -15,7 +15,7 @@ ghost use Rattle.shred_world.specs.Shown.{shown, HasOwnSlots, IsSameSlots};
 ghost use Rattle.shred_world.specs.Slots.{among};
 ghost use Rattle.shred_world.specs.Views.{lent_slot, shelf_slot};
 
-use crate::dispatch::entry::{Entry, SystemId};
+use crate::dispatch::entry::{SystemEntry, SystemId};
 use crate::system::{Fault, System};
 use shred_world::parting::{move_back, move_out};
 use shred_world::{ResourceId, ResourceValue, Shelf, Table, View};
@@ -57,7 +57,7 @@ fn step_over<'s, V: ResourceValue, S: System<V>>(
 
 // One step of the entry's system, over the entry's hand, while the table is lent shared.
 fn step_in_hand<V: ResourceValue, S: System<V>>(
-    entry: &mut Entry<V, S>,
+    entry: &mut SystemEntry<V, S>,
     shelf: &[Shelf<V>],
     own: &Table<V>,
 ) -> Result<(), Fault<S::Error>>
@@ -85,7 +85,7 @@ fn step_in_hand<V: ResourceValue, S: System<V>>(
 // One step of the entry's system. What it writes is moved into the entry's hand before, and back after, so all else can
 // be lent shared.
 fn step<V: ResourceValue + Drop, S: System<V>>(
-    entry: &mut Entry<V, S>,
+    entry: &mut SystemEntry<V, S>,
     shelf: &[Shelf<V>],
     own: &mut Table<V>,
 ) -> Result<(), Fault<S::Error>>
@@ -108,7 +108,7 @@ fn step<V: ResourceValue + Drop, S: System<V>>(
 
 // The same, over a table that has the slots that the entry writes, and no others.
 fn step_single<V: ResourceValue, S: System<V>>(
-    entry: &mut Entry<V, S>,
+    entry: &mut SystemEntry<V, S>,
     shelf: &[Shelf<V>],
     own: &mut Table<V>,
 ) -> Result<(), Fault<S::Error>>
@@ -134,7 +134,7 @@ fn step_single<V: ResourceValue, S: System<V>>(
 
 // One step of the entry's system, with its hand where it is not the only one of its group.
 fn step_of<V: ResourceValue + Drop, S: System<V>>(
-    entry: &mut Entry<V, S>,
+    entry: &mut SystemEntry<V, S>,
     single: bool,
     shelf: &[Shelf<V>],
     own: &mut Table<V>,
@@ -158,7 +158,7 @@ fn step_of<V: ResourceValue + Drop, S: System<V>>(
 
 // The entry's run: one step of its system.
 fn run_entry<V: ResourceValue + Drop, S: System<V>>(
-    entry: &mut Entry<V, S>,
+    entry: &mut SystemEntry<V, S>,
     single: bool,
     shelf: &[Shelf<V>],
     own: &mut Table<V>,
@@ -184,7 +184,7 @@ fn run_entry<V: ResourceValue + Drop, S: System<V>>(
 
 // The entries' steps, in order, up to the first that is not Done.
 pub(crate) fn run_entries<V: ResourceValue + Drop, S: System<V>>(
-    entries: &mut [Entry<V, S>],
+    entries: &mut [SystemEntry<V, S>],
     single: bool,
     shelf: &[Shelf<V>],
     own: &mut Table<V>,

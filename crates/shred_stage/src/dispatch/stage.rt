@@ -7,13 +7,13 @@ ghost use Rattle.shred_world.specs.Id.{same_id};
 ghost use Rattle.shred_stage.specs.Placement.{difference, greatest_time};
 ghost use Rattle.shred_stage.specs.Hands.{KeepsRoom};
 ghost use Rattle.shred_stage.specs.OwnLists.{IsOwnEntry, IsOwnGroup};
-ghost use Rattle.shred_stage.specs.PlanOf.{access_of, entry_plan, group_plan, groups_plan, numbers_of, KeepsIds};
+ghost use Rattle.shred_stage.specs.PlanOf.{access_of, entry_plan, group_plan, groups_plan, numbers_of, HasEntryIds};
 ghost use Rattle.shred_stage.specs.Search.{is_touched, may_end, OthersDoNotConflict, SpotIs, TouchedIs};
 ghost use Rattle.shred_stage.specs.Sides.{stage_side};
 ghost use Rattle.shred_stage.specs.Soundness.{IsSmallGroup};
 
 use crate::dispatch::beside::{turn_beside, turn_in_order};
-use crate::dispatch::entry::{Entry, Group, Side, SystemId};
+use crate::dispatch::entry::{Group, Side, SystemEntry, SystemId};
 use crate::dispatch::run::StageFault;
 use crate::system::System;
 use shred_world::parting::table_of;
@@ -44,7 +44,7 @@ pub struct Stage<V: ResourceValue, S: System<V>> {
     ghost some_group: { 0 < length groups.items },
     ghost small_groups: { All IsSmallGroup (groups_plan groups.items) },
     ghost apart: { AreApart group_access (groups_plan groups.items) },
-    ghost keep_ids: { All KeepsIds groups.items },
+    ghost keep_ids: { All HasEntryIds groups.items },
     ghost keep_room: { All KeepsRoom groups.items },
     ghost own_lists: { All (IsOwnGroup S.reads S.writes) groups.items },
 }
@@ -55,7 +55,7 @@ impl<V: ResourceValue, S: System<V>> Stage<V, S> {
     ghost use Rattle.shred_stage.specs.StagePlan.{stage_plan};
 
     /// A stage with this entry alone.
-    pub(crate) fn new(alloc: Global, entry: Entry<V, S>) -> Result<Self, OutOfMemory>
+    pub(crate) fn new(alloc: Global, entry: SystemEntry<V, S>) -> Result<Self, OutOfMemory>
     where
         V: Drop,
         S: Drop,
@@ -93,7 +93,7 @@ impl<V: ResourceValue, S: System<V>> Stage<V, S> {
     }
 
     /// Where the stage takes the entry, if it does, while these dependencies are left.
-    pub(crate) fn spot_for(&self, left: &[SystemId], entry: &Entry<V, S>) -> Option<Spot>
+    pub(crate) fn spot_for(&self, left: &[SystemId], entry: &SystemEntry<V, S>) -> Option<Spot>
         ensures { SpotIs (numbers_of left.now) (entry_plan entry.now) (stage_plan self.now) result }
     {
         match self.touched(left, entry) {
@@ -106,7 +106,7 @@ impl<V: ResourceValue, S: System<V>> Stage<V, S> {
     }
 
     /// Which groups the entry has to come after.
-    fn touched(&self, left: &[SystemId], entry: &Entry<V, S>) -> Touched
+    fn touched(&self, left: &[SystemId], entry: &SystemEntry<V, S>) -> Touched
         ensures { TouchedIs (is_touched same_id (numbers_of left.now) (access_of entry.now)) (stage_plan self.now) result }
     {
         let mut touched = Touched::Nothing;
@@ -122,7 +122,7 @@ impl<V: ResourceValue, S: System<V>> Stage<V, S> {
     }
 
     /// Whether the entry may stand at the end of this group, the only one that it has to come after.
-    fn may_end(&self, left: &[SystemId], entry: &Entry<V, S>, group: usize) -> bool
+    fn may_end(&self, left: &[SystemId], entry: &SystemEntry<V, S>, group: usize) -> bool
         requires { group < length (stage_plan self.now) }
         ensures { result ≡ may_end same_id (numbers_of left.now) (entry_plan entry.now) (stage_plan self.now) (slice_index_or (stage_plan self.now) group []) }
     {
@@ -167,7 +167,7 @@ impl<V: ResourceValue, S: System<V>> Stage<V, S> {
     }
 
     /// Gives the entry a new last group.
-    pub(crate) fn push_group(&mut self, entry: Entry<V, S>) -> Result<(), OutOfMemory>
+    pub(crate) fn push_group(&mut self, entry: SystemEntry<V, S>) -> Result<(), OutOfMemory>
     where
         V: Drop,
         S: Drop,
@@ -189,7 +189,11 @@ impl<V: ResourceValue, S: System<V>> Stage<V, S> {
     }
 
     /// Puts the entry at the end of a group.
-    pub(crate) fn push_entry(&mut self, group: usize, entry: Entry<V, S>) -> Result<(), OutOfMemory>
+    pub(crate) fn push_entry(
+        &mut self,
+        group: usize,
+        entry: SystemEntry<V, S>,
+    ) -> Result<(), OutOfMemory>
     where
         V: Drop,
         S: Drop,

@@ -9,7 +9,7 @@ ghost use Rattle.shred_model.specs.Access.{Conflicts};
 ghost use Rattle.shred_model.specs.Plan.{group_access, plan_ids};
 ghost use Rattle.shred_stage.specs.Earlier.{IsFromBarrier, ComesAfter, AllBeforeBarrier};
 ghost use Rattle.shred_stage.specs.Kept.{IsKept};
-ghost use Rattle.shred_stage.specs.Names.{first_unnamed, pairs_of};
+ghost use Rattle.shred_stage.specs.Names.{first_unnamed, named_ids};
 ghost use Rattle.shred_stage.specs.Placement.{IsPlaced};
 ghost use Rattle.shred_stage.specs.Printed.{plan_text};
 ghost use Rattle.shred_stage.specs.Prints.{IsPrinted};
@@ -19,7 +19,7 @@ ghost use Rattle.shred_stage.specs.Search.{OthersDoNotConflict, PlaceIs};
 ghost use Rattle.shred_stage.specs.Sides.{stage_side, plan_reads, plan_writes};
 ghost use Rattle.shred_stage.specs.StagePlan.{plan_of};
 
-use crate::dispatch::entry::{Entry, Side, SystemId, push_or_drop};
+use crate::dispatch::entry::{Side, SystemEntry, SystemId, push_or_drop};
 use crate::dispatch::printing::{PrintError, print};
 use crate::dispatch::sink::PlanSink;
 use crate::dispatch::stage::{Spot, Stage};
@@ -90,7 +90,7 @@ impl<V: ResourceValue, S: System<V>> StagesBuilder<V, S> {
     where
         V: Drop,
         S: Drop,
-        ensures placed { OnOk result ((entry : model.Entry ResourceId) × IsKept id.0 (S.reads system) (S.writes system) (S.time system) entry
+        ensures placed { OnOk result ((entry : model.PlanEntry ResourceId) × IsKept id.0 (S.reads system) (S.writes system) (S.time system) entry
             × IsPlaced (planned self.old) (barrier_of self.old) (barrier_of self.old) (numbers_of dependencies.now) entry (planned self.new)
             × (added : IsAdded (planned self.old) (planned self.new) (builder_states self.old) (builder_states self.new) entry system)
             × IsFromBarrier (barrier_of self.old) added.place × ComesAfter (planned self.old) (numbers_of dependencies.now) added.place) }
@@ -140,7 +140,7 @@ impl<V: ResourceValue, S: System<V>> StagesBuilder<V, S> {
         sink: &mut W,
         names: &HashMap<String, SystemId>,
     ) -> Result<(), PrintError>
-        ensures { let pairs = pairs_of names.now in
+        ensures { let pairs = named_ids names.now in
             IsPrinted W.told W.failures sink.old sink.new (first_unnamed pairs (plan_ids (planned self.now))) (plan_text pairs (planned self.now)) result }
     {
         print(sink, names, &self.stages, b"")
@@ -176,7 +176,7 @@ impl<V: ResourceValue, S: System<V>> StagesBuilder<V, S> {
         &mut self,
         start: usize,
         dependencies: &[SystemId],
-        entry: Entry<V, S>,
+        entry: SystemEntry<V, S>,
     ) -> Result<(), OutOfMemory>
     where
         V: Drop,
@@ -202,7 +202,7 @@ impl<V: ResourceValue, S: System<V>> StagesBuilder<V, S> {
     }
 
     /// Gives the entry a new last group of this stage.
-    fn push_group(&mut self, stage: usize, entry: Entry<V, S>) -> Result<(), OutOfMemory>
+    fn push_group(&mut self, stage: usize, entry: SystemEntry<V, S>) -> Result<(), OutOfMemory>
     where
         V: Drop,
         S: Drop,
@@ -223,7 +223,7 @@ impl<V: ResourceValue, S: System<V>> StagesBuilder<V, S> {
         &mut self,
         stage: usize,
         group: usize,
-        entry: Entry<V, S>,
+        entry: SystemEntry<V, S>,
     ) -> Result<(), OutOfMemory>
     where
         V: Drop,
@@ -244,7 +244,7 @@ impl<V: ResourceValue, S: System<V>> StagesBuilder<V, S> {
     }
 
     /// Gives the entry a new last stage.
-    fn push_stage(&mut self, entry: Entry<V, S>) -> Result<(), OutOfMemory>
+    fn push_stage(&mut self, entry: SystemEntry<V, S>) -> Result<(), OutOfMemory>
     where
         V: Drop,
         S: Drop,
@@ -267,7 +267,7 @@ impl<V: ResourceValue, S: System<V>> StagesBuilder<V, S> {
         &self,
         start: usize,
         mut left: SmallVec<SystemId, 4>,
-        entry: &Entry<V, S>,
+        entry: &SystemEntry<V, S>,
     ) -> Option<(usize, Spot)>
         requires { barrier_of self.now ≤ start }
         ensures { PlaceIs (planned self.now) (barrier_of self.now) start (numbers_of left.items) (entry_plan entry.now) result }
@@ -290,7 +290,7 @@ fn kept_entry<V: ResourceValue + Drop, S: System<V> + Drop>(
     alloc: Global,
     id: SystemId,
     system: S,
-) -> Result<Entry<V, S>, OutOfMemory>
+) -> Result<SystemEntry<V, S>, OutOfMemory>
     ensures kept { IfOk result (λ entry. IsKept id.0 (S.reads system) (S.writes system) (S.time system) (entry_plan entry)) }
     ensures same { IfOk result (λ entry. entry.system ≡ system) }
     ensures own_lists { IfOk result (IsOwnEntry S.reads S.writes) }
@@ -301,7 +301,7 @@ fn kept_entry<V: ResourceValue + Drop, S: System<V> + Drop>(
     let writes = accessor.writes(alloc)?;
     let hand = empty_hand(alloc, writes.as_slice())?;
     sort_without_doubles(&mut reads);
-    Ok(Entry {
+    Ok(SystemEntry {
         id,
         reads,
         writes,

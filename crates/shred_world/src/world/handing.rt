@@ -5,7 +5,7 @@ ghost use Rattle.shred_world.specs.declared.id.ResourceId.{ResourceId};
 ghost use Rattle.shred_world.specs.Bundles.{after_moved};
 ghost use Rattle.shred_world.specs.Grants.{grant_of, with_back};
 ghost use Rattle.shred_world.specs.Handing.{handed, moved_out, moved_value};
-ghost use Rattle.shred_world.specs.Id.{kind_of, same_id};
+ghost use Rattle.shred_world.specs.Id.{id_kind, same_id};
 ghost use Rattle.shred_world.specs.Parting.{emptied};
 ghost use Rattle.shred_world.specs.Slots.{slot_at, with_at, held};
 ghost use Rattle.shred_world.specs.Views.{view_held, is_out, is_own, noted, table_in, table_of, HasSameLists, IsSameLoan};
@@ -26,7 +26,7 @@ impl<'s, 'a, V: ResourceValue> View<'s, 'a, V> {
     fn take_noted<R: Resource<V>>(&mut self, id: ResourceId) -> Option<R>
     where
         V: Drop,
-        requires kind { R.KIND ≡ kind_of id }
+        requires kind { R.KIND ≡ id_kind id }
         requires held { IsSome (held V.kind_of (table_in self.old) id) }
         ensures taken { option_map R.wrapped result ≡ held V.kind_of (table_in self.old) id }
         ensures own { (q : ResourceId) → slot_at (table_in self.new) q ≡ with_at (slot_at (table_in self.old)) id (emptied (slot_at (table_in self.old) id)) q }
@@ -51,7 +51,7 @@ impl<'s, 'a, V: ResourceValue> View<'s, 'a, V> {
     ) -> Result<Option<R>, OutOfMemory>
     where
         V: Drop,
-        requires kind { R.KIND ≡ kind_of id }
+        requires kind { R.KIND ≡ id_kind id }
         ensures taken { IfOk result (λ found. option_map R.wrapped found ≡ moved_value V.kind_of self.old id) }
         ensures after { OnOk result (grant_of V.kind_of self.new ≡ after_moved (grant_of V.kind_of self.old) id (moved_value V.kind_of self.old id)) }
         ensures unchanged { OnErr result (grant_of V.kind_of self.new ≡ grant_of V.kind_of self.old) }
@@ -71,7 +71,7 @@ impl<'s, 'a, V: ResourceValue> View<'s, 'a, V> {
     pub(crate) fn put_back<R: Resource<V>>(&mut self, id: ResourceId, resource: R)
     where
         V: Drop,
-        requires kind { R.KIND ≡ kind_of id }
+        requires kind { R.KIND ≡ id_kind id }
         requires out { IsTrue (is_out self.old id) }
         ensures after { grant_of V.kind_of self.new ≡ with_back (grant_of V.kind_of self.old) id (R.wrapped resource) }
         ensures loan { IsSameLoan self.old self.new }
@@ -94,7 +94,7 @@ impl<'s, 'a, V: ResourceValue> View<'s, 'a, V> {
 
     // The resource that is lent shared under an id of its kind.
     fn lend_shared<R: Resource<V>>(&self, id: ResourceId) -> Option<Handed<'s, R>>
-        requires kind { R.KIND ≡ kind_of id }
+        requires kind { R.KIND ≡ id_kind id }
         ensures shown { option_map (λ h. R.wrapped (handed h)) result ≡ cond (is_own self.now id) None (view_held V.kind_of self.now id) }
         ensures not_moved { moved_out result ≡ None }
     {
@@ -112,7 +112,7 @@ impl<'s, 'a, V: ResourceValue> View<'s, 'a, V> {
     ) -> Result<Option<Handed<'s, R>>, OutOfMemory>
     where
         V: Drop,
-        requires kind { R.KIND ≡ kind_of id }
+        requires kind { R.KIND ≡ id_kind id }
         ensures shown { IfOk result (λ found. option_map (λ h. R.wrapped (handed h)) found ≡ view_held V.kind_of self.old id) }
         ensures moved { IfOk result (λ found. option_map R.wrapped (moved_out found) ≡ moved_value V.kind_of self.old id) }
         ensures after { OnOk result (grant_of V.kind_of self.new ≡ after_moved (grant_of V.kind_of self.old) id (moved_value V.kind_of self.old id)) }

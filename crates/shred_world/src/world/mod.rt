@@ -4,7 +4,7 @@ ghost use Rattle.std.specs.Borrow.{sem};
 ghost use Rattle.std.specs.Option.{option_map};
 ghost use Rattle.shred_world.specs.declared.id.ResourceId.{ResourceId};
 ghost use Rattle.shred_world.specs.Fetched.{fetched};
-ghost use Rattle.shred_world.specs.Id.{kind_of};
+ghost use Rattle.shred_world.specs.Id.{id_kind};
 
 use crate::accessor::OutOfMemory;
 use crate::id::{Kind, ResourceId};
@@ -68,8 +68,8 @@ pub type Resources<V> = World<V>;
 
 // Refuses an id of another kind than the resource's.
 fn test_kind<V: ResourceValue, R: Resource<V>>(id: ResourceId) -> Result<(), WorldError>
-    ensures ok { OnOk result (R.KIND ≡ kind_of id) }
-    ensures wrong_kind { IfErr result (λ e. (R.KIND ≢ kind_of id) × (e ≡ WorldError.WrongKind R.KIND (kind_of id))) }
+    ensures ok { OnOk result (R.KIND ≡ id_kind id) }
+    ensures wrong_kind { IfErr result (λ e. (R.KIND ≢ id_kind id) × (e ≡ WorldError.WrongKind R.KIND (id_kind id))) }
 {
     if R::KIND == id.kind() {
         Ok(())
@@ -83,7 +83,7 @@ fn test_kind<V: ResourceValue, R: Resource<V>>(id: ResourceId) -> Result<(), Wor
 
 impl<V: ResourceValue> World<V> {
     ghost use Rattle.shred_world.specs.Worlds.{world_held, IsFilled};
-    ghost use Rattle.shred_world.specs.Id.{id_of, kind_of};
+    ghost use Rattle.shred_world.specs.Id.{id_of, id_kind};
     ghost use Rattle.shred_world.specs.Slots.{with_at, without_at, among};
     ghost use Rattle.shred_world.specs.Entries.{lent_world, entry_world};
     ghost use Rattle.shred_world.specs.Views.{view_held, may_read, may_write, is_out};
@@ -143,10 +143,10 @@ impl<V: ResourceValue> World<V> {
     where
         V: Drop,
         R: Drop,
-        ensures ok { OnOk result ((R.KIND ≡ kind_of id) × ((q : ResourceId) → world_held V.kind_of self.new q ≡ with_at (world_held V.kind_of self.old) id (Some (R.wrapped resource)) q)) }
+        ensures ok { OnOk result ((R.KIND ≡ id_kind id) × ((q : ResourceId) → world_held V.kind_of self.new q ≡ with_at (world_held V.kind_of self.old) id (Some (R.wrapped resource)) q)) }
         ensures err { OnErr result ((q : ResourceId) → world_held V.kind_of self.new q ≡ world_held V.kind_of self.old q) }
-        ensures wrong_kind { (R.KIND ≢ kind_of id) ↔ (result ≡ Err (WorldError.WrongKind R.KIND (kind_of id))) }
-        ensures out_of_memory { IfErr result (λ e. (R.KIND ≡ kind_of id) → (e ≡ WorldError.OutOfMemory) × (world_held V.kind_of self.old id ≡ None)) }
+        ensures wrong_kind { (R.KIND ≢ id_kind id) ↔ (result ≡ Err (WorldError.WrongKind R.KIND (id_kind id))) }
+        ensures out_of_memory { IfErr result (λ e. (R.KIND ≡ id_kind id) → (e ≡ WorldError.OutOfMemory) × (world_held V.kind_of self.old id ≡ None)) }
     {
         test_kind::<V, R>(id)?;
         match self.table.put(id, resource.wrap()) {
@@ -165,7 +165,7 @@ impl<V: ResourceValue> World<V> {
     where
         V: Drop,
         F: Drop,
-        requires kind { R.KIND ≡ kind_of id }
+        requires kind { R.KIND ≡ id_kind id }
         requires callable { world_held V.kind_of self.old id ≡ None → F.pre make }
         ensures ok { OnOk result (IsFilled R.wrapped (F.post make) id (world_held V.kind_of self.old) (world_held V.kind_of self.new)) }
         ensures err { OnErr result ((q : ResourceId) → world_held V.kind_of self.new q ≡ world_held V.kind_of self.old q) }
@@ -198,10 +198,10 @@ impl<V: ResourceValue> World<V> {
     pub fn remove_by_id<R: Resource<V>>(&mut self, id: ResourceId) -> Result<Option<R>, WorldError>
     where
         V: Drop,
-        ensures ok { IfOk result (λ removed. (R.KIND ≡ kind_of id) × (option_map R.wrapped removed ≡ world_held V.kind_of self.old id)) }
+        ensures ok { IfOk result (λ removed. (R.KIND ≡ id_kind id) × (option_map R.wrapped removed ≡ world_held V.kind_of self.old id)) }
         ensures after { OnOk result ((q : ResourceId) → world_held V.kind_of self.new q ≡ without_at (world_held V.kind_of self.old) id q) }
         ensures err { OnErr result ((q : ResourceId) → world_held V.kind_of self.new q ≡ world_held V.kind_of self.old q) }
-        ensures wrong_kind { IfErr result (λ e. (R.KIND ≢ kind_of id) × (e ≡ WorldError.WrongKind R.KIND (kind_of id))) }
+        ensures wrong_kind { IfErr result (λ e. (R.KIND ≢ id_kind id) × (e ≡ WorldError.WrongKind R.KIND (id_kind id))) }
     {
         test_kind::<V, R>(id)?;
         Ok(self.take(id))
@@ -211,7 +211,7 @@ impl<V: ResourceValue> World<V> {
     fn take<R: Resource<V>>(&mut self, id: ResourceId) -> Option<R>
     where
         V: Drop,
-        requires kind { R.KIND ≡ kind_of id }
+        requires kind { R.KIND ≡ id_kind id }
         ensures removed { option_map R.wrapped result ≡ world_held V.kind_of self.old id }
         ensures after { (q : ResourceId) → world_held V.kind_of self.new q ≡ without_at (world_held V.kind_of self.old) id q }
     {
@@ -224,11 +224,11 @@ impl<V: ResourceValue> World<V> {
     /// Puts the value in the place of the one that is held under the id, and gives back the old one. `WrongKind` where
     /// the value is not of the id's kind, tested first; `Missing` where nothing is held. A refusal hands the value back.
     pub fn replace_raw(&mut self, id: ResourceId, value: V) -> Result<V, ReplaceError<V>>
-        ensures ok { IfOk result (λ old. (V.kind_of value ≡ kind_of id) × (world_held V.kind_of self.old id ≡ Some old)) }
+        ensures ok { IfOk result (λ old. (V.kind_of value ≡ id_kind id) × (world_held V.kind_of self.old id ≡ Some old)) }
         ensures replaced { OnOk result ((q : ResourceId) → world_held V.kind_of self.new q ≡ with_at (world_held V.kind_of self.old) id (Some value) q) }
         ensures err { OnErr result ((q : ResourceId) → world_held V.kind_of self.new q ≡ world_held V.kind_of self.old q) }
-        ensures wrong_kind { (V.kind_of value ≢ kind_of id) → result ≡ Err (ReplaceError.WrongKind (V.kind_of value) (kind_of id) value) }
-        ensures missing { (V.kind_of value ≡ kind_of id) → IfErr result (λ e. (e ≡ ReplaceError.Missing id value) × (world_held V.kind_of self.old id ≡ None)) }
+        ensures wrong_kind { (V.kind_of value ≢ id_kind id) → result ≡ Err (ReplaceError.WrongKind (V.kind_of value) (id_kind id) value) }
+        ensures missing { (V.kind_of value ≡ id_kind id) → IfErr result (λ e. (e ≡ ReplaceError.Missing id value) × (world_held V.kind_of self.old id ≡ None)) }
     {
         let asked = value.kind();
         if asked != id.kind() {
@@ -273,8 +273,8 @@ impl<V: ResourceValue> World<V> {
         &self,
         id: ResourceId,
     ) -> Result<Option<Fetch<'_, R>>, WorldError>
-        ensures ok { IfOk result (λ found. (R.KIND ≡ kind_of id) × (option_map (λ f. R.wrapped (fetched f)) found ≡ world_held V.kind_of self.now id)) }
-        ensures wrong_kind { IfErr result (λ e. (R.KIND ≢ kind_of id) × (e ≡ WorldError.WrongKind R.KIND (kind_of id))) }
+        ensures ok { IfOk result (λ found. (R.KIND ≡ id_kind id) × (option_map (λ f. R.wrapped (fetched f)) found ≡ world_held V.kind_of self.now id)) }
+        ensures wrong_kind { IfErr result (λ e. (R.KIND ≢ id_kind id) × (e ≡ WorldError.WrongKind R.KIND (id_kind id))) }
     {
         test_kind::<V, R>(id)?;
         let Some(value) = self.table.get(id) else {
@@ -296,7 +296,7 @@ impl<V: ResourceValue> World<V> {
 
     // The resource that is held under an id of its kind, to write.
     fn resource_mut<R: Resource<V>>(&mut self, id: ResourceId) -> Option<&mut R>
-        requires kind { R.KIND ≡ kind_of id }
+        requires kind { R.KIND ≡ id_kind id }
         ensures shown { option_map (λ r. R.wrapped r.now) result ≡ world_held V.kind_of self.old id }
         ensures* written { sem 𝓛 (LendsGot V.row R.row V.kind_of R.wrapped self.entry id result) }
     {
@@ -337,9 +337,9 @@ impl<V: ResourceValue> World<V> {
         &mut self,
         id: ResourceId,
     ) -> Result<FetchMut<'_, R>, WorldError>
-        ensures shown { IfOk result (λ r. (R.KIND ≡ kind_of id) × (world_held V.kind_of self.old id ≡ Some (R.wrapped r.now))) }
-        ensures wrong_kind { (R.KIND ≢ kind_of id) → result ≡ Err (WorldError.WrongKind R.KIND (kind_of id)) }
-        ensures missing { (R.KIND ≡ kind_of id) → IfErr result (λ e. (e ≡ WorldError.Missing id) × (world_held V.kind_of self.old id ≡ None)) }
+        ensures shown { IfOk result (λ r. (R.KIND ≡ id_kind id) × (world_held V.kind_of self.old id ≡ Some (R.wrapped r.now))) }
+        ensures wrong_kind { (R.KIND ≢ id_kind id) → result ≡ Err (WorldError.WrongKind R.KIND (id_kind id)) }
+        ensures missing { (R.KIND ≡ id_kind id) → IfErr result (λ e. (e ≡ WorldError.Missing id) × (world_held V.kind_of self.old id ≡ None)) }
         ensures* written { sem 𝓛 (LendsGotOk V.row R.row V.kind_of R.wrapped self.entry id result) }
     {
         test_kind::<V, R>(id)?;

@@ -36,7 +36,7 @@ pub enum DataError {
 
 /// Tables lent shared, one behind another, of which the nearest that has a slot for an id shows it. Behind a table the
 /// ids that are listed beside it are not looked for.
-#[derive_where(Clone, Copy)]
+#[derive(Drop)]
 pub enum Shelf<'s, V> {
     Last(&'s Table<V>),
     Before(&'s Table<V>, &'s [ResourceId], &'s Shelf<'s, V>),

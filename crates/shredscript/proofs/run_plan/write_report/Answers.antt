@@ -2,7 +2,7 @@ use Rattle.std.proofs.Common.{◌++◌}
 use Rattle.std.proofs.KnownBytes.{Appends-trans}
 use Rattle.shred_world.specs.Worlds.{world_held}
 use Rattle.shredscript.specs.Place.{number_at}
-use Rattle.shredscript.specs.Report.{names_of, value_line, value_lines}
+use Rattle.shredscript.specs.Report.{resource_names, value_line, value_lines}
 use Rattle.shredscript.specs.Value.{kind_of}
 use Rattle.shredscript.proofs.Reported.{value_lines-more}
 use Rattle.shredscript.proofs.run_plan.write_report.Goals as goal
@@ -16,5 +16,5 @@ loop-place-preserved g c =
     record {
       text = so_far.text ++ line;
       written = Appends-trans (g.W.Write.contents c.args.out.now) (g.W.Write.contents c.loop-place.out) (g.W.Write.contents c.write_resource.new.out) so_far.text line so_far.written c.in_ok-write_resource.ensures;
-      whole = value_lines-more so_far.text (value_lines 0 (names_of c.args.resources.now) held) c.loop-place.place-iterator.iter c.next.new.self.iter c.in-Some.name.now c.loop-place.place-iterator.count c.in-Some.place c.next.new.self.count held turn.0 turn.1 turn.2 so_far.whole;
+      whole = value_lines-more so_far.text (value_lines 0 (resource_names c.args.resources.now) held) c.loop-place.place-iterator.iter c.next.new.self.iter c.in-Some.name.now c.loop-place.place-iterator.count c.in-Some.place c.next.new.self.count held turn.0 turn.1 turn.2 so_far.whole;
     }

@@ -1,6 +1,6 @@
 use Rattle.std.proofs.Common.{◌≡◌, ◌∙◌, ap, arith, w64, is_ok, IsOk, ℤ, of_z, to_z}
 use Rattle.std.proofs.lemmas.Int.{ints}
-use Rattle.shredscript.specs.Place.{id_at, shown}
+use Rattle.shredscript.specs.Place.{id_at, seen_through}
 use Rattle.shredscript.proofs.Shown.{shown-written, changes-written, number-held}
 use Rattle.shredscript.proofs.system.write.Goals as goal
 
@@ -9,7 +9,7 @@ returns-clause-left c =
     let same : to_z w64 (of_z w64 c.args.number) ≡ c.args.number = omega (arith, ints) in
     let wrote : IsOk c.write.result = (λ i. is_ok (c.in-Ok.is i)) in
     let ends = c.write.follows.holds c.args.number wrote in
-    ap (λ (number : ℤ). shown (c.write.follows.lender number)) same
+    ap (λ (number : ℤ). seen_through (c.write.follows.lender number)) same
     ∙ shown-written c.args.view.now (c.write.follows.lender c.args.number) (id_at c.args.place) (record { 0 = c.args.number }) ends.0 c.requires.writes (rw c.id_at.ensures at ends.1)
 
 pub returns-clause-changes : goal.returns-clause-changes

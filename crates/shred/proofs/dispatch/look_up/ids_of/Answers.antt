@@ -6,7 +6,7 @@ use Rattle.shred_stage.proofs.Planner.Searching.{mapped_at}
 use Rattle.shred.proofs.dispatch.look_up.ids_of.Goals as goal
 use denote.Ref.{Bor}
 use Rattle.std.proofs.lemmas.List.{length-map, take_all}
-use Rattle.shred_stage.specs.Known.{ids_of}
+use Rattle.shred_stage.specs.Known.{known_ids}
 use Rattle.shred_stage.specs.PlanOf.{numbers_of}
 
 pub loop-place-init : goal.loop-place-init
@@ -27,4 +27,4 @@ returns c =
     let texts = texts_of c.args.wanted.now in
     let past : length texts ≤ c.loop-place.place = omega (arith, length-map c.args.wanted.now (λ (t : Bor (List ℕ)). t.now), c.loop-place-test.false) in
     let whole : take c.loop-place.place texts ≡ texts = take_all c.loop-place.place texts past in
-    c.loop-place.invariant ∙ ap (ids_of (names_of c.args.names.now)) whole
+    c.loop-place.invariant ∙ ap (known_ids (names_of c.args.names.now)) whole

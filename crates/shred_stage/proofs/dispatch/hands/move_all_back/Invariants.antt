@@ -2,12 +2,12 @@ use Rattle.std.proofs.Common.{◌≡◌}
 use Rattle.shred_world.specs.declared.id.ResourceId.{ResourceId}
 use Rattle.shred_world.specs.Slots.{slot_at}
 use Rattle.shred_world.proofs.Parted.Pairs.{ZipTo}
-use Rattle.shred_stage.specs.Hands.{Fits, IsLeftEmpty}
+use Rattle.shred_stage.specs.Hands.{FitsGroup, IsLeftEmpty}
 use Rattle.shred_stage.proofs.Runs.Sweeps.{Untouched, joined}
 use Rattle.shred_stage.proofs.dispatch.hands.move_all_back.Given as goal
 
 abbrev pub invariant-loop-group : goal.invariant-loop-group
 invariant-loop-group g l = record {
-  hands : ZipTo IsLeftEmpty (Untouched Fits) l.group-index l.initial.groups l.groups;
+  hands : ZipTo IsLeftEmpty (Untouched FitsGroup) l.group-index l.initial.groups l.groups;
   table : (q : ResourceId) → slot_at l.table q ≡ joined l.group-index l.initial.groups (slot_at l.initial.table) q;
 }

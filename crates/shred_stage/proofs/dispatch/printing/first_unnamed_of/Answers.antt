@@ -1,6 +1,6 @@
 use Rattle.std.proofs.Common.{◌≤◌, get_or, length, arith}
 use Rattle.std.proofs.lemmas.List.{length-map}
-use Rattle.shred_stage.specs.Names.{first_unnamed, pairs_of}
+use Rattle.shred_stage.specs.Names.{first_unnamed, named_ids}
 use Rattle.shred_stage.specs.PlanOf.{numbers_of}
 use Rattle.shred_stage.specs.declared.dispatch.entry.SystemId.{SystemId}
 use Rattle.shred_stage.proofs.Planner.Searching.{mapped_at}
@@ -11,18 +11,18 @@ pub returns-then-is_none : goal.returns-then-is_none
 returns-then-is_none c =
     let ids = c.args.ids.now in
     let place = c.loop-id.id-index in
-    unnamed-is (pairs_of c.args.names.now) (numbers_of ids) place (get_or ids place (record { 0 = 0 })).0 (first_unnamed (pairs_of c.args.names.now) (numbers_of ids)) (mapped_at (λ (id : SystemId). id.0) ids place (record { 0 = 0 }) c.loop-id-test.true)
+    unnamed-is (named_ids c.args.names.now) (numbers_of ids) place (get_or ids place (record { 0 = 0 })).0 (first_unnamed (named_ids c.args.names.now) (numbers_of ids)) (mapped_at (λ (id : SystemId). id.0) ids place (record { 0 = 0 }) c.loop-id-test.true)
     c.loop-id.invariant (none-copied c.least_name.result _ _ c.if-is_none.ensures c.least_name.ensures)
 
 pub loop-id-preserved : goal.loop-id-preserved
 loop-id-preserved c =
     let ids = c.args.ids.now in
     let place = c.loop-id.id-index in
-    unnamed-passed (pairs_of c.args.names.now) (numbers_of ids) place (get_or ids place (record { 0 = 0 })).0 (first_unnamed (pairs_of c.args.names.now) (numbers_of ids)) (mapped_at (λ (id : SystemId). id.0) ids place (record { 0 = 0 }) c.loop-id-test.true)
+    unnamed-passed (named_ids c.args.names.now) (numbers_of ids) place (get_or ids place (record { 0 = 0 })).0 (first_unnamed (named_ids c.args.names.now) (numbers_of ids)) (mapped_at (λ (id : SystemId). id.0) ids place (record { 0 = 0 }) c.loop-id-test.true)
     c.loop-id.invariant (none-copied c.least_name.result _ _ c.if-is_none.ensures c.least_name.ensures)
 
 pub returns : goal.returns
 returns c =
     let ids = c.args.ids.now in
     let past : length (numbers_of ids) ≤ c.loop-id.id-index = omega (arith, length-map ids (λ (id : SystemId). id.0), c.loop-id-test.false) in
-    unnamed-passed-all (pairs_of c.args.names.now) (numbers_of ids) c.loop-id.id-index (first_unnamed (pairs_of c.args.names.now) (numbers_of ids)) past c.loop-id.invariant
+    unnamed-passed-all (named_ids c.args.names.now) (numbers_of ids) c.loop-id.id-index (first_unnamed (named_ids c.args.names.now) (numbers_of ids)) past c.loop-id.invariant

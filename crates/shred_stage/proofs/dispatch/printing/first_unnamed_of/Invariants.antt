@@ -1,7 +1,7 @@
 use Rattle.std.proofs.Common.{◌≡◌, drop}
-use Rattle.shred_stage.specs.Names.{first_unnamed, pairs_of}
+use Rattle.shred_stage.specs.Names.{first_unnamed, named_ids}
 use Rattle.shred_stage.specs.PlanOf.{numbers_of}
 use Rattle.shred_stage.proofs.dispatch.printing.first_unnamed_of.Given as goal
 
 abbrev pub invariant-loop-id : goal.invariant-loop-id
-invariant-loop-id l = first_unnamed (pairs_of l.names) (drop l.id-index (numbers_of l.ids)) ≡ first_unnamed (pairs_of l.names) (numbers_of l.ids)
+invariant-loop-id l = first_unnamed (named_ids l.names) (drop l.id-index (numbers_of l.ids)) ≡ first_unnamed (named_ids l.names) (numbers_of l.ids)

@@ -1,21 +1,21 @@
 use Rattle.std.proofs.Common.{◌++◌}
 use Rattle.std.specs.List.{flat_map}
 use Rattle.std.specs.Prelude.{codes}
-use Rattle.shred_stage.specs.Names.{pairs_of}
+use Rattle.shred_stage.specs.Names.{named_ids}
 use Rattle.shred_stage.specs.StagePlan.{plan_of}
 use Rattle.shred_stage.specs.Printed.{line_feed, stage_text}
 use Rattle.shred_stage.proofs.Names.Sinks.{put-stops, put-stops-within, put-three}
 use Rattle.shred_stage.proofs.dispatch.printing.put_plan.Goals as goal
 
 pub returns-in-Err : goal.returns-in-Err
-returns-in-Err g c = put-stops (g.W.PlanSink.told c.args.sink.now) (g.W.PlanSink.told c.put_all.new.sink) (g.W.PlanSink.failures c.args.sink.now) (g.W.PlanSink.failures c.put_all.new.sink) (codes "seq![" ++ line_feed) (flat_map (stage_text (pairs_of c.args.names.now)) (plan_of c.args.stages.now.items) ++ (codes "]" ++ line_feed)) c.in-Err.e c.in-Err.e c.in-Err.ensures
+returns-in-Err g c = put-stops (g.W.PlanSink.told c.args.sink.now) (g.W.PlanSink.told c.put_all.new.sink) (g.W.PlanSink.failures c.args.sink.now) (g.W.PlanSink.failures c.put_all.new.sink) (codes "seq![" ++ line_feed) (flat_map (stage_text (named_ids c.args.names.now)) (plan_of c.args.stages.now.items) ++ (codes "]" ++ line_feed)) c.in-Err.e c.in-Err.e c.in-Err.ensures
 
 pub returns-in-Err-put_stages : goal.returns-in-Err-put_stages
 returns-in-Err-put_stages g c =
-    put-stops-within (g.W.PlanSink.told c.args.sink.now) (g.W.PlanSink.told c.put_all.new.sink) (g.W.PlanSink.told c.put_stages.new.sink) (g.W.PlanSink.failures c.args.sink.now) (g.W.PlanSink.failures c.put_all.new.sink) (g.W.PlanSink.failures c.put_stages.new.sink) (codes "seq![" ++ line_feed) (flat_map (stage_text (pairs_of c.args.names.now)) (plan_of c.args.stages.now.items)) (codes "]" ++ line_feed)
+    put-stops-within (g.W.PlanSink.told c.args.sink.now) (g.W.PlanSink.told c.put_all.new.sink) (g.W.PlanSink.told c.put_stages.new.sink) (g.W.PlanSink.failures c.args.sink.now) (g.W.PlanSink.failures c.put_all.new.sink) (g.W.PlanSink.failures c.put_stages.new.sink) (codes "seq![" ++ line_feed) (flat_map (stage_text (named_ids c.args.names.now)) (plan_of c.args.stages.now.items)) (codes "]" ++ line_feed)
     c.in-Err-put_stages.e c.in-Err-put_stages.e c.in_default.ensures.0 c.in_default.ensures.1 c.in-Err-put_stages.ensures
 
 pub returns : goal.returns
 returns g c =
-    put-three (g.W.PlanSink.told c.args.sink.now) (g.W.PlanSink.told c.put_all.new.sink) (g.W.PlanSink.told c.put_stages.new.sink) (g.W.PlanSink.told c.put_all-2.new.sink) (g.W.PlanSink.failures c.args.sink.now) (g.W.PlanSink.failures c.put_all.new.sink) (g.W.PlanSink.failures c.put_stages.new.sink) (g.W.PlanSink.failures c.put_all-2.new.sink) (codes "seq![" ++ line_feed) (flat_map (stage_text (pairs_of c.args.names.now)) (plan_of c.args.stages.now.items)) (codes "]" ++ line_feed)
+    put-three (g.W.PlanSink.told c.args.sink.now) (g.W.PlanSink.told c.put_all.new.sink) (g.W.PlanSink.told c.put_stages.new.sink) (g.W.PlanSink.told c.put_all-2.new.sink) (g.W.PlanSink.failures c.args.sink.now) (g.W.PlanSink.failures c.put_all.new.sink) (g.W.PlanSink.failures c.put_stages.new.sink) (g.W.PlanSink.failures c.put_all-2.new.sink) (codes "seq![" ++ line_feed) (flat_map (stage_text (named_ids c.args.names.now)) (plan_of c.args.stages.now.items)) (codes "]" ++ line_feed)
     c.put_all-2.result c.in_default.ensures c.in_default-put_stages.ensures c.put_all-2.ensures

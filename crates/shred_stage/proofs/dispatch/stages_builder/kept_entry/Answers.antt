@@ -1,7 +1,7 @@
 use Rattle.std.proofs.Common.{◌≡◌, ◌∙◌, List, ap, refl, subst, rules}
 use Rattle.shred_world.specs.declared.id.ResourceId.{ResourceId}
 use Rattle.shred_world.specs.Parting.{IsEmptyHand}
-use Rattle.shred_stage.specs.Time.{count_of}
+use Rattle.shred_stage.specs.Time.{time_count}
 use Rattle.shred_world.specs.Id.{IsBefore}
 use Rattle.shred_stage.proofs.Planner.KeptLists.{own_lists-of_same}
 use Rattle.shred_stage.proofs.Planner.Orders.{AllPairs-from_sorted, Contains-from_same, IsBefore-from_less}
@@ -16,7 +16,7 @@ returns-clause-kept g c =
       reads_in_order = AllPairs-from_sorted _ IsBefore IsBefore-from_less sorted.new.items.items sorted.ensures.in_order;
       same_reads = λ i. ((λ h. rw given at (sorted.ensures.none_new i h)), (λ h. Contains-from_same sorted.new.items.items i (sorted.ensures.none_lost i (rw given h))));
       same_writes = c.in_ok-writes.ensures ∙ c.in_ok-accessor.ensures.writes;
-      same_time = ap count_of c.running_time-time.ensures;
+      same_time = ap time_count c.running_time-time.ensures;
     }
 
 pub returns-clause-own_lists : goal.returns-clause-own_lists

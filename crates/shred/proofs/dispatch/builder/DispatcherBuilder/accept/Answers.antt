@@ -1,7 +1,7 @@
 use Rattle.std.proofs.Common.{◌≡◌, ◌∙◌, ap, refl, subst, sym}
 use Rattle.shred_stage.specs.BuilderPlan.{planned, barrier_of}
 use Rattle.shred_stage.specs.Earlier.{ComesAfter}
-use Rattle.shred_stage.specs.Known.{ids_of, texts_of}
+use Rattle.shred_stage.specs.Known.{known_ids, texts_of}
 use Rattle.shred_stage.specs.Names.{names_of}
 use Rattle.shred_stage.specs.Placement.{IsPlaced}
 use Rattle.shred_stage.specs.PlanOf.{numbers_of}
@@ -13,7 +13,7 @@ pub returns-clause-added : goal.returns-clause-added
 returns-clause-added g c =
     let old = c.args.self.now.stages in
     let (entry, kept, placed, added, from_barrier, after) = c.in_default-insert.ensures.placed in
-    let same : numbers_of c.as_slice.result.now ≡ ids_of (names_of c.args.self.now.names) (texts_of c.args.dependencies.now) = ap numbers_of c.as_slice.ensures.value ∙ c.in-Ok.ensures in
+    let same : numbers_of c.as_slice.result.now ≡ known_ids (names_of c.args.self.now.names) (texts_of c.args.dependencies.now) = ap numbers_of c.as_slice.ensures.value ∙ c.in-Ok.ensures in
     record {
       entry = entry;
       kept = kept;

@@ -265,33 +265,33 @@ impl<
     D: SystemData<'s, V>,
     E: SystemData<'s, V>,
 > SystemData<'s, V> for (A, B, C, D, E) {
-    ghost read_ids = { (((A.read_ids ++ B.read_ids) ++ C.read_ids) ++ D.read_ids) ++ E.read_ids };
+    ghost read_ids = { ((A.read_ids ++ B.read_ids) ++ C.read_ids) ++ (D.read_ids ++ E.read_ids) };
 
-    ghost written_ids = { (((A.written_ids ++ B.written_ids) ++ C.written_ids) ++ D.written_ids) ++ E.written_ids };
+    ghost written_ids = { ((A.written_ids ++ B.written_ids) ++ C.written_ids) ++ (D.written_ids ++ E.written_ids) };
 
-    ghost sets_up = { SetupBoth (SetupBoth (SetupBoth (SetupBoth A.sets_up B.sets_up) C.sets_up) D.sets_up) E.sets_up };
+    ghost sets_up = { SetupBoth (SetupBoth (SetupBoth A.sets_up B.sets_up) C.sets_up) (SetupBoth D.sets_up E.sets_up) };
 
-    ghost parts = { (((A.parts ++ B.parts) ++ C.parts) ++ D.parts) ++ E.parts };
+    ghost parts = { ((A.parts ++ B.parts) ++ C.parts) ++ (D.parts ++ E.parts) };
 
-    ghost shows = { λ bundle. (((A.shows bundle.0 ++ B.shows bundle.1) ++ C.shows bundle.2) ++ D.shows bundle.3) ++ E.shows bundle.4 };
+    ghost shows = { λ bundle. ((A.shows bundle.0 ++ B.shows bundle.1) ++ C.shows bundle.2) ++ (D.shows bundle.3 ++ E.shows bundle.4) };
 
-    ghost moved = { λ bundle. (((A.moved bundle.0 ++ B.moved bundle.1) ++ C.moved bundle.2) ++ D.moved bundle.3) ++ E.moved bundle.4 };
+    ghost moved = { λ bundle. ((A.moved bundle.0 ++ B.moved bundle.1) ++ C.moved bundle.2) ++ (D.moved bundle.3 ++ E.moved bundle.4) };
 
     fn setup(world: &mut World<V>) -> Result<(), WorldError> {
-        if let Err(error) = <(A, B, C, D)>::setup(world) {
+        if let Err(error) = <(A, B, C)>::setup(world) {
             return Err(error);
         }
-        E::setup(world)
+        <(D, E)>::setup(world)
     }
 
     fn fetch(view: &mut View<'s, '_, V>) -> Result<Self, DataError> {
-        let first = match <(A, B, C, D)>::fetch(view) {
+        let first = match <(A, B, C)>::fetch(view) {
             Ok(first) => first,
             Err(error) => return Err(error),
         };
-        match E::fetch(view) {
-            Ok(e) => {
-                let (a, b, c, d) = first;
+        match <(D, E)>::fetch(view) {
+            Ok((d, e)) => {
+                let (a, b, c) = first;
                 Ok((a, b, c, d, e))
             }
             Err(error) => {
@@ -303,18 +303,20 @@ impl<
 
     fn give_back(self, view: &mut View<'s, '_, V>) {
         let (a, b, c, d, e) = self;
-        e.give_back(view);
-        (a, b, c, d).give_back(view);
+        (d, e).give_back(view);
+        (a, b, c).give_back(view);
     }
 
     fn reads(alloc: Global) -> Result<Vec<ResourceId>, OutOfMemory> {
-        let ids = <(A, B, C, D)>::reads(alloc)?;
-        with_reads_of::<V, E>(ids, alloc)
+        let ids = <(A, B, C)>::reads(alloc)?;
+        let more = <(D, E)>::reads(alloc)?;
+        joined(ids, more.as_slice())
     }
 
     fn writes(alloc: Global) -> Result<Vec<ResourceId>, OutOfMemory> {
-        let ids = <(A, B, C, D)>::writes(alloc)?;
-        with_writes_of::<V, E>(ids, alloc)
+        let ids = <(A, B, C)>::writes(alloc)?;
+        let more = <(D, E)>::writes(alloc)?;
+        joined(ids, more.as_slice())
     }
 }
 
@@ -328,33 +330,33 @@ impl<
     E: SystemData<'s, V>,
     F: SystemData<'s, V>,
 > SystemData<'s, V> for (A, B, C, D, E, F) {
-    ghost read_ids = { ((((A.read_ids ++ B.read_ids) ++ C.read_ids) ++ D.read_ids) ++ E.read_ids) ++ F.read_ids };
+    ghost read_ids = { ((A.read_ids ++ B.read_ids) ++ C.read_ids) ++ ((D.read_ids ++ E.read_ids) ++ F.read_ids) };
 
-    ghost written_ids = { ((((A.written_ids ++ B.written_ids) ++ C.written_ids) ++ D.written_ids) ++ E.written_ids) ++ F.written_ids };
+    ghost written_ids = { ((A.written_ids ++ B.written_ids) ++ C.written_ids) ++ ((D.written_ids ++ E.written_ids) ++ F.written_ids) };
 
-    ghost sets_up = { SetupBoth (SetupBoth (SetupBoth (SetupBoth (SetupBoth A.sets_up B.sets_up) C.sets_up) D.sets_up) E.sets_up) F.sets_up };
+    ghost sets_up = { SetupBoth (SetupBoth (SetupBoth A.sets_up B.sets_up) C.sets_up) (SetupBoth (SetupBoth D.sets_up E.sets_up) F.sets_up) };
 
-    ghost parts = { ((((A.parts ++ B.parts) ++ C.parts) ++ D.parts) ++ E.parts) ++ F.parts };
+    ghost parts = { ((A.parts ++ B.parts) ++ C.parts) ++ ((D.parts ++ E.parts) ++ F.parts) };
 
-    ghost shows = { λ bundle. ((((A.shows bundle.0 ++ B.shows bundle.1) ++ C.shows bundle.2) ++ D.shows bundle.3) ++ E.shows bundle.4) ++ F.shows bundle.5 };
+    ghost shows = { λ bundle. ((A.shows bundle.0 ++ B.shows bundle.1) ++ C.shows bundle.2) ++ ((D.shows bundle.3 ++ E.shows bundle.4) ++ F.shows bundle.5) };
 
-    ghost moved = { λ bundle. ((((A.moved bundle.0 ++ B.moved bundle.1) ++ C.moved bundle.2) ++ D.moved bundle.3) ++ E.moved bundle.4) ++ F.moved bundle.5 };
+    ghost moved = { λ bundle. ((A.moved bundle.0 ++ B.moved bundle.1) ++ C.moved bundle.2) ++ ((D.moved bundle.3 ++ E.moved bundle.4) ++ F.moved bundle.5) };
 
     fn setup(world: &mut World<V>) -> Result<(), WorldError> {
-        if let Err(error) = <(A, B, C, D, E)>::setup(world) {
+        if let Err(error) = <(A, B, C)>::setup(world) {
             return Err(error);
         }
-        F::setup(world)
+        <(D, E, F)>::setup(world)
     }
 
     fn fetch(view: &mut View<'s, '_, V>) -> Result<Self, DataError> {
-        let first = match <(A, B, C, D, E)>::fetch(view) {
+        let first = match <(A, B, C)>::fetch(view) {
             Ok(first) => first,
             Err(error) => return Err(error),
         };
-        match F::fetch(view) {
-            Ok(f) => {
-                let (a, b, c, d, e) = first;
+        match <(D, E, F)>::fetch(view) {
+            Ok((d, e, f)) => {
+                let (a, b, c) = first;
                 Ok((a, b, c, d, e, f))
             }
             Err(error) => {
@@ -366,18 +368,20 @@ impl<
 
     fn give_back(self, view: &mut View<'s, '_, V>) {
         let (a, b, c, d, e, f) = self;
-        f.give_back(view);
-        (a, b, c, d, e).give_back(view);
+        (d, e, f).give_back(view);
+        (a, b, c).give_back(view);
     }
 
     fn reads(alloc: Global) -> Result<Vec<ResourceId>, OutOfMemory> {
-        let ids = <(A, B, C, D, E)>::reads(alloc)?;
-        with_reads_of::<V, F>(ids, alloc)
+        let ids = <(A, B, C)>::reads(alloc)?;
+        let more = <(D, E, F)>::reads(alloc)?;
+        joined(ids, more.as_slice())
     }
 
     fn writes(alloc: Global) -> Result<Vec<ResourceId>, OutOfMemory> {
-        let ids = <(A, B, C, D, E)>::writes(alloc)?;
-        with_writes_of::<V, F>(ids, alloc)
+        let ids = <(A, B, C)>::writes(alloc)?;
+        let more = <(D, E, F)>::writes(alloc)?;
+        joined(ids, more.as_slice())
     }
 }
 
@@ -392,33 +396,33 @@ impl<
     F: SystemData<'s, V>,
     G: SystemData<'s, V>,
 > SystemData<'s, V> for (A, B, C, D, E, F, G) {
-    ghost read_ids = { (((((A.read_ids ++ B.read_ids) ++ C.read_ids) ++ D.read_ids) ++ E.read_ids) ++ F.read_ids) ++ G.read_ids };
+    ghost read_ids = { (((A.read_ids ++ B.read_ids) ++ C.read_ids) ++ D.read_ids) ++ ((E.read_ids ++ F.read_ids) ++ G.read_ids) };
 
-    ghost written_ids = { (((((A.written_ids ++ B.written_ids) ++ C.written_ids) ++ D.written_ids) ++ E.written_ids) ++ F.written_ids) ++ G.written_ids };
+    ghost written_ids = { (((A.written_ids ++ B.written_ids) ++ C.written_ids) ++ D.written_ids) ++ ((E.written_ids ++ F.written_ids) ++ G.written_ids) };
 
-    ghost sets_up = { SetupBoth (SetupBoth (SetupBoth (SetupBoth (SetupBoth (SetupBoth A.sets_up B.sets_up) C.sets_up) D.sets_up) E.sets_up) F.sets_up) G.sets_up };
+    ghost sets_up = { SetupBoth (SetupBoth (SetupBoth (SetupBoth A.sets_up B.sets_up) C.sets_up) D.sets_up) (SetupBoth (SetupBoth E.sets_up F.sets_up) G.sets_up) };
 
-    ghost parts = { (((((A.parts ++ B.parts) ++ C.parts) ++ D.parts) ++ E.parts) ++ F.parts) ++ G.parts };
+    ghost parts = { (((A.parts ++ B.parts) ++ C.parts) ++ D.parts) ++ ((E.parts ++ F.parts) ++ G.parts) };
 
-    ghost shows = { λ bundle. (((((A.shows bundle.0 ++ B.shows bundle.1) ++ C.shows bundle.2) ++ D.shows bundle.3) ++ E.shows bundle.4) ++ F.shows bundle.5) ++ G.shows bundle.6 };
+    ghost shows = { λ bundle. (((A.shows bundle.0 ++ B.shows bundle.1) ++ C.shows bundle.2) ++ D.shows bundle.3) ++ ((E.shows bundle.4 ++ F.shows bundle.5) ++ G.shows bundle.6) };
 
-    ghost moved = { λ bundle. (((((A.moved bundle.0 ++ B.moved bundle.1) ++ C.moved bundle.2) ++ D.moved bundle.3) ++ E.moved bundle.4) ++ F.moved bundle.5) ++ G.moved bundle.6 };
+    ghost moved = { λ bundle. (((A.moved bundle.0 ++ B.moved bundle.1) ++ C.moved bundle.2) ++ D.moved bundle.3) ++ ((E.moved bundle.4 ++ F.moved bundle.5) ++ G.moved bundle.6) };
 
     fn setup(world: &mut World<V>) -> Result<(), WorldError> {
-        if let Err(error) = <(A, B, C, D, E, F)>::setup(world) {
+        if let Err(error) = <(A, B, C, D)>::setup(world) {
             return Err(error);
         }
-        G::setup(world)
+        <(E, F, G)>::setup(world)
     }
 
     fn fetch(view: &mut View<'s, '_, V>) -> Result<Self, DataError> {
-        let first = match <(A, B, C, D, E, F)>::fetch(view) {
+        let first = match <(A, B, C, D)>::fetch(view) {
             Ok(first) => first,
             Err(error) => return Err(error),
         };
-        match G::fetch(view) {
-            Ok(g) => {
-                let (a, b, c, d, e, f) = first;
+        match <(E, F, G)>::fetch(view) {
+            Ok((e, f, g)) => {
+                let (a, b, c, d) = first;
                 Ok((a, b, c, d, e, f, g))
             }
             Err(error) => {
@@ -430,18 +434,20 @@ impl<
 
     fn give_back(self, view: &mut View<'s, '_, V>) {
         let (a, b, c, d, e, f, g) = self;
-        g.give_back(view);
-        (a, b, c, d, e, f).give_back(view);
+        (e, f, g).give_back(view);
+        (a, b, c, d).give_back(view);
     }
 
     fn reads(alloc: Global) -> Result<Vec<ResourceId>, OutOfMemory> {
-        let ids = <(A, B, C, D, E, F)>::reads(alloc)?;
-        with_reads_of::<V, G>(ids, alloc)
+        let ids = <(A, B, C, D)>::reads(alloc)?;
+        let more = <(E, F, G)>::reads(alloc)?;
+        joined(ids, more.as_slice())
     }
 
     fn writes(alloc: Global) -> Result<Vec<ResourceId>, OutOfMemory> {
-        let ids = <(A, B, C, D, E, F)>::writes(alloc)?;
-        with_writes_of::<V, G>(ids, alloc)
+        let ids = <(A, B, C, D)>::writes(alloc)?;
+        let more = <(E, F, G)>::writes(alloc)?;
+        joined(ids, more.as_slice())
     }
 }
 
@@ -457,33 +463,33 @@ impl<
     G: SystemData<'s, V>,
     H: SystemData<'s, V>,
 > SystemData<'s, V> for (A, B, C, D, E, F, G, H) {
-    ghost read_ids = { ((((((A.read_ids ++ B.read_ids) ++ C.read_ids) ++ D.read_ids) ++ E.read_ids) ++ F.read_ids) ++ G.read_ids) ++ H.read_ids };
+    ghost read_ids = { (((A.read_ids ++ B.read_ids) ++ C.read_ids) ++ D.read_ids) ++ (((E.read_ids ++ F.read_ids) ++ G.read_ids) ++ H.read_ids) };
 
-    ghost written_ids = { ((((((A.written_ids ++ B.written_ids) ++ C.written_ids) ++ D.written_ids) ++ E.written_ids) ++ F.written_ids) ++ G.written_ids) ++ H.written_ids };
+    ghost written_ids = { (((A.written_ids ++ B.written_ids) ++ C.written_ids) ++ D.written_ids) ++ (((E.written_ids ++ F.written_ids) ++ G.written_ids) ++ H.written_ids) };
 
-    ghost sets_up = { SetupBoth (SetupBoth (SetupBoth (SetupBoth (SetupBoth (SetupBoth (SetupBoth A.sets_up B.sets_up) C.sets_up) D.sets_up) E.sets_up) F.sets_up) G.sets_up) H.sets_up };
+    ghost sets_up = { SetupBoth (SetupBoth (SetupBoth (SetupBoth A.sets_up B.sets_up) C.sets_up) D.sets_up) (SetupBoth (SetupBoth (SetupBoth E.sets_up F.sets_up) G.sets_up) H.sets_up) };
 
-    ghost parts = { ((((((A.parts ++ B.parts) ++ C.parts) ++ D.parts) ++ E.parts) ++ F.parts) ++ G.parts) ++ H.parts };
+    ghost parts = { (((A.parts ++ B.parts) ++ C.parts) ++ D.parts) ++ (((E.parts ++ F.parts) ++ G.parts) ++ H.parts) };
 
-    ghost shows = { λ bundle. ((((((A.shows bundle.0 ++ B.shows bundle.1) ++ C.shows bundle.2) ++ D.shows bundle.3) ++ E.shows bundle.4) ++ F.shows bundle.5) ++ G.shows bundle.6) ++ H.shows bundle.7 };
+    ghost shows = { λ bundle. (((A.shows bundle.0 ++ B.shows bundle.1) ++ C.shows bundle.2) ++ D.shows bundle.3) ++ (((E.shows bundle.4 ++ F.shows bundle.5) ++ G.shows bundle.6) ++ H.shows bundle.7) };
 
-    ghost moved = { λ bundle. ((((((A.moved bundle.0 ++ B.moved bundle.1) ++ C.moved bundle.2) ++ D.moved bundle.3) ++ E.moved bundle.4) ++ F.moved bundle.5) ++ G.moved bundle.6) ++ H.moved bundle.7 };
+    ghost moved = { λ bundle. (((A.moved bundle.0 ++ B.moved bundle.1) ++ C.moved bundle.2) ++ D.moved bundle.3) ++ (((E.moved bundle.4 ++ F.moved bundle.5) ++ G.moved bundle.6) ++ H.moved bundle.7) };
 
     fn setup(world: &mut World<V>) -> Result<(), WorldError> {
-        if let Err(error) = <(A, B, C, D, E, F, G)>::setup(world) {
+        if let Err(error) = <(A, B, C, D)>::setup(world) {
             return Err(error);
         }
-        H::setup(world)
+        <(E, F, G, H)>::setup(world)
     }
 
     fn fetch(view: &mut View<'s, '_, V>) -> Result<Self, DataError> {
-        let first = match <(A, B, C, D, E, F, G)>::fetch(view) {
+        let first = match <(A, B, C, D)>::fetch(view) {
             Ok(first) => first,
             Err(error) => return Err(error),
         };
-        match H::fetch(view) {
-            Ok(h) => {
-                let (a, b, c, d, e, f, g) = first;
+        match <(E, F, G, H)>::fetch(view) {
+            Ok((e, f, g, h)) => {
+                let (a, b, c, d) = first;
                 Ok((a, b, c, d, e, f, g, h))
             }
             Err(error) => {
@@ -495,17 +501,19 @@ impl<
 
     fn give_back(self, view: &mut View<'s, '_, V>) {
         let (a, b, c, d, e, f, g, h) = self;
-        h.give_back(view);
-        (a, b, c, d, e, f, g).give_back(view);
+        (e, f, g, h).give_back(view);
+        (a, b, c, d).give_back(view);
     }
 
     fn reads(alloc: Global) -> Result<Vec<ResourceId>, OutOfMemory> {
-        let ids = <(A, B, C, D, E, F, G)>::reads(alloc)?;
-        with_reads_of::<V, H>(ids, alloc)
+        let ids = <(A, B, C, D)>::reads(alloc)?;
+        let more = <(E, F, G, H)>::reads(alloc)?;
+        joined(ids, more.as_slice())
     }
 
     fn writes(alloc: Global) -> Result<Vec<ResourceId>, OutOfMemory> {
-        let ids = <(A, B, C, D, E, F, G)>::writes(alloc)?;
-        with_writes_of::<V, H>(ids, alloc)
+        let ids = <(A, B, C, D)>::writes(alloc)?;
+        let more = <(E, F, G, H)>::writes(alloc)?;
+        joined(ids, more.as_slice())
     }
 }

@@ -6,4 +6,4 @@ use Rattle.shred_world.proofs.world.tuples.Tuple6SystemData.setup.Goals as goal
 pub returns : goal.returns
 returns g c =
     let kind = g.V.ResourceValue.kind_of in
-    setup_both (SetupBoth (SetupBoth (SetupBoth (SetupBoth g.A.SystemData.sets_up g.B.SystemData.sets_up) g.C.SystemData.sets_up) g.D.SystemData.sets_up) g.E.SystemData.sets_up) g.F.SystemData.sets_up (world_held kind c.args.world.now) (world_held kind c.setup.new.world) _ _ _ c.in_default.is c.setup.ensures c.setup-2.ensures
+    setup_both (SetupBoth (SetupBoth g.A.SystemData.sets_up g.B.SystemData.sets_up) g.C.SystemData.sets_up) (SetupBoth (SetupBoth g.D.SystemData.sets_up g.E.SystemData.sets_up) g.F.SystemData.sets_up) (world_held kind c.args.world.now) (world_held kind c.setup.new.world) _ _ _ c.in_default.is c.setup.ensures c.setup-2.ensures

@@ -1,49 +1,36 @@
 //! Setups of worlds, and calls with bundles of them.
-use crate::values::{Count, Flag, Name, Value};
-use shred_world::{
-    DataError, Kind, Read, ReadExpect, ResourceId, SystemData, World, Write, WriteExpect,
-};
-use std::marker::PhantomData;
+use crate::shown::{Answer, count_in, empty, expect_answer, expect_number, world_of};
+use crate::values::{Count, Flag, Value};
+use shred_world::{DataError, Kind, Read, ReadExpect, ResourceId, World, Write};
+use std::process::Abort;
 use std::test::Fail;
 
 fn id(kind: u32) -> ResourceId {
     ResourceId::from_type_id(Kind(kind))
 }
 
-// The count that is held.
-fn count_in(world: &World<Value>) -> Option<i64> {
-    world.try_fetch::<Count>().map(|count| count.0)
+// The count that was held, which leaves the world.
+fn remove_count(world: &mut World<Value>) -> Option<i64> {
+    match world.remove::<Count>() {
+        Some(count) => Some(count.0),
+        None => None,
+    }
+}
+
+fn set_up(world: &mut World<Value>) -> Answer {
+    match world.setup::<Read<Count>>() {
+        Ok(()) => Ok(None),
+        Err(error) => Err(DataError::from(error)),
+    }
 }
 
 #[test]
 fn a_setup_provides_what_is_not_held(rt: HostRuntime) -> Result<(), Fail> {
-    let mut world: World<Value> = World::empty(rt.alloc());
-    assert_eq!(rt; world.insert(Count(5)), Ok(()));
-    assert_eq!(rt; world.setup::<Read<Count>>(), Ok(()));
-    assert_eq!(rt; count_in(&world), Some(5));
-    assert_eq!(rt; world.remove::<Count>(), Some(Count(5)));
-    assert_eq!(rt; world.setup::<Read<Count>>(), Ok(()));
-    assert_eq!(rt; count_in(&world), Some(0));
-    Ok(())
-}
-
-// Whether the bundle's setup leaves an empty world empty.
-fn provides_nothing<'s, D: SystemData<'s, Value>>(rt: &HostRuntime) -> bool {
-    let mut world: World<Value> = World::empty(rt.alloc());
-    world.setup::<D>() == Ok(())
-        && !world.has_value_raw(id(0))
-        && !world.has_value_raw(id(1))
-        && !world.has_value_raw(id(2))
-}
-
-#[test]
-fn a_setup_provides_nothing_that_may_be_absent(rt: HostRuntime) -> Result<(), Fail> {
-    assert!(rt; provides_nothing::<()>(&rt));
-    assert!(rt; provides_nothing::<PhantomData<Count>>(&rt));
-    assert!(rt; provides_nothing::<ReadExpect<Count>>(&rt));
-    assert!(rt; provides_nothing::<WriteExpect<Name>>(&rt));
-    assert!(rt; provides_nothing::<Option<Read<Count>>>(&rt));
-    assert!(rt; provides_nothing::<Option<Write<Flag>>>(&rt));
+    let mut world = world_of(rt.alloc(), Count(5))?;
+    expect_answer(&rt, set_up(&mut world), Ok(None));
+    expect_number(&rt, remove_count(&mut world), Some(5));
+    expect_answer(&rt, set_up(&mut world), Ok(None));
+    expect_number(&rt, count_in(&world), Some(0));
     Ok(())
 }
 
@@ -52,42 +39,63 @@ fn both_in(world: &mut World<Value>) -> Result<(i64, bool), DataError> {
     world.exec::<(Read<Count>, Read<Flag>), _, _>(|both| (both.0.0, both.1.0))
 }
 
-#[test]
-fn what_one_call_writes_the_next_one_reads(rt: HostRuntime) -> Result<(), Fail> {
-    let mut world: World<Value> = World::empty(rt.alloc());
-    assert_eq!(rt; both_in(&mut world), Ok((0, false)));
-    let written = world.exec::<(Write<Flag>, Write<Count>), _, _>(|(flag, count)| {
+fn expect_both(rt: &impl Abort, world: &mut World<Value>, count: i64, flag: bool) {
+    assert_eq!(rt; both_in(world), Ok((count, flag)));
+}
+
+fn set_both(world: &mut World<Value>) -> Answer {
+    world.exec::<(Write<Flag>, Write<Count>), _, _>(|(flag, count)| {
         flag.0 = true;
         count.0 = 43;
-    });
-    assert_eq!(rt; written, Ok(()));
-    assert_eq!(rt; both_in(&mut world), Ok((43, true)));
-    assert_eq!(rt; count_in(&world), Some(43));
-    Ok(())
+        None
+    })
 }
 
 #[test]
-fn a_call_with_one_id_twice_is_refused(rt: HostRuntime) -> Result<(), Fail> {
-    let mut world: World<Value> = World::empty(rt.alloc());
+fn what_one_call_writes_the_next_one_reads(rt: HostRuntime) {
+    let mut world = empty(rt.alloc());
+    expect_both(&rt, &mut world, 0, false);
+    expect_answer(&rt, set_both(&mut world), Ok(None));
+    expect_both(&rt, &mut world, 43, true);
+    expect_number(&rt, count_in(&world), Some(43));
+}
+
+// What a call was refused for, where its closure was not called.
+fn refusal_without_call(answer: Result<(), DataError>, called: bool) -> Answer {
+    match answer {
+        Err(error) if !called => Err(error),
+        _ => Ok(None),
+    }
+}
+
+fn call_with_count_twice(world: &mut World<Value>) -> Answer {
     let mut called = false;
     let answer = world.exec::<(Write<Count>, Write<Count>), _, _>(|_| {
         called = true;
     });
-    assert_eq!(rt; answer, Err(DataError::Taken(id(0))));
-    assert!(rt; !called);
-    assert_eq!(rt; count_in(&world), Some(0));
-    Ok(())
+    refusal_without_call(answer, called)
 }
 
 #[test]
-fn a_call_without_what_it_expects_is_refused(rt: HostRuntime) -> Result<(), Fail> {
-    let mut world: World<Value> = World::empty(rt.alloc());
+fn a_call_with_one_id_twice_is_refused(rt: HostRuntime) {
+    let mut world = empty(rt.alloc());
+    let taken = Err(DataError::Taken(id(0)));
+    expect_answer(&rt, call_with_count_twice(&mut world), taken);
+    expect_number(&rt, count_in(&world), Some(0));
+}
+
+fn call_with_count(world: &mut World<Value>) -> Answer {
     let mut called = false;
     let answer = world.exec::<ReadExpect<Count>, _, _>(|_| {
         called = true;
     });
-    assert_eq!(rt; answer, Err(DataError::Missing(id(0))));
-    assert!(rt; !called);
-    assert!(rt; !world.has_value::<Count>());
-    Ok(())
+    refusal_without_call(answer, called)
+}
+
+#[test]
+fn a_call_without_what_it_expects_is_refused(rt: HostRuntime) {
+    let mut world = empty(rt.alloc());
+    let missing = Err(DataError::Missing(id(0)));
+    expect_answer(&rt, call_with_count(&mut world), missing);
+    expect_number(&rt, count_in(&world), None);
 }

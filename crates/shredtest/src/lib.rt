@@ -21,6 +21,8 @@ mod parted_tests;
 #[cfg(test)]
 mod parted_threads;
 #[cfg(test)]
+mod shown;
+#[cfg(test)]
 mod tuples;
 pub mod values;
 #[cfg(test)]

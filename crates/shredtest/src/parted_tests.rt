@@ -5,9 +5,12 @@ ghost use Rattle.shredtest.specs.Values.{count_kind};
 
 use crate::adding::Adding;
 use crate::parted_calls::{Exchanged, exchange_over_parts, work_over_none, work_over_three};
+use crate::parted_in_two::TwoOut;
 use crate::parted_threads::add_beside;
 use crate::values::{Count, Value};
-use shred_world::{Kind, ResourceId, World};
+use shred_world::{Kind, OutOfMemory, ResourceId, World};
+use std::alloc::Global;
+use std::process::Abort;
 use std::test::Fail;
 
 fn number(dynamic_id: u64) -> ResourceId
@@ -17,8 +20,8 @@ fn number(dynamic_id: u64) -> ResourceId
 }
 
 // A world that holds these counts, under these numbers.
-fn world_of(rt: &HostRuntime, counts: &[(u64, i64)]) -> Result<World<Value>, Fail> {
-    let mut world: World<Value> = World::empty(rt.alloc());
+fn world_of(alloc: Global, counts: &[(u64, i64)]) -> Result<World<Value>, Fail> {
+    let mut world: World<Value> = World::empty(alloc);
     for (dynamic_id, count) in counts {
         world
             .insert_by_id(number(*dynamic_id), Count(*count))
@@ -34,125 +37,155 @@ fn count_at(world: &World<Value>, dynamic_id: u64) -> Option<i64> {
     }
 }
 
-// Adds what is read under number 0, to number 1 in the first part, to number 2 in the second, and to `last` in the third.
-fn adding(last: u64) -> Adding {
-    Adding {
+/// The world holds these counts, under these numbers, and none where none stands.
+fn expect_counts(
+    rt: &impl Abort,
+    world: &World<Value>,
+    counts: &[(u64, Option<i64>)],
+) -> Result<(), Fail> {
+    for (dynamic_id, count) in counts {
+        assert_eq!(rt; count_at(world, *dynamic_id), *count);
+    }
+    Ok(())
+}
+
+/// In which parts a view is worked over.
+#[derive(Clone, Copy)]
+enum Parting {
+    NoParts,
+    /// The first part may write the count of number 1, the second that of number 2.
+    Three,
+    /// The first part may write the count of number 2, the second that of number 1.
+    ThreeTurned,
+}
+
+/// Work over the parts of a view: number 0 is read; the first part is to write number 1, the second number 2 and the
+/// third `third`.
+#[derive(Clone, Copy)]
+struct Worked<'a> {
+    parting: Parting,
+    held: &'a [(u64, i64)],
+    third: u64,
+    left: &'a [(u64, Option<i64>)],
+    written: u8,
+}
+
+fn work_over(
+    alloc: Global,
+    world: &mut World<Value>,
+    parting: Parting,
+    work: &mut Adding,
+) -> Result<(), OutOfMemory> {
+    let (read, one, two) = (number(0), number(1), number(2));
+    match parting {
+        Parting::NoParts => work_over_none(alloc, world, work),
+        Parting::Three => work_over_three(alloc, world, read, one, two, work),
+        Parting::ThreeTurned => work_over_three(alloc, world, read, two, one, work),
+    }
+}
+
+fn expect_worked(rt: &impl Abort, alloc: Global, row: &Worked) -> Result<(), Fail> {
+    let mut world = world_of(alloc, row.held)?;
+    let mut work = Adding {
         read: number(0),
         now: number(1),
         then: number(2),
-        last: number(last),
+        last: number(row.third),
         written: 0,
-    }
+    };
+    assert_eq!(rt;
+        work_over(alloc, &mut world, row.parting, &mut work),
+        Ok(())
+    );
+    assert_eq!(rt; work.written, row.written);
+    expect_counts(rt, &world, row.left)
 }
 
 #[test]
 fn each_part_writes_its_own_and_all_is_joined(rt: HostRuntime) -> Result<(), Fail> {
-    let mut world = world_of(&rt, &[(0, 10), (1, 1), (2, 2), (3, 3)])?;
-    let mut work = adding(0);
-    work_over_three(
-        rt.alloc(),
-        &mut world,
-        number(0),
-        number(1),
-        number(2),
-        &mut work,
-    )
-    .map_err(|_| "memory")?;
-    assert_eq!(rt; count_at(&world, 0), Some(10));
-    assert_eq!(rt; count_at(&world, 1), Some(11));
-    assert_eq!(rt; count_at(&world, 2), Some(12));
-    assert_eq!(rt; count_at(&world, 3), Some(3));
-    assert_eq!(rt; work.written, 2);
-    Ok(())
+    let row = Worked {
+        parting: Parting::Three,
+        held: &[(0, 10), (1, 1), (2, 2), (3, 3)],
+        third: 0,
+        left: &[(0, Some(10)), (1, Some(11)), (2, Some(12)), (3, Some(3))],
+        written: 2,
+    };
+    expect_worked(&rt, rt.alloc(), &row)
 }
 
 #[test]
 fn a_part_writes_nothing_of_another(rt: HostRuntime) -> Result<(), Fail> {
-    let mut world = world_of(&rt, &[(0, 10), (1, 1), (2, 2)])?;
-    let mut work = adding(1);
-    work_over_three(
-        rt.alloc(),
-        &mut world,
-        number(0),
-        number(2),
-        number(1),
-        &mut work,
-    )
-    .map_err(|_| "memory")?;
-    assert_eq!(rt; count_at(&world, 0), Some(10));
-    assert_eq!(rt; count_at(&world, 1), Some(1));
-    assert_eq!(rt; count_at(&world, 2), Some(2));
-    assert_eq!(rt; work.written, 0);
-    Ok(())
+    let row = Worked {
+        parting: Parting::ThreeTurned,
+        held: &[(0, 10), (1, 1), (2, 2)],
+        third: 1,
+        left: &[(0, Some(10)), (1, Some(1)), (2, Some(2))],
+        written: 0,
+    };
+    expect_worked(&rt, rt.alloc(), &row)
 }
 
 #[test]
 fn what_is_not_held_is_not_held_after(rt: HostRuntime) -> Result<(), Fail> {
-    let mut world = world_of(&rt, &[(0, 10), (2, 2)])?;
-    let mut work = adding(0);
-    work_over_three(
-        rt.alloc(),
-        &mut world,
-        number(0),
-        number(1),
-        number(2),
-        &mut work,
-    )
-    .map_err(|_| "memory")?;
-    assert_eq!(rt; count_at(&world, 1), None);
-    assert!(rt; !world.has_value_raw(number(1)));
-    assert_eq!(rt; count_at(&world, 2), Some(12));
-    assert_eq!(rt; work.written, 1);
-    Ok(())
+    let row = Worked {
+        parting: Parting::Three,
+        held: &[(0, 10), (2, 2)],
+        third: 0,
+        left: &[(1, None), (2, Some(12))],
+        written: 1,
+    };
+    expect_worked(&rt, rt.alloc(), &row)
 }
 
 #[test]
 fn no_parts_leave_all_as_it_was(rt: HostRuntime) -> Result<(), Fail> {
-    let mut world = world_of(&rt, &[(0, 10), (1, 1)])?;
-    let mut work = adding(0);
-    work_over_none(rt.alloc(), &mut world, &mut work).map_err(|_| "memory")?;
-    assert_eq!(rt; count_at(&world, 0), Some(10));
-    assert_eq!(rt; count_at(&world, 1), Some(1));
-    assert_eq!(rt; work.written, 0);
-    Ok(())
+    let row = Worked {
+        parting: Parting::NoParts,
+        held: &[(0, 10), (1, 1)],
+        third: 0,
+        left: &[(0, Some(10)), (1, Some(1))],
+        written: 0,
+    };
+    expect_worked(&rt, rt.alloc(), &row)
 }
 
 // Exchanges the counts under numbers 1 and 2.
-fn exchange_one_and_two(rt: &HostRuntime, world: &mut World<Value>) -> Result<Exchanged, Fail> {
-    let answer = exchange_over_parts(rt.alloc(), world, number(1), number(2));
-    Ok(answer.map_err(|_| "memory")?)
+fn exchange_one_and_two(alloc: Global, world: &mut World<Value>) -> Result<Exchanged, Fail> {
+    match exchange_over_parts(alloc, world, number(1), number(2)) {
+        Ok(exchanged) => Ok(exchanged),
+        Err(_) => Err("memory")?,
+    }
+}
+
+fn expect_out(rt: &impl Abort, out: TwoOut, first: bool, second: bool) -> Result<(), Fail> {
+    assert_eq!(rt; (out.first, out.second), (first, second));
+    Ok(())
 }
 
 #[test]
 fn views_of_two_parts_are_there_at_the_same_time(rt: HostRuntime) -> Result<(), Fail> {
-    let mut world = world_of(&rt, &[(0, 10), (1, 1), (2, 2)])?;
-    let exchange = exchange_one_and_two(&rt, &mut world)?;
+    let mut world = world_of(rt.alloc(), &[(0, 10), (1, 1), (2, 2)])?;
+    let exchange = exchange_one_and_two(rt.alloc(), &mut world)?;
     assert!(rt; exchange.took_place);
-    assert!(rt; exchange.out.first && exchange.out.second);
-    assert_eq!(rt; count_at(&world, 0), Some(10));
-    assert_eq!(rt; count_at(&world, 1), Some(2));
-    assert_eq!(rt; count_at(&world, 2), Some(1));
-    Ok(())
+    expect_out(&rt, exchange.out, true, true)?;
+    expect_counts(&rt, &world, &[(0, Some(10)), (1, Some(2)), (2, Some(1))])
 }
 
 #[test]
 fn a_value_that_the_other_part_lacks_is_not_exchanged(rt: HostRuntime) -> Result<(), Fail> {
-    let mut world = world_of(&rt, &[(0, 10), (1, 1)])?;
-    let exchange = exchange_one_and_two(&rt, &mut world)?;
+    let mut world = world_of(rt.alloc(), &[(0, 10), (1, 1)])?;
+    let exchange = exchange_one_and_two(rt.alloc(), &mut world)?;
     assert!(rt; !exchange.took_place);
-    assert!(rt; exchange.out.first && !exchange.out.second);
-    assert_eq!(rt; count_at(&world, 1), Some(1));
-    assert_eq!(rt; count_at(&world, 2), None);
-    Ok(())
+    expect_out(&rt, exchange.out, true, false)?;
+    expect_counts(&rt, &world, &[(1, Some(1)), (2, None)])
 }
 
 #[test]
 fn two_parts_are_worked_over_in_the_halves_of_a_fork(rt: HostRuntime) -> Result<(), Fail> {
-    let mut world = world_of(&rt, &[(0, 10), (1, 20), (2, 30)])?;
-    let out = add_beside(&rt, rt.alloc(), &mut world).map_err(|_| "memory")?;
-    assert!(rt; out.first && out.second);
-    assert_eq!(rt; count_at(&world, 0), Some(11));
-    assert_eq!(rt; count_at(&world, 1), Some(21));
-    assert_eq!(rt; count_at(&world, 2), Some(30));
-    Ok(())
+    let mut world = world_of(rt.alloc(), &[(0, 10), (1, 20), (2, 30)])?;
+    match add_beside(&rt, rt.alloc(), &mut world) {
+        Ok(out) => expect_out(&rt, out, true, true)?,
+        Err(_) => return Err("memory")?,
+    }
+    expect_counts(&rt, &world, &[(0, Some(11)), (1, Some(21)), (2, Some(30))])
 }

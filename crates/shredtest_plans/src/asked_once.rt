@@ -2,6 +2,7 @@
 ghost use Rattle.std.specs.Prelude.{[]};
 ghost use Rattle.shred_stage.specs.declared.system.RunningTime.TheVariants.{Average};
 
+use crate::calls::{expect_add, insert};
 use shred::{
     Accessor, AddError, DispatcherBuilder, Fault, OutOfMemory, ResourceId, RunningTime,
     StagesBuilder, System, SystemId, View, World,
@@ -9,41 +10,30 @@ use shred::{
 use shredtest::values::Value;
 use std::alloc::{AllocError, Global};
 use std::cell::Cell;
+use std::process::Abort;
 use std::rc::Rc;
 use std::test::Fail;
 
-/// How often systems were asked for a list or for their time, and how many were dropped.
+/// A count in four digits: how often systems were asked for their reads, for their writes and for their time, and how many
+/// were dropped.
 #[derive(Drop)]
 struct Asked {
-    reads: Cell<u32>,
-    writes: Cell<u32>,
-    times: Cell<u32>,
-    drops: Cell<u32>,
+    counts: Cell<u32>,
 }
 
 impl Asked {
-    fn never() -> Asked {
-        Asked {
-            reads: Cell::new(0),
-            writes: Cell::new(0),
-            times: Cell::new(0),
-            drops: Cell::new(0),
-        }
-    }
-
-    fn counts(&self) -> [u32; 4] {
-        [
-            self.reads.get(),
-            self.writes.get(),
-            self.times.get(),
-            self.drops.get(),
-        ]
+    fn count(&self, digit: u32) {
+        self.counts.set(self.counts.get().wrapping_add(digit));
     }
 }
 
-fn count(calls: &Cell<u32>) {
-    calls.set(calls.get().wrapping_add(1));
-}
+const READS: u32 = 1000;
+
+const WRITES: u32 = 100;
+
+const TIME: u32 = 10;
+
+const DROPPED: u32 = 1;
 
 /// Empty lists, which count how often they are asked for.
 #[derive(Drop)]
@@ -57,12 +47,12 @@ impl Accessor for Lists {
     ghost writes = { λ _. [] };
 
     fn reads(&self, alloc: Global) -> Result<Vec<ResourceId>, OutOfMemory> {
-        count(&self.asked.reads);
+        self.asked.count(READS);
         Ok(Vec::new(alloc))
     }
 
     fn writes(&self, alloc: Global) -> Result<Vec<ResourceId>, OutOfMemory> {
-        count(&self.asked.writes);
+        self.asked.count(WRITES);
         Ok(Vec::new(alloc))
     }
 }
@@ -81,7 +71,7 @@ fn watching(asked: &Rc<Asked>) -> Result<Watched, AllocError> {
 impl Drop for Watched {
     fn drop(self) {
         let Watched { asked } = self;
-        count(&asked.drops);
+        asked.count(DROPPED);
     }
 }
 
@@ -115,7 +105,7 @@ impl System<Value> for Watched {
     }
 
     fn running_time(&self) -> RunningTime {
-        count(&self.asked.times);
+        self.asked.count(TIME);
         RunningTime::Average
     }
 
@@ -127,33 +117,43 @@ impl System<Value> for Watched {
     }
 }
 
+fn never_asked(alloc: Global) -> Result<Rc<Asked>, Fail> {
+    let counts = Cell::new(0);
+    Ok(Rc::new(alloc, Asked { counts })?)
+}
+
+fn expect_counts(rt: &impl Abort, asked: &Rc<Asked>, counts: u32) {
+    assert_eq!(rt; asked.counts.get(), counts);
+}
+
 #[test]
 fn an_insert_asks_once(rt: HostRuntime) -> Result<(), Fail> {
-    let asked = Rc::new(rt.alloc(), Asked::never())?;
+    let asked = never_asked(rt.alloc())?;
     let mut builder = StagesBuilder::new(rt.alloc());
-    builder.insert(&[], SystemId(0), watching(&asked)?)?;
-    assert_eq!(rt; asked.counts(), [1, 1, 1, 0]);
-    builder.insert(&[SystemId(0)], SystemId(1), watching(&asked)?)?;
-    assert_eq!(rt; asked.counts(), [2, 2, 2, 0]);
+    insert(&mut builder, &[], 0, watching(&asked)?)?;
+    expect_counts(&rt, &asked, 1110);
+    insert(&mut builder, &[SystemId(0)], 1, watching(&asked)?)?;
+    expect_counts(&rt, &asked, 2220);
     drop(builder);
-    assert_eq!(rt; asked.counts(), [2, 2, 2, 2]);
+    expect_counts(&rt, &asked, 2222);
     Ok(())
 }
 
 #[test]
 fn a_refused_system_is_dropped(rt: HostRuntime) -> Result<(), Fail> {
-    let asked = Rc::new(rt.alloc(), Asked::never())?;
+    let asked = never_asked(rt.alloc())?;
     let mut builder = DispatcherBuilder::new(rt.alloc());
-    let added = builder.add(watching(&asked)?, "a", &[]);
-    assert_eq!(rt; added, Ok(SystemId(0)));
-    assert_eq!(rt; asked.counts(), [1, 1, 1, 0]);
-    let taken = builder.add(watching(&asked)?, "a", &[]);
-    assert_eq!(rt; taken, Err(AddError::NameTaken));
-    assert_eq!(rt; asked.counts(), [1, 1, 1, 1]);
-    let unknown = builder.add(watching(&asked)?, "b", &["a", "b"]);
-    assert_eq!(rt; unknown, Err(AddError::NoSuchSystem { place: 1 }));
-    assert_eq!(rt; asked.counts(), [1, 1, 1, 2]);
+    let system = watching(&asked)?;
+    expect_add(&rt, &mut builder, system, "a", &[], Ok(SystemId(0)));
+    expect_counts(&rt, &asked, 1110);
+    let taken = Err(AddError::NameTaken);
+    expect_add(&rt, &mut builder, watching(&asked)?, "a", &[], taken);
+    expect_counts(&rt, &asked, 1111);
+    let unknown = Err(AddError::NoSuchSystem { place: 1 });
+    let system = watching(&asked)?;
+    expect_add(&rt, &mut builder, system, "b", &["a", "b"], unknown);
+    expect_counts(&rt, &asked, 1112);
     drop(builder.build());
-    assert_eq!(rt; asked.counts(), [1, 1, 1, 3]);
+    expect_counts(&rt, &asked, 1113);
     Ok(())
 }

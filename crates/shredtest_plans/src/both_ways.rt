@@ -3,13 +3,15 @@ ghost use Rattle.std.specs.Prelude.{◌≡◌, [], ◌∷◌, IfOk};
 ghost use Rattle.shred_world.specs.Id.{id_of};
 ghost use Rattle.shredtest.specs.Values.{count_kind};
 
+use crate::calls::{dispatched, dispatcher_of, executed, inserted};
 use shred::{
-    Accessor, DispatchError, Dispatcher, Fault, Kind, OutOfMemory, ResourceId, RunningTime, Stage,
-    StageFault, StagesBuilder, System, SystemId, View, World, new_dispatcher,
+    Accessor, Fault, Kind, OutOfMemory, ResourceId, RunningTime, Stage, System, View, World,
 };
 use shredtest::values::{Count, Value};
-use std::alloc::Global;
+use std::alloc::{AllocError, Global};
+use std::process::Abort;
 use std::test::Fail;
+use std::thread::Threads;
 
 fn count_id(number: u64) -> ResourceId
     ensures { result ≡ id_of count_kind number }
@@ -98,36 +100,38 @@ impl System<Value> for Adds {
 }
 
 /// A count's number, what is added, the code and the time.
-type Row = (u64, i64, u8, RunningTime);
-
-fn stages_of(alloc: Global, rows: &[Row]) -> Result<Vec<Stage<Value, Adds>>, OutOfMemory> {
-    let mut builder = StagesBuilder::new(alloc);
-    for (id, row) in rows.iter().enumerate() {
-        let (number, amount, code, time) = *row;
-        let system = Adds {
-            number,
-            amount,
-            code,
-            time,
-        };
-        builder.insert(&[], SystemId(id), system)?;
-    }
-    Ok(builder.build())
+struct Row {
+    number: u64,
+    amount: i64,
+    code: u8,
+    time: RunningTime,
 }
 
-fn dispatcher_of(alloc: Global, rows: &[Row]) -> Result<Dispatcher<Value, Adds>, OutOfMemory> {
-    match stages_of(alloc, rows) {
-        Ok(stages) => Ok(new_dispatcher(stages)),
-        Err(e) => Err(e),
-    }
+/// Systems, how their dispatch ends, and what it leaves of the counts, which start at 0.
+#[derive(Drop)]
+struct Plan {
+    rows: &'static [Row],
+    ended: &'static str,
+    counts: &'static [i64],
 }
 
-fn world_of(alloc: Global, counts: u64) -> Result<World<Value>, Fail> {
+fn systems_of(alloc: Global, rows: &[Row]) -> Result<Vec<Adds>, AllocError> {
+    let mut systems = Vec::new(alloc);
+    for row in rows {
+        systems.push(Adds {
+            number: row.number,
+            amount: row.amount,
+            code: row.code,
+            time: row.time,
+        })?;
+    }
+    Ok(systems)
+}
+
+fn world_of(alloc: Global, counts: usize) -> Result<World<Value>, Fail> {
     let mut world = World::empty(alloc);
     for number in 0..counts {
-        world
-            .insert_by_id(count_id(number), Count(0))
-            .map_err(|_| "memory")?;
+        world.insert_by_id(count_id(number as u64), Count(0))?;
     }
     Ok(world)
 }
@@ -139,96 +143,138 @@ fn count_at(world: &World<Value>, number: u64) -> Option<i64> {
     }
 }
 
-fn refused_by(answer: Result<(), DispatchError<u8>>) -> Option<(usize, u8)> {
-    match answer {
-        Err(
-            DispatchError::System {
-                id: SystemId(id),
-                fault: Fault::Refused(code),
-            },
-        ) => Some((id, code)),
-        _ => None,
+fn expect_counts(rt: &impl Abort, world: &World<Value>, counts: &[i64]) {
+    for (number, count) in counts.iter().enumerate() {
+        assert_eq!(rt; count_at(world, number as u64), Some(*count));
     }
 }
 
 /// Systems of five counts, each of which stands in a group of its own.
-const FIVE: [Row; 5] = [
-    (0, 1, 0, RunningTime::Average),
-    (1, 2, 0, RunningTime::Average),
-    (2, 3, 0, RunningTime::Average),
-    (3, 4, 0, RunningTime::Average),
-    (4, 5, 0, RunningTime::Average),
-];
+const FIVE: Plan = Plan {
+    rows: &[
+        Row {
+            number: 0,
+            amount: 1,
+            code: 0,
+            time: RunningTime::Average,
+        },
+        Row {
+            number: 1,
+            amount: 2,
+            code: 0,
+            time: RunningTime::Average,
+        },
+        Row {
+            number: 2,
+            amount: 3,
+            code: 0,
+            time: RunningTime::Average,
+        },
+        Row {
+            number: 3,
+            amount: 4,
+            code: 0,
+            time: RunningTime::Average,
+        },
+        Row {
+            number: 4,
+            amount: 5,
+            code: 0,
+            time: RunningTime::Average,
+        },
+    ],
+    ended: "done",
+    counts: &[1, 2, 3, 4, 5],
+};
 
 /// A long system, two short ones in a group beside it, of which the first refuses, and one of a later stage.
-const REFUSED: [Row; 4] = [
-    (1, 5, 0, RunningTime::VeryLong),
-    (0, 1, 7, RunningTime::VeryShort),
-    (0, 1, 0, RunningTime::VeryShort),
-    (1, 100, 0, RunningTime::Average),
-];
+const REFUSED: Plan = Plan {
+    rows: &[
+        Row {
+            number: 1,
+            amount: 5,
+            code: 0,
+            time: RunningTime::VeryLong,
+        },
+        Row {
+            number: 0,
+            amount: 1,
+            code: 7,
+            time: RunningTime::VeryShort,
+        },
+        Row {
+            number: 0,
+            amount: 1,
+            code: 0,
+            time: RunningTime::VeryShort,
+        },
+        Row {
+            number: 1,
+            amount: 100,
+            code: 0,
+            time: RunningTime::Average,
+        },
+    ],
+    ended: "system 1: refused: 7",
+    counts: &[1, 5],
+};
+
+fn expect_dispatched(
+    rt: &(impl Abort + AllocGlobal + Threads + Sync),
+    plan: &Plan,
+    on_threads: bool,
+) -> Result<(), Fail> {
+    let mut world = world_of(rt.alloc(), plan.counts.len())?;
+    let mut dispatcher = dispatcher_of(rt.alloc(), systems_of(rt.alloc(), plan.rows)?)?;
+    let ended = dispatched(rt, &mut dispatcher, &mut world, on_threads)?;
+    assert_eq!(rt; ended.as_str(), plan.ended);
+    expect_counts(rt, &world, plan.counts);
+    Ok(())
+}
+
+fn expect_dispatched_both_ways(
+    rt: &(impl Abort + AllocGlobal + Threads + Sync),
+    plan: &Plan,
+) -> Result<(), Fail> {
+    expect_dispatched(rt, plan, false)?;
+    expect_dispatched(rt, plan, true)
+}
 
 #[test]
 fn five_groups_are_all_done(rt: HostRuntime) -> Result<(), Fail> {
-    let mut in_order = world_of(rt.alloc(), 5)?;
-    let mut beside = world_of(rt.alloc(), 5)?;
-    assert!(rt;
-        dispatcher_of(rt.alloc(), &FIVE)?
-            .dispatch_seq(&mut in_order)
-            .is_ok()
-    );
-    assert!(rt;
-        dispatcher_of(rt.alloc(), &FIVE)?
-            .dispatch_par(&rt, &mut beside)
-            .is_ok()
-    );
-    for (number, value) in [(0, 1), (1, 2), (2, 3), (3, 4), (4, 5)] {
-        assert_eq!(rt; count_at(&in_order, number), Some(value));
-        assert_eq!(rt; count_at(&beside, number), Some(value));
-    }
-    Ok(())
+    expect_dispatched_both_ways(&rt, &FIVE)
 }
 
 #[test]
 fn a_refusal_ends_its_group_and_the_dispatch(rt: HostRuntime) -> Result<(), Fail> {
-    let mut in_order = world_of(rt.alloc(), 2)?;
-    let mut beside = world_of(rt.alloc(), 2)?;
-    let answer = dispatcher_of(rt.alloc(), &REFUSED)?.dispatch_seq(&mut in_order);
-    assert_eq!(rt; refused_by(answer), Some((1, 7)));
-    let answer = dispatcher_of(rt.alloc(), &REFUSED)?.dispatch_par(&rt, &mut beside);
-    assert_eq!(rt; refused_by(answer), Some((1, 7)));
-    for world in [&in_order, &beside] {
-        assert_eq!(rt; count_at(world, 0), Some(1));
-        assert_eq!(rt; count_at(world, 1), Some(5));
-    }
-    Ok(())
+    expect_dispatched_both_ways(&rt, &REFUSED)
 }
 
-fn code_of(answer: Result<(), StageFault<u8>>) -> Option<(usize, u8)> {
-    match answer {
-        Err(
-            StageFault::System {
-                id: SystemId(id),
-                fault: Fault::Refused(code),
-            },
-        ) => Some((id, code)),
-        _ => None,
+/// Runs each stage, also after a refusal, and tells how each ended.
+fn all_executed(
+    rt: &(impl AllocGlobal + Threads + Sync),
+    stages: &mut [Stage<Value, Adds>],
+    world: &mut World<Value>,
+    on_threads: bool,
+) -> Result<String, AllocError> {
+    let mut ends = String::new(rt.alloc());
+    for stage in stages {
+        let ended = executed(rt, stage, world, on_threads)?;
+        ends.push_str(ended.as_str())?;
+        ends.push_str("; ")?;
     }
+    Ok(ends)
 }
 
 #[test]
 fn a_stage_is_run_alone(rt: HostRuntime) -> Result<(), Fail> {
-    let mut in_order = world_of(rt.alloc(), 2)?;
-    let mut beside = world_of(rt.alloc(), 2)?;
-    let mut stages = stages_of(rt.alloc(), &REFUSED)?;
-    assert_eq!(rt; stages.len(), 2);
-    assert_eq!(rt; code_of(stages[0].execute_seq(&mut in_order)), Some((1, 7)));
-    assert!(rt; stages[1].execute_seq(&mut in_order).is_ok());
-    assert_eq!(rt; code_of(stages[0].execute(&rt, &mut beside)), Some((1, 7)));
-    assert!(rt; stages[1].execute(&rt, &mut beside).is_ok());
-    for world in [&in_order, &beside] {
-        assert_eq!(rt; count_at(world, 0), Some(1));
-        assert_eq!(rt; count_at(world, 1), Some(105));
+    for on_threads in [false, true] {
+        let mut world = world_of(rt.alloc(), 2)?;
+        let systems = systems_of(rt.alloc(), REFUSED.rows)?;
+        let mut stages = inserted(rt.alloc(), systems)?.build();
+        let ends = all_executed(&rt, stages.as_mut_slice(), &mut world, on_threads)?;
+        assert_eq!(rt; ends.as_str(), "system 1: refused: 7; done; ");
+        expect_counts(&rt, &world, &[1, 105]);
     }
     Ok(())
 }

@@ -1,318 +1,170 @@
 //! The builder of dispatchers: names, refusals and the printed plan.
 
-use crate::planner_tests::{Case, OnlyPlanned, described, next, numbered, plain_entry, system_of};
+use crate::builder_rows::{Add, FIVE, FIVE_PRINTED, ROWS};
+use crate::calls::expect_add;
+use crate::planned_system::{Case, OnlyPlanned, PLAIN, system_of};
+use crate::planner_tests::plain_entry;
+use crate::random_cases::{next, numbered};
 use crate::stopping::{Stop, StoppingWriter};
-use shred::{
-    AddError, DispatcherBuilder, PrintError, RunningTime, StagesBuilder, SystemId, ToWriter,
-};
+use shred::{AddError, DispatcherBuilder, PrintError, SystemId, ToWriter};
 use shredtest::values::Value;
-use shredtest_planner::plain_plan::PlainPlan;
+use shredtest_planner::plain_plan::{PlainGroup, PlainPlan, PlainStage};
 use shredtest_planner::slow_placement::slow_placement;
 use std::alloc::{AllocError, Global};
-use std::collections::HashMap;
+use std::io::Write;
 use std::process::Abort;
 use std::test::Fail;
 
 type Builder = DispatcherBuilder<Value, OnlyPlanned>;
 
-const PLAIN: Case = Case {
-    reads: &[],
-    writes: &[],
-    time: RunningTime::Average,
-};
-
-/// Adds a system that touches nothing.
-fn add(
-    alloc: Global,
-    builder: &mut Builder,
-    name: &str,
-    dependencies: &[&str],
-) -> Result<Result<SystemId, AddError>, Fail> {
-    Ok(builder.add(system_of(alloc, PLAIN)?, name, dependencies))
+/// A builder after these calls.
+fn built(rt: &impl Abort, alloc: Global, adds: &[Add]) -> Result<Builder, Fail> {
+    let mut builder = Builder::default(alloc);
+    for add in adds {
+        let system = system_of(alloc, add.case)?;
+        expect_add(
+            rt,
+            &mut builder,
+            system,
+            add.name,
+            add.dependencies,
+            add.answer,
+        );
+    }
+    Ok(builder)
 }
 
-/// What is printed, and how it ended.
-fn printed(alloc: Global, builder: &Builder) -> Result<(Vec<u8>, Result<(), PrintError>), Fail> {
-    let mut bytes = Vec::new(alloc);
-    let mut sink = ToWriter::new(&mut bytes);
-    let ended = builder.print_par_seq(&mut sink);
-    drop(sink);
-    Ok((bytes, ended))
+fn print_to<W: Write + Drop>(builder: &Builder, writer: W) -> Result<(), PrintError> {
+    let mut sink = ToWriter::new(writer);
+    builder.print_par_seq(&mut sink)
 }
 
 fn expect_printed(
     rt: &impl Abort,
     alloc: Global,
     builder: &Builder,
-    text: &str,
-) -> Result<(), Fail> {
-    let (bytes, ended) = printed(alloc, builder)?;
-    assert_eq!(rt; ended, Ok(()));
-    assert_eq!(rt; bytes.as_slice(), text.as_bytes());
-    Ok(())
+    text: &[u8],
+    ended: Result<(), PrintError>,
+) {
+    let mut bytes = Vec::new(alloc);
+    assert_eq!(rt; print_to(builder, &mut bytes), ended);
+    assert_eq!(rt; bytes.as_slice(), text);
 }
 
 #[test]
-fn a_refused_add_leaves_the_builder(rt: HostRuntime) -> Result<(), Fail> {
-    let alloc = rt.alloc();
-    let mut builder = Builder::new(alloc);
-    assert_eq!(rt; add(alloc, &mut builder, "a", &[])?, Ok(SystemId(0)));
-    let unknown = Err(AddError::NoSuchSystem { place: 0 });
-    assert_eq!(rt; add(alloc, &mut builder, "a", &["x"])?, unknown);
-    assert_eq!(rt;
-        add(alloc, &mut builder, "a", &[])?,
-        Err(AddError::NameTaken)
-    );
-    assert_eq!(rt; add(alloc, &mut builder, "b", &["b"])?, unknown);
-    assert_eq!(rt; add(alloc, &mut builder, "b", &[])?, Ok(SystemId(1)));
-    let text =
-        "seq![\n\tpar![\n\t\tseq![\n\t\t\ta,\n\t\t],\n\t\tseq![\n\t\t\tb,\n\t\t],\n\t],\n]\n\n";
-    expect_printed(&rt, alloc, &builder, text)
-}
-
-#[test]
-fn the_empty_name_is_never_known(rt: HostRuntime) -> Result<(), Fail> {
-    let alloc = rt.alloc();
-    let mut builder = Builder::default(alloc);
-    assert_eq!(rt; add(alloc, &mut builder, "", &[])?, Ok(SystemId(0)));
-    assert_eq!(rt; add(alloc, &mut builder, "", &[])?, Ok(SystemId(1)));
-    assert_eq!(rt; add(alloc, &mut builder, "a", &[])?, Ok(SystemId(2)));
-    let unknown = Err(AddError::NoSuchSystem { place: 0 });
-    assert_eq!(rt; add(alloc, &mut builder, "c", &["", "a"])?, unknown);
-    let second = Err(AddError::NoSuchSystem { place: 1 });
-    assert_eq!(rt; add(alloc, &mut builder, "c", &["a", ""])?, second);
+fn calls_are_answered_and_their_plan_is_printed(rt: HostRuntime) -> Result<(), Fail> {
+    for row in ROWS {
+        let builder = built(&rt, rt.alloc(), row.adds)?;
+        expect_printed(&rt, rt.alloc(), &builder, row.printed.as_bytes(), row.ended);
+        assert_eq!(rt; builder.build().max_threads(), row.threads);
+    }
     Ok(())
 }
 
 #[test]
 fn an_empty_builder_prints_nine_bytes(rt: HostRuntime) -> Result<(), Fail> {
-    let alloc = rt.alloc();
-    let builder = Builder::new(alloc);
-    let (bytes, ended) = printed(alloc, &builder)?;
-    assert_eq!(rt; ended, Ok(()));
+    let builder = Builder::new(rt.alloc());
     let nine = [0x73, 0x65, 0x71, 0x21, 0x5b, 0x0a, 0x5d, 0x0a, 0x0a];
-    assert_eq!(rt; bytes.as_slice(), nine.as_slice());
+    expect_printed(&rt, rt.alloc(), &builder, &nine, Ok(()));
     assert_eq!(rt; builder.build().max_threads(), 0);
     Ok(())
 }
 
-#[test]
-fn a_system_without_a_name_is_not_printed(rt: HostRuntime) -> Result<(), Fail> {
-    let alloc = rt.alloc();
-    let mut builder = Builder::new(alloc);
-    assert_eq!(rt; add(alloc, &mut builder, "", &[])?, Ok(SystemId(0)));
-    let (bytes, ended) = printed(alloc, &builder)?;
-    assert_eq!(rt; ended, Err(PrintError::Unnamed(SystemId(0))));
-    assert!(rt; bytes.is_empty());
-    Ok(())
+/// A writer that takes a byte a call and stops so has these bytes.
+fn expect_written(
+    rt: &impl Abort,
+    alloc: Global,
+    builder: &Builder,
+    stop: Option<(usize, Stop)>,
+    bytes: &[u8],
+    ended: Result<(), PrintError>,
+) {
+    let mut writer = StoppingWriter::new(alloc, stop);
+    assert_eq!(rt; print_to(builder, &mut writer), ended);
+    assert_eq!(rt; writer.written(), bytes);
 }
 
-#[test]
-fn the_first_without_a_name_is_told_by_the_plan(rt: HostRuntime) -> Result<(), Fail> {
-    let alloc = rt.alloc();
-    let mut builder = Builder::new(alloc);
-    let long = described(&[], &[], RunningTime::VeryLong);
-    let writer = described(&[], &[0], RunningTime::VeryShort);
-    assert_eq!(rt;
-        builder.add(system_of(alloc, long)?, "a", &[]),
-        Ok(SystemId(0))
-    );
-    assert_eq!(rt;
-        builder.add(system_of(alloc, writer)?, "b", &[]),
-        Ok(SystemId(1))
-    );
-    assert_eq!(rt;
-        builder.add(system_of(alloc, long)?, "", &["a"]),
-        Ok(SystemId(2))
-    );
-    assert_eq!(rt;
-        builder.add(system_of(alloc, writer)?, "", &[]),
-        Ok(SystemId(3))
-    );
-    let (bytes, ended) = printed(alloc, &builder)?;
-    assert_eq!(rt; ended, Err(PrintError::Unnamed(SystemId(3))));
-    assert!(rt; bytes.is_empty());
-    Ok(())
-}
-
-#[test]
-fn names_are_cleaned_when_printed(rt: HostRuntime) -> Result<(), Fail> {
-    let alloc = rt.alloc();
-    let mut builder = Builder::new(alloc);
-    assert_eq!(rt; add(alloc, &mut builder, "x-y/z w", &[])?, Ok(SystemId(0)));
-    let text = "seq![\n\tpar![\n\t\tseq![\n\t\t\tx_y_z_w,\n\t\t],\n\t],\n]\n\n";
-    expect_printed(&rt, alloc, &builder, text)
-}
-
-/// The plan of five systems that all read one resource, with dependencies among them.
-fn five(rt: &impl Abort, alloc: Global) -> Result<Builder, Fail> {
-    let reader = described(&[0], &[], RunningTime::Average);
-    let mut builder = Builder::new(alloc);
-    for (name, dependencies) in [
-        ("a", &[][..]),
-        ("b", &["a"][..]),
-        ("c", &["a"][..]),
-        ("d", &[][..]),
-        ("e", &["c", "d"][..]),
-    ] {
-        let added = builder.add(system_of(alloc, reader)?, name, dependencies);
-        assert!(rt; added.is_ok());
+/// Writers that stop after this beginning, and one that is full, have it and no more.
+fn expect_beginning(
+    rt: &impl Abort,
+    alloc: Global,
+    builder: &Builder,
+    beginning: &[u8],
+) -> Result<(), Fail> {
+    let place = beginning.len();
+    for stop in [Stop::TakesNothing, Stop::Fails, Stop::IsInterrupted] {
+        let stop = Some((place, stop));
+        expect_written(rt, alloc, builder, stop, beginning, Err(PrintError::Write));
     }
-    Ok(builder)
-}
-
-const FIVE: &str =
-    "seq![\n\tpar![\n\t\tseq![\n\t\t\ta,\n\t\t],\n\t\tseq![\n\t\t\td,\n\t\t],\n\t],\n\tpar![\n\t\tseq![\n\t\t\tb,\n\t\t],\n\t\tseq![\n\t\t\tc,\n\t\t],\n\t],\n\tpar![\n\t\tseq![\n\t\t\te,\n\t\t],\n\t],\n]\n\n";
-
-#[test]
-fn five_systems_are_printed(rt: HostRuntime) -> Result<(), Fail> {
-    let alloc = rt.alloc();
-    let builder = five(&rt, alloc)?;
-    expect_printed(&rt, alloc, &builder, FIVE)?;
-    assert_eq!(rt; builder.build().max_threads(), 2);
+    let mut room = vec![in alloc; 0; place]?;
+    assert_eq!(rt;
+        print_to(builder, room.as_mut_slice()),
+        Err(PrintError::Write)
+    );
+    assert_eq!(rt; room.as_slice(), beginning);
     Ok(())
-}
-
-#[test]
-fn a_full_writer_has_a_beginning(rt: HostRuntime) -> Result<(), Fail> {
-    let alloc = rt.alloc();
-    let builder = five(&rt, alloc)?;
-    for room in 0..FIVE.len() {
-        let mut bytes = [0; FIVE.len()];
-        let mut sink = ToWriter::new(&mut bytes[..room]);
-        assert_eq!(rt; builder.print_par_seq(&mut sink), Err(PrintError::Write));
-        drop(sink);
-        let (beginning, _) = FIVE.as_bytes().split_at(room);
-        assert_eq!(rt; &bytes[..room], beginning);
-    }
-    Ok(())
-}
-
-fn printed_slowly(builder: &Builder, writer: &mut StoppingWriter) -> Result<(), PrintError> {
-    let mut sink = ToWriter::new(writer);
-    builder.print_par_seq(&mut sink)
 }
 
 #[test]
 fn nothing_is_put_after_a_failure(rt: HostRuntime) -> Result<(), Fail> {
-    let alloc = rt.alloc();
-    let builder = five(&rt, alloc)?;
-    for place in 0..FIVE.len() {
-        let (beginning, _) = FIVE.as_bytes().split_at(place);
-        for stop in [Stop::TakesNothing, Stop::Fails, Stop::IsInterrupted] {
-            let mut writer = StoppingWriter::new(alloc, Some((place, stop)));
-            assert_eq!(rt;
-                printed_slowly(&builder, &mut writer),
-                Err(PrintError::Write)
-            );
-            assert_eq!(rt; writer.written(), beginning);
-        }
+    let builder = built(&rt, rt.alloc(), FIVE)?;
+    let text = FIVE_PRINTED.as_bytes();
+    for place in 0..text.len() {
+        let (beginning, _) = text.split_at(place);
+        expect_beginning(&rt, rt.alloc(), &builder, beginning)?;
     }
+    expect_written(&rt, rt.alloc(), &builder, None, text, Ok(()));
     Ok(())
 }
 
-#[test]
-fn a_plan_is_put_byte_by_byte(rt: HostRuntime) -> Result<(), Fail> {
-    let alloc = rt.alloc();
-    let builder = five(&rt, alloc)?;
-    let mut writer = StoppingWriter::new(alloc, None);
-    assert_eq!(rt; printed_slowly(&builder, &mut writer), Ok(()));
-    assert_eq!(rt; writer.written(), FIVE.as_bytes());
-    Ok(())
+/// `with`, with a system that touches nothing.
+fn with_plain(
+    alloc: Global,
+    builder: Builder,
+    name: &str,
+    dependencies: &[&str],
+) -> Result<Builder, AddError> {
+    match system_of(alloc, PLAIN) {
+        Ok(system) => builder.with(system, name, dependencies),
+        Err(_) => Err(AddError::OutOfMemory),
+    }
 }
 
 #[test]
 fn a_builder_is_handed_on(rt: HostRuntime) -> Result<(), Fail> {
     let alloc = rt.alloc();
-    let builder = Builder::new(alloc)
-        .with(system_of(alloc, PLAIN)?, "a", &[])
-        .and_then(|builder| {
-            let Ok(system) = system_of(alloc, PLAIN) else {
-                return Err(AddError::OutOfMemory);
-            };
-            builder.with_barrier().with(system, "b", &["a"])
-        });
-    let Ok(builder) = builder else {
-        assert!(rt; false);
-        return Ok(());
-    };
+    let builder = with_plain(alloc, Builder::new(alloc), "a", &[])?;
+    let builder = with_plain(alloc, builder.with_barrier(), "b", &["a"])?;
     let text =
         "seq![\n\tpar![\n\t\tseq![\n\t\t\ta,\n\t\t],\n\t],\n\tpar![\n\t\tseq![\n\t\t\tb,\n\t\t],\n\t],\n]\n\n";
-    expect_printed(&rt, alloc, &builder, text)?;
-    let refused = builder.with(system_of(alloc, PLAIN)?, "a", &[]);
+    expect_printed(&rt, alloc, &builder, text.as_bytes(), Ok(()));
+    let refused = with_plain(alloc, builder, "a", &[]);
     assert!(rt; matches!(&refused, Err(AddError::NameTaken)));
     Ok(())
 }
 
-#[test]
-fn the_least_of_several_names_is_printed(rt: HostRuntime) -> Result<(), Fail> {
-    let alloc = rt.alloc();
-    for names in [["b", "a", "ab"], ["a", "b", "ab"], ["ab", "b", "a"]] {
-        let mut map = HashMap::new(alloc);
-        for name in names {
-            map.insert(String::from_str(alloc, name)?, SystemId(0))?;
-        }
-        let mut builder: StagesBuilder<Value, OnlyPlanned> = StagesBuilder::new(alloc);
-        builder.insert(&[], SystemId(0), system_of(alloc, PLAIN)?)?;
-        let mut bytes = Vec::new(alloc);
-        let mut sink = ToWriter::new(&mut bytes);
-        assert_eq!(rt; builder.write_par_seq(&mut sink, &map), Ok(()));
-        drop(sink);
-        let text = "seq![\n\tpar![\n\t\tseq![\n\t\t\ta,\n\t\t],\n\t],\n]\n";
-        assert_eq!(rt; bytes.as_slice(), text.as_bytes());
+fn print_group(text: &mut String, group: &PlainGroup) -> Result<(), AllocError> {
+    text.push_str("\t\tseq![\n")?;
+    for entry in &group.entries {
+        let id = entry.id;
+        write!(text, "\t\t\ts{id},\n")?;
     }
-    Ok(())
+    text.push_str("\t\t],\n")
 }
 
-#[test]
-fn stages_are_written_where_each_system_is_named(rt: HostRuntime) -> Result<(), Fail> {
-    let alloc = rt.alloc();
-    let mut builder: StagesBuilder<Value, OnlyPlanned> = StagesBuilder::new(alloc);
-    builder.insert(&[], SystemId(0), system_of(alloc, PLAIN)?)?;
-    builder.insert(&[], SystemId(1), system_of(alloc, PLAIN)?)?;
-    let mut names = HashMap::new(alloc);
-    names.insert(String::from_str(alloc, "a")?, SystemId(0))?;
-    let mut writer = StoppingWriter::new(alloc, Some((5, Stop::Fails)));
-    let mut sink = ToWriter::new(&mut writer);
-    assert_eq!(rt;
-        builder.write_par_seq(&mut sink, &names),
-        Err(PrintError::Unnamed(SystemId(1)))
-    );
-    drop(sink);
-    assert!(rt; writer.written().is_empty());
-    names.insert(String::from_str(alloc, "b")?, SystemId(1))?;
-    let mut sink = ToWriter::new(&mut writer);
-    assert_eq!(rt;
-        builder.write_par_seq(&mut sink, &names),
-        Err(PrintError::Write)
-    );
-    drop(sink);
-    assert_eq!(rt; writer.written(), "seq![".as_bytes());
-    let mut bytes = Vec::new(alloc);
-    let mut sink = ToWriter::new(&mut bytes);
-    assert_eq!(rt; builder.write_par_seq(&mut sink, &names), Ok(()));
-    drop(sink);
-    let text =
-        "seq![\n\tpar![\n\t\tseq![\n\t\t\ta,\n\t\t],\n\t\tseq![\n\t\t\tb,\n\t\t],\n\t],\n]\n";
-    assert_eq!(rt; bytes.as_slice(), text.as_bytes());
-    Ok(())
+fn print_stage(text: &mut String, stage: &PlainStage) -> Result<(), AllocError> {
+    text.push_str("\tpar![\n")?;
+    for group in &stage.groups {
+        print_group(text, group)?;
+    }
+    text.push_str("\t],\n")
 }
 
 /// The printed text of a plain plan, whose systems are named by their ids.
 fn text_of(alloc: Global, plan: &PlainPlan) -> Result<String, AllocError> {
-    let mut text = String::new(alloc);
-    text.push_str("seq![\n")?;
+    let mut text = String::from_str(alloc, "seq![\n")?;
     for stage in &plan.stages {
-        text.push_str("\tpar![\n")?;
-        for group in &stage.groups {
-            text.push_str("\t\tseq![\n")?;
-            for entry in &group.entries {
-                let id = entry.id;
-                write!(text, "\t\t\ts{id},\n")?;
-            }
-            text.push_str("\t\t],\n")?;
-        }
-        text.push_str("\t],\n")?;
+        print_stage(&mut text, stage)?;
     }
     text.push_str("]\n\n")?;
     Ok(text)
@@ -327,27 +179,23 @@ struct RandomAdd {
 
 /// A random system, which depends on up to three of the systems before it, some of them twice.
 fn pick(alloc: Global, seed: &mut u64, added: usize) -> Result<RandomAdd, AllocError> {
-    *seed = next(*seed);
-    let case = numbered(*seed >> 33);
-    *seed = next(*seed);
-    let count = (*seed >> 33) % 4;
+    let case = numbered(next(seed));
+    let count = next(seed) % 4;
     let mut dependencies = Vec::new(alloc);
     for _ in 0..count {
-        *seed = next(*seed);
-        if let Some(id) = ((*seed >> 33) as usize).checked_rem(added) {
+        if let Some(id) = (next(seed) as usize).checked_rem(added) {
             dependencies.push(id)?;
         }
     }
     Ok(RandomAdd { case, dependencies })
 }
 
-/// Adds the system by name, after a call that is refused.
+/// Adds the system by name, between two calls that are refused.
 fn add_picked(
     rt: &impl Abort,
     alloc: Global,
     builder: &mut Builder,
     names: &Vec<String>,
-    id: usize,
     name: &str,
     pick: &RandomAdd,
 ) -> Result<(), Fail> {
@@ -357,12 +205,16 @@ fn add_picked(
             dependencies.push(name.as_str())?;
         }
     }
-    let refused = builder.add(system_of(alloc, pick.case)?, name, &[name]);
-    assert_eq!(rt; refused, Err(AddError::NoSuchSystem { place: 0 }));
-    let added = builder.add(system_of(alloc, pick.case)?, name, dependencies.as_slice());
-    assert_eq!(rt; added, Ok(SystemId(id)));
-    let taken = builder.add(system_of(alloc, pick.case)?, name, dependencies.as_slice());
-    assert_eq!(rt; taken, Err(AddError::NameTaken));
+    let dependencies = dependencies.as_slice();
+    let system = system_of(alloc, pick.case)?;
+    let unknown = Err(AddError::NoSuchSystem { place: 0 });
+    expect_add(rt, builder, system, name, &[name], unknown);
+    let system = system_of(alloc, pick.case)?;
+    let added = Ok(SystemId(names.len()));
+    expect_add(rt, builder, system, name, dependencies, added);
+    let system = system_of(alloc, pick.case)?;
+    let taken = Err(AddError::NameTaken);
+    expect_add(rt, builder, system, name, dependencies, taken);
     Ok(())
 }
 
@@ -375,21 +227,21 @@ fn agree_on_random_calls(rt: &impl Abort, alloc: Global, seed: &mut u64) -> Resu
     let mut names = Vec::new(alloc);
     let mut barrier = 0;
     for id in 0..12 {
-        *seed = next(*seed);
-        if (*seed >> 33) % 8 == 0 {
+        if next(seed) % 8 == 0 {
             builder.add_barrier();
             barrier = plan.stages.len();
         }
         let picked = pick(alloc, seed, id)?;
         let name = format!(in alloc; "s{id}")?;
-        add_picked(rt, alloc, &mut builder, &names, id, name.as_str(), &picked)?;
+        add_picked(rt, alloc, &mut builder, &names, name.as_str(), &picked)?;
         names.push(name)?;
         let entry = plain_entry(alloc, id, picked.case)?;
         let dependencies = picked.dependencies.as_slice();
         slow_placement(alloc, &mut plan, barrier, barrier, dependencies, entry)?;
     }
     let text = text_of(alloc, &plan)?;
-    expect_printed(rt, alloc, &builder, text.as_str())
+    expect_printed(rt, alloc, &builder, text.as_bytes(), Ok(()));
+    Ok(())
 }
 
 #[test]

@@ -1,15 +1,12 @@
 //! The errors of plans and dispatches as std's `Error`, and their texts.
+use crate::calls::text_of;
 use shred::{
     AddError, DataError, DispatchError, Fault, PrintError, SinkFailed, StageFault, SystemId,
 };
-use std::alloc::{AllocError, Global};
+use std::alloc::Global;
 use std::error::Error;
 use std::process::Abort;
 use std::test::Fail;
-
-fn text_of<E: Error>(alloc: Global, error: &E) -> Result<String, AllocError> {
-    format!(in alloc; "{error}")
-}
 
 fn expect_text<E: Error>(
     rt: &impl Abort,

@@ -2,15 +2,15 @@
 ghost use Rattle.std.specs.Prelude.{[]};
 ghost use Rattle.shred_stage.specs.declared.system.RunningTime.TheVariants.{Average};
 
-use shred::{
-    DispatchError, Dispatcher, Fault, OutOfMemory, RunningTime, StagesBuilder, System, SystemId,
-    View, World, new_dispatcher,
-};
+use crate::calls::{dispatched, dispatcher_of};
+use shred::{Fault, OutOfMemory, RunningTime, System, View, World};
 use shredtest::values::Value;
-use std::alloc::Global;
+use std::alloc::{AllocError, Global};
+use std::process::Abort;
 use std::sync::atomic::{AtomicBool, Ordering};
 use std::test::Fail;
 use std::thread;
+use std::thread::Threads;
 
 /// Raises its flag, looks so often at most for the other's, and refuses if it never sees it. After each look it lets others
 /// run, so that a busy machine has the time to start the second thread.
@@ -66,88 +66,81 @@ impl<'f> System<Value> for Meets<'f> {
     }
 }
 
-fn two_that_meet<'f>(
+/// What a system raises and what it waits for, as places in a list of flags.
+struct Meeting {
+    own: usize,
+    other: usize,
+}
+
+const TWO: &[Meeting] = &[Meeting { own: 0, other: 1 }, Meeting { own: 1, other: 0 }];
+
+/// The first and the last wait for each other. The others wait for nothing.
+const FOUR: &[Meeting] = &[
+    Meeting { own: 0, other: 1 },
+    Meeting { own: 2, other: 2 },
+    Meeting { own: 2, other: 2 },
+    Meeting { own: 1, other: 0 },
+];
+
+fn flag_at<'f>(flags: &'f [AtomicBool; 3], place: usize) -> &'f AtomicBool {
+    match place {
+        0 => &flags[0],
+        1 => &flags[1],
+        _ => &flags[2],
+    }
+}
+
+fn systems_of<'f>(
     alloc: Global,
-    first: &'f AtomicBool,
-    second: &'f AtomicBool,
+    flags: &'f [AtomicBool; 3],
+    meetings: &[Meeting],
     turns: u32,
-) -> Result<Dispatcher<Value, Meets<'f>>, OutOfMemory> {
-    let mut builder = StagesBuilder::new(alloc);
-    let one = Meets {
-        own: first,
-        other: second,
-        turns,
-    };
-    builder.insert(&[], SystemId(0), one)?;
-    let two = Meets {
-        own: second,
-        other: first,
-        turns,
-    };
-    builder.insert(&[], SystemId(1), two)?;
-    Ok(new_dispatcher(builder.build()))
+) -> Result<Vec<Meets<'f>>, AllocError> {
+    let mut systems = Vec::new(alloc);
+    for meeting in meetings {
+        systems.push(Meets {
+            own: flag_at(flags, meeting.own),
+            other: flag_at(flags, meeting.other),
+            turns,
+        })?;
+    }
+    Ok(systems)
+}
+
+/// The systems stand in one stage, each in a group of its own, and their dispatch ends so.
+fn expect_meeting(
+    rt: &(impl Abort + AllocGlobal + Threads + Sync),
+    meetings: &[Meeting],
+    turns: u32,
+    on_threads: bool,
+    ended: &str,
+) -> Result<(), Fail> {
+    let flags = [
+        AtomicBool::new(false),
+        AtomicBool::new(false),
+        AtomicBool::new(false),
+    ];
+    let systems = systems_of(rt.alloc(), &flags, meetings, turns)?;
+    let mut dispatcher = dispatcher_of(rt.alloc(), systems)?;
+    let mut world: World<Value> = World::empty(rt.alloc());
+    assert_eq!(rt; dispatcher.max_threads(), meetings.len());
+    let end = dispatched(rt, &mut dispatcher, &mut world, on_threads)?;
+    assert_eq!(rt; end.as_str(), ended);
+    Ok(())
 }
 
 #[test]
 fn two_halves_run_at_once(rt: HostRuntime) -> Result<(), Fail> {
-    let first = AtomicBool::new(false);
-    let second = AtomicBool::new(false);
-    let mut dispatcher = two_that_meet(rt.alloc(), &first, &second, 10_000_000)?;
-    let mut world: World<Value> = World::empty(rt.alloc());
-    assert_eq!(rt; dispatcher.max_threads(), 2);
-    assert!(rt; dispatcher.dispatch_par(&rt, &mut world).is_ok());
-    Ok(())
-}
-
-fn waiting<'f>(own: &'f AtomicBool, other: &'f AtomicBool) -> Meets<'f> {
-    Meets {
-        own,
-        other,
-        turns: 10_000_000,
-    }
-}
-
-// Four systems, of which the first and the last wait for each other. The others wait for nothing.
-fn four_whose_first_and_last_meet<'f>(
-    alloc: Global,
-    first: &'f AtomicBool,
-    last: &'f AtomicBool,
-    none: &'f AtomicBool,
-) -> Result<Dispatcher<Value, Meets<'f>>, OutOfMemory> {
-    let mut builder = StagesBuilder::new(alloc);
-    builder.insert(&[], SystemId(0), waiting(first, last))?;
-    builder.insert(&[], SystemId(1), waiting(none, none))?;
-    builder.insert(&[], SystemId(2), waiting(none, none))?;
-    builder.insert(&[], SystemId(3), waiting(last, first))?;
-    Ok(new_dispatcher(builder.build()))
+    expect_meeting(&rt, TWO, 10_000_000, true, "done")
 }
 
 #[test]
 fn halves_of_a_stage_of_four_run_at_once(rt: HostRuntime) -> Result<(), Fail> {
-    let first = AtomicBool::new(false);
-    let last = AtomicBool::new(false);
-    let none = AtomicBool::new(false);
-    let mut dispatcher = four_whose_first_and_last_meet(rt.alloc(), &first, &last, &none)?;
-    let mut world: World<Value> = World::empty(rt.alloc());
-    assert_eq!(rt; dispatcher.max_threads(), 4);
-    assert!(rt; dispatcher.dispatch_par(&rt, &mut world).is_ok());
-    Ok(())
+    expect_meeting(&rt, FOUR, 10_000_000, true, "done")
 }
 
 #[test]
 fn one_after_the_other_they_do_not_meet(rt: HostRuntime) -> Result<(), Fail> {
-    let first = AtomicBool::new(false);
-    let second = AtomicBool::new(false);
     // No number of looks would do: the second has not begun.
-    let mut dispatcher = two_that_meet(rt.alloc(), &first, &second, 1_000)?;
-    let mut world: World<Value> = World::empty(rt.alloc());
-    match dispatcher.dispatch_seq(&mut world) {
-        Err(
-            DispatchError::System {
-                id: SystemId(0),
-                fault: Fault::Refused(1),
-            },
-        ) => Ok(()),
-        _ => Err(Fail::from("the first of the two was to refuse")),
-    }
+    expect_meeting(&rt, TWO, 1_000, false, "system 0: refused: 1")
 }

@@ -6,17 +6,27 @@ mod asked_once;
 #[cfg(test)]
 mod both_ways;
 #[cfg(test)]
+mod builder_rows;
+#[cfg(test)]
 mod builder_tests;
 #[cfg(test)]
-mod dependency_tests;
+mod calls;
 #[cfg(test)]
 mod error_tests;
 #[cfg(test)]
 mod gate;
 #[cfg(test)]
+mod named_stages;
+#[cfg(test)]
 mod own_bundle;
 #[cfg(test)]
+mod plan_rows;
+#[cfg(test)]
+mod planned_system;
+#[cfg(test)]
 mod planner_tests;
+#[cfg(test)]
+mod random_cases;
 #[cfg(test)]
 mod shared_reads;
 #[cfg(test)]

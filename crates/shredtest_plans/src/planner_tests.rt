@@ -1,180 +1,18 @@
 //! The planner, beside the slow program and on plans that were worked out by hand.
-ghost use Rattle.std.specs.Prelude.{◌≡◌, IfOk};
 
-use shred::{
-    Accessor, Fault, Kind, OutOfMemory, ResourceId, RunningTime, Stage, StagesBuilder, System,
-    SystemId, View, World,
-};
+use crate::calls::insert;
+use crate::plan_rows::{BY_ACCESS, BY_DEPENDENCY, Call, Row, UNSORTED};
+use crate::planned_system::{Case, OnlyPlanned, expect_ids, system_of};
+use crate::random_cases::{next, numbered};
+use shred::{Stage, StagesBuilder, SystemId};
 use shredtest::values::Value;
-use shredtest_planner::plain_plan::{PlainEntry, PlainPlan};
+use shredtest_planner::plain_plan::{PlainEntry, PlainGroup, PlainPlan, PlainStage};
 use shredtest_planner::slow_placement::slow_placement;
 use std::alloc::{AllocError, Global};
 use std::process::Abort;
 use std::test::Fail;
 
-/// What a system of a test declares.
-#[derive(Clone, Copy)]
-pub(crate) struct Case {
-    pub(crate) reads: &'static [u32],
-    pub(crate) writes: &'static [u32],
-    pub(crate) time: RunningTime,
-}
-
-pub(crate) fn described(reads: &'static [u32], writes: &'static [u32], time: RunningTime) -> Case {
-    Case {
-        reads,
-        writes,
-        time,
-    }
-}
-
-/// The lists of a system of a test.
-#[derive(Drop)]
-pub(crate) struct Declared {
-    reads: Vec<ResourceId>,
-    writes: Vec<ResourceId>,
-}
-
-fn copied(alloc: Global, ids: &Vec<ResourceId>) -> Result<Vec<ResourceId>, OutOfMemory>
-    ensures { IfOk result (λ copy. copy.items ≡ ids.now.items) }
-{
-    match Vec::from_slice(alloc, ids.as_slice()) {
-        Ok(copy) => Ok(copy),
-        Err(_) => Err(OutOfMemory),
-    }
-}
-
-impl Accessor for Declared {
-    ghost reads = { λ d. d.reads.items };
-
-    ghost writes = { λ d. d.writes.items };
-
-    fn reads(&self, alloc: Global) -> Result<Vec<ResourceId>, OutOfMemory> {
-        copied(alloc, &self.reads)
-    }
-
-    fn writes(&self, alloc: Global) -> Result<Vec<ResourceId>, OutOfMemory> {
-        copied(alloc, &self.writes)
-    }
-}
-
-/// A system that is only planned.
-#[derive(Drop)]
-pub(crate) struct OnlyPlanned {
-    declared: Declared,
-    time: RunningTime,
-}
-
-impl System<Value> for OnlyPlanned {
-    type Error = u8;
-
-    type Accessor = Declared;
-
-    ghost reads = { λ s. s.declared.reads.items };
-
-    ghost writes = { λ s. s.declared.writes.items };
-
-    ghost time = { λ s. s.time };
-
-    ghost step = { λ _ _ _ _ _. Unit {0} };
-
-    ghost sets_up = { λ _ _ _ _ _. Unit {0} };
-
-    ghost disposes = { λ _ _ _ _. Unit {0} };
-
-    fn run(&mut self, _view: &mut View<Value>) -> Result<(), Fault<u8>> {
-        Ok(())
-    }
-
-    fn setup(&mut self, _world: &mut World<Value>) -> Result<(), Fault<u8>> {
-        Ok(())
-    }
-
-    fn dispose(self, _world: &mut World<Value>) -> Result<(), Fault<u8>> {
-        Ok(())
-    }
-
-    fn running_time(&self) -> RunningTime {
-        self.time
-    }
-
-    fn accessor(&self, alloc: Global) -> Result<Declared, OutOfMemory> {
-        let reads = match copied(alloc, &self.declared.reads) {
-            Ok(reads) => reads,
-            Err(e) => return Err(e),
-        };
-        let writes = match copied(alloc, &self.declared.writes) {
-            Ok(writes) => writes,
-            Err(e) => return Err(e),
-        };
-        Ok(Declared { reads, writes })
-    }
-}
-
-fn resources(alloc: Global, numbers: &[u32]) -> Result<Vec<ResourceId>, AllocError> {
-    let mut ids = Vec::new(alloc);
-    for number in numbers {
-        ids.push(ResourceId::from_type_id(Kind(*number)))?;
-    }
-    Ok(ids)
-}
-
-/// The system of a case.
-pub(crate) fn system_of(alloc: Global, case: Case) -> Result<OnlyPlanned, AllocError> {
-    Ok(OnlyPlanned {
-        declared: Declared {
-            reads: resources(alloc, case.reads)?,
-            writes: resources(alloc, case.writes)?,
-        },
-        time: case.time,
-    })
-}
-
-fn planned(alloc: Global, cases: &[Case]) -> Result<Vec<Stage<Value, OnlyPlanned>>, Fail> {
-    let mut builder = StagesBuilder::new(alloc);
-    for (id, case) in cases.iter().enumerate() {
-        builder.insert(&[], SystemId(id), system_of(alloc, *case)?)?;
-    }
-    Ok(builder.build())
-}
-
-/// A plan, as `[[0],[1,2]] [[3]]`.
-pub(crate) fn text_of_stages(
-    alloc: Global,
-    stages: &[Stage<Value, OnlyPlanned>],
-) -> Result<String, AllocError> {
-    let mut text = String::new(alloc);
-    for stage in stages {
-        start_stage(&mut text)?;
-        for place in 0..stage.max_threads() {
-            start_group(&mut text)?;
-            if let Some(ids) = stage.group_ids(place) {
-                for id in ids {
-                    add_id(&mut text, id.0)?;
-                }
-            }
-            text.push_str("]")?;
-        }
-        text.push_str("]")?;
-    }
-    Ok(text)
-}
-
-pub(crate) fn text_of_plain(alloc: Global, plan: &PlainPlan) -> Result<String, AllocError> {
-    let mut text = String::new(alloc);
-    for stage in &plan.stages {
-        start_stage(&mut text)?;
-        for group in &stage.groups {
-            start_group(&mut text)?;
-            for entry in &group.entries {
-                add_id(&mut text, entry.id)?;
-            }
-            text.push_str("]")?;
-        }
-        text.push_str("]")?;
-    }
-    Ok(text)
-}
+type Builder = StagesBuilder<Value, OnlyPlanned>;
 
 fn start_stage(text: &mut String) -> Result<(), AllocError> {
     if !text.is_empty() {
@@ -197,6 +35,59 @@ fn add_id(text: &mut String, id: usize) -> Result<(), AllocError> {
     write!(text, "{id}")
 }
 
+fn add_ids(text: &mut String, ids: &[SystemId]) -> Result<(), AllocError> {
+    for id in ids {
+        add_id(text, id.0)?;
+    }
+    text.push_str("]")
+}
+
+fn add_stage(text: &mut String, stage: &Stage<Value, OnlyPlanned>) -> Result<(), AllocError> {
+    start_stage(text)?;
+    for place in 0..stage.max_threads() {
+        start_group(text)?;
+        add_ids(text, stage.group_ids(place).unwrap_or(&[]))?;
+    }
+    text.push_str("]")
+}
+
+/// A plan, as `[[0],[1,2]] [[3]]`.
+fn text_of_stages(
+    alloc: Global,
+    stages: &[Stage<Value, OnlyPlanned>],
+) -> Result<String, AllocError> {
+    let mut text = String::new(alloc);
+    for stage in stages {
+        add_stage(&mut text, stage)?;
+    }
+    Ok(text)
+}
+
+fn add_entries(text: &mut String, group: &PlainGroup) -> Result<(), AllocError> {
+    for entry in &group.entries {
+        add_id(text, entry.id)?;
+    }
+    text.push_str("]")
+}
+
+fn add_plain_stage(text: &mut String, stage: &PlainStage) -> Result<(), AllocError> {
+    start_stage(text)?;
+    for group in &stage.groups {
+        start_group(text)?;
+        add_entries(text, group)?;
+    }
+    text.push_str("]")
+}
+
+fn text_of_plain(alloc: Global, plan: &PlainPlan) -> Result<String, AllocError> {
+    let mut text = String::new(alloc);
+    for stage in &plan.stages {
+        add_plain_stage(&mut text, stage)?;
+    }
+    Ok(text)
+}
+
+/// The entry of a case in the slow program.
 pub(crate) fn plain_entry(alloc: Global, id: usize, case: Case) -> Result<PlainEntry, AllocError> {
     Ok(PlainEntry {
         id,
@@ -206,133 +97,120 @@ pub(crate) fn plain_entry(alloc: Global, id: usize, case: Case) -> Result<PlainE
     })
 }
 
-fn slowly_planned(alloc: Global, cases: &[Case]) -> Result<PlainPlan, Fail> {
+fn system_ids(alloc: Global, numbers: &[usize]) -> Result<Vec<SystemId>, AllocError> {
+    let mut ids = Vec::new(alloc);
+    for number in numbers {
+        ids.push(SystemId(*number))?;
+    }
+    Ok(ids)
+}
+
+/// The builder after these calls.
+pub(crate) fn quickly(alloc: Global, calls: &[Call]) -> Result<Builder, Fail> {
+    let mut builder = Builder::default(alloc);
+    let mut next = 0;
+    for call in calls {
+        match *call {
+            Call::Barrier => builder.add_barrier(),
+            Call::Insert(case, dependencies) => {
+                let ids = system_ids(alloc, dependencies)?;
+                insert(&mut builder, ids.as_slice(), next, system_of(alloc, case)?)?;
+                next = next.wrapping_add(1);
+            }
+        }
+    }
+    Ok(builder)
+}
+
+fn slowly(alloc: Global, calls: &[Call]) -> Result<PlainPlan, Fail> {
     let mut plan = PlainPlan {
         stages: Vec::new(alloc),
     };
-    for (id, case) in cases.iter().enumerate() {
-        slow_placement(alloc, &mut plan, 0, 0, &[], plain_entry(alloc, id, *case)?)?;
+    let mut barrier = 0;
+    let mut next = 0;
+    for call in calls {
+        match *call {
+            Call::Barrier => barrier = plan.stages.len(),
+            Call::Insert(case, dependencies) => {
+                let entry = plain_entry(alloc, next, case)?;
+                slow_placement(alloc, &mut plan, barrier, barrier, dependencies, entry)?;
+                next = next.wrapping_add(1);
+            }
+        }
     }
     Ok(plan)
 }
 
-/// Both plans of these systems, as texts.
-fn both(alloc: Global, cases: &[Case]) -> Result<(String, String), Fail> {
-    let stages = planned(alloc, cases)?;
-    let plan = slowly_planned(alloc, cases)?;
-    Ok((
-        text_of_stages(alloc, stages.as_slice())?,
-        text_of_plain(alloc, &plan)?,
-    ))
+/// The plan of these calls, which is that of the slow program.
+fn agreed(rt: &impl Abort, alloc: Global, calls: &[Call]) -> Result<String, Fail> {
+    let stages = quickly(alloc, calls)?.build();
+    let text = text_of_stages(alloc, stages.as_slice())?;
+    let plan = slowly(alloc, calls)?;
+    assert_eq!(rt; text, text_of_plain(alloc, &plan)?);
+    Ok(text)
 }
 
-/// A system for each number.
-pub(crate) fn numbered(n: u64) -> Case {
-    let time = match n / 8 % 3 {
-        0 => RunningTime::VeryShort,
-        1 => RunningTime::Average,
-        _ => RunningTime::VeryLong,
-    };
-    match n % 8 {
-        0 => described(&[], &[], time),
-        1 => described(&[0], &[], time),
-        2 => described(&[], &[0], time),
-        3 => described(&[0, 1], &[], time),
-        4 => described(&[], &[1], time),
-        5 => described(&[0], &[1], time),
-        6 => described(&[1, 1], &[0, 2], time),
-        _ => described(&[2], &[2, 1], time),
+fn expect_plans(rt: &impl Abort, alloc: Global, rows: &[Row]) -> Result<(), Fail> {
+    for row in rows {
+        let text = agreed(rt, alloc, row.calls)?;
+        assert_eq!(rt; text.as_str(), row.plan);
     }
+    Ok(())
 }
 
-fn agree(rt: &impl Abort, alloc: Global, cases: &[Case]) -> Result<(), Fail> {
-    let (quick, slow) = both(alloc, cases)?;
-    assert_eq!(rt; quick, slow);
-    Ok(())
+#[test]
+fn systems_are_planned_by_what_they_touch_and_depend_on(rt: HostRuntime) -> Result<(), Fail> {
+    expect_plans(&rt, rt.alloc(), BY_ACCESS)?;
+    expect_plans(&rt, rt.alloc(), BY_DEPENDENCY)
 }
 
 #[test]
 fn every_short_list_is_planned_by_the_rule(rt: HostRuntime) -> Result<(), Fail> {
-    let alloc = rt.alloc();
-    for first in 0..24 {
-        for second in 0..24 {
-            for third in 0..24 {
-                let cases = [numbered(first), numbered(second), numbered(third)];
-                agree(&rt, alloc, &cases)?;
-            }
-        }
+    // A number stands for three systems, each one of 24.
+    for number in 0..24 * 24 * 24 {
+        let calls = [
+            Call::Insert(numbered(number / 576), &[]),
+            Call::Insert(numbered(number / 24), &[]),
+            Call::Insert(numbered(number), &[]),
+        ];
+        agreed(&rt, rt.alloc(), &calls)?;
     }
     Ok(())
 }
 
-pub(crate) fn next(seed: u64) -> u64 {
-    seed.wrapping_mul(6364136223846793005)
-        .wrapping_add(1442695040888963407)
+fn random_calls(alloc: Global, seed: &mut u64) -> Result<Vec<Call>, AllocError> {
+    let mut calls = Vec::new(alloc);
+    for _ in 0..16 {
+        calls.push(Call::Insert(numbered(next(seed)), &[]))?;
+    }
+    Ok(calls)
 }
 
 #[test]
 fn long_lists_are_planned_by_the_rule(rt: HostRuntime) -> Result<(), Fail> {
-    let alloc = rt.alloc();
     let mut seed = 2026;
     for _ in 0..1000 {
-        let mut cases = Vec::new(alloc);
-        for _ in 0..16 {
-            seed = next(seed);
-            cases.push(numbered(seed >> 33))?;
-        }
-        agree(&rt, alloc, cases.as_slice())?;
+        let calls = random_calls(rt.alloc(), &mut seed)?;
+        agreed(&rt, rt.alloc(), calls.as_slice())?;
     }
     Ok(())
 }
 
-/// Both programs plan these systems so.
-fn expect(rt: &impl Abort, alloc: Global, cases: &[Case], text: &str) -> Result<(), Fail> {
-    let (quick, slow) = both(alloc, cases)?;
-    assert_eq!(rt; quick.as_str(), text);
-    assert_eq!(rt; slow.as_str(), text);
+fn expect_lists(
+    rt: &impl Abort,
+    alloc: Global,
+    calls: &[Call],
+    reads: &[u32],
+    writes: &[u32],
+) -> Result<(), Fail> {
+    let builder = quickly(alloc, calls)?;
+    expect_ids(rt, alloc, builder.fetch_all_reads()?.as_slice(), reads)?;
+    expect_ids(rt, alloc, builder.fetch_all_writes()?.as_slice(), writes)?;
     Ok(())
 }
 
-const A: &[u32] = &[0];
-
-const B: &[u32] = &[1];
-
 #[test]
-fn a_reader_joins_the_short_writer(rt: HostRuntime) -> Result<(), Fail> {
-    let cases = [
-        described(A, &[], RunningTime::Average),
-        described(&[], B, RunningTime::VeryShort),
-        described(B, &[], RunningTime::Short),
-    ];
-    expect(&rt, rt.alloc(), &cases, "[[0],[1,2]]")
-}
-
-#[test]
-fn a_chain_of_two_beside_another(rt: HostRuntime) -> Result<(), Fail> {
-    let x = &[0];
-    let x_and_y = &[0, 1];
-    let cases = [
-        described(&[], x, RunningTime::Average),
-        described(&[], x_and_y, RunningTime::Average),
-        described(&[1], &[2], RunningTime::Average),
-    ];
-    expect(&rt, rt.alloc(), &cases, "[[0],[2]] [[1]]")
-}
-
-#[test]
-fn a_group_takes_four(rt: HostRuntime) -> Result<(), Fail> {
-    let long = described(&[], &[], RunningTime::VeryLong);
-    let writer = described(&[], A, RunningTime::VeryShort);
-    let cases = [long, writer, writer, writer, writer, writer];
-    expect(&rt, rt.alloc(), &cases, "[[0],[1,2,3,4]] [[5]]")
-}
-
-#[test]
-fn a_group_is_joined_while_that_balances(rt: HostRuntime) -> Result<(), Fail> {
-    let long = described(&[], &[], RunningTime::Average);
-    let writer = described(&[], A, RunningTime::VeryShort);
-    let average = [long, writer, described(&[], A, RunningTime::Average)];
-    expect(&rt, rt.alloc(), &average, "[[0],[1,2]]")?;
-    let longer = [long, writer, described(&[], A, RunningTime::Long)];
-    expect(&rt, rt.alloc(), &longer, "[[0],[1]] [[2]]")
+fn the_lists_of_a_plan_are_sorted_without_doubles(rt: HostRuntime) -> Result<(), Fail> {
+    expect_lists(&rt, rt.alloc(), UNSORTED, &[1, 3], &[0, 2, 4])?;
+    expect_lists(&rt, rt.alloc(), &[], &[], &[])
 }

@@ -4,13 +4,17 @@ ghost use Rattle.shred_world.specs.Views.{may_write, table_of, view_held, IsSame
 ghost use Rattle.shred_world.specs.declared.id.ResourceId.{ResourceId};
 ghost use Rattle.shredtest.specs.Values.{kind_of};
 
+use crate::calls::{dispatched, dispatcher_of};
+use crate::planned_system::{accessor_of, resources};
 use shred::{
-    BatchAccessor, DataError, DispatcherBuilder, Fault, Kind, OutOfMemory, ReadExpect, Resource,
+    BatchAccessor, DataError, Dispatcher, Fault, Kind, OutOfMemory, ReadExpect, Resource,
     ResourceId, RunningTime, System, View, World,
 };
 use shredtest::values::{Count, Flag, Name, Value};
-use std::alloc::Global;
+use std::alloc::{AllocError, Global};
+use std::process::Abort;
 use std::test::Fail;
+use std::thread::Threads;
 
 #[derive(Clone, Copy)]
 enum Act {
@@ -131,9 +135,7 @@ impl System<Value> for Task {
     }
 
     fn accessor(&self, alloc: Global) -> Result<BatchAccessor, OutOfMemory> {
-        let reads = Vec::from_slice(alloc, self.reads.as_slice()).map_err(|_| OutOfMemory)?;
-        let writes = Vec::from_slice(alloc, self.writes.as_slice()).map_err(|_| OutOfMemory)?;
-        Ok(BatchAccessor::new(reads, writes))
+        accessor_of(alloc, &self.reads, &self.writes)
     }
 
     fn setup(&mut self, _world: &mut World<Value>) -> Result<(), Fault<DataError>> {
@@ -145,51 +147,84 @@ impl System<Value> for Task {
     }
 }
 
-fn task_of(
-    alloc: Global,
-    reads: &[ResourceId],
-    writes: &[ResourceId],
+/// What a task declares, by kinds, its time, and what it does.
+struct Row {
+    reads: &'static [u32],
+    writes: &'static [u32],
     time: RunningTime,
     act: Act,
-) -> Result<Task, Fail> {
-    Ok(Task {
-        reads: Vec::from_slice(alloc, reads).map_err(|_| "memory")?,
-        writes: Vec::from_slice(alloc, writes).map_err(|_| "memory")?,
-        time,
-        act,
-    })
+}
+
+/// A long task, and beside it a group of two, of which the second reads what the first writes.
+const ROWS: &[Row] = &[
+    Row {
+        reads: &[],
+        writes: &[2],
+        time: RunningTime::VeryLong,
+        act: Act::Raise,
+    },
+    Row {
+        reads: &[],
+        writes: &[0],
+        time: RunningTime::VeryShort,
+        act: Act::CountOn,
+    },
+    Row {
+        reads: &[0],
+        writes: &[1],
+        time: RunningTime::VeryShort,
+        act: Act::NameAfterTwoReads,
+    },
+];
+
+fn tasks_of(alloc: Global, rows: &[Row]) -> Result<Vec<Task>, AllocError> {
+    let mut tasks = Vec::new(alloc);
+    for row in rows {
+        tasks.push(Task {
+            reads: resources(alloc, row.reads)?,
+            writes: resources(alloc, row.writes)?,
+            time: row.time,
+            act: row.act,
+        })?;
+    }
+    Ok(tasks)
+}
+
+fn world_of(alloc: Global) -> Result<World<Value>, Fail> {
+    let mut world: World<Value> = World::empty(alloc);
+    world.insert(Count(4))?;
+    world.insert(Name(0))?;
+    world.insert(Flag(false))?;
+    Ok(world)
+}
+
+fn name_in(world: &World<Value>) -> Option<u8> {
+    match world.try_fetch::<Name>() {
+        Some(name) => Some(name.0),
+        None => None,
+    }
+}
+
+fn expect_name(
+    rt: &(impl Abort + AllocGlobal + Threads + Sync),
+    dispatcher: &mut Dispatcher<Value, Task>,
+    world: &mut World<Value>,
+    on_threads: bool,
+    name: u8,
+) -> Result<(), Fail> {
+    let ended = dispatched(rt, dispatcher, world, on_threads)?;
+    assert_eq!(rt; ended.as_str(), "done");
+    assert_eq!(rt; name_in(world), Some(name));
+    Ok(())
 }
 
 #[test]
 fn what_the_group_writes_is_read_twice(rt: HostRuntime) -> Result<(), Fail> {
-    let alloc = rt.alloc();
-    let mut builder: DispatcherBuilder<Value, Task> = DispatcherBuilder::new(alloc);
-    let raise = task_of(alloc, &[], &[id(2)], RunningTime::VeryLong, Act::Raise)?;
-    let count = task_of(alloc, &[], &[id(0)], RunningTime::VeryShort, Act::CountOn)?;
-    let name = task_of(
-        alloc,
-        &[id(0)],
-        &[id(1)],
-        RunningTime::VeryShort,
-        Act::NameAfterTwoReads,
-    )?;
-    builder.add(raise, "", &[]).map_err(|_| "not added")?;
-    builder.add(count, "", &[]).map_err(|_| "not added")?;
-    builder.add(name, "", &[]).map_err(|_| "not added")?;
-    let mut dispatcher = builder.build();
+    let mut dispatcher = dispatcher_of(rt.alloc(), tasks_of(rt.alloc(), ROWS)?)?;
     assert_eq!(rt; dispatcher.max_threads(), 2);
-    let mut world: World<Value> = World::empty(alloc);
-    world.insert(Count(4)).map_err(|_| "memory")?;
-    world.insert(Name(0)).map_err(|_| "memory")?;
-    world.insert(Flag(false)).map_err(|_| "memory")?;
-    dispatcher
-        .dispatch_seq(&mut world)
-        .map_err(|_| "not dispatched")?;
-    assert_eq!(rt; world.fetch::<Name>().map(|name| name.0), Ok(10));
-    dispatcher
-        .dispatch_par(&rt, &mut world)
-        .map_err(|_| "not dispatched")?;
-    assert_eq!(rt; world.fetch::<Name>().map(|name| name.0), Ok(12));
+    let mut world = world_of(rt.alloc())?;
+    expect_name(&rt, &mut dispatcher, &mut world, false, 10)?;
+    expect_name(&rt, &mut dispatcher, &mut world, true, 12)?;
     assert_eq!(rt; world.fetch::<Flag>().map(|flag| flag.0), Ok(true));
     Ok(())
 }

@@ -1,5 +1,5 @@
 -- The slots that groups and entries keep for the values that they write.
-use Rattle.std.specs.Prelude.{◌≡◌, Bool, true, false, ◌&&◌, ◌==◌, IsTrue, Option, Some, None, List, length, cond, is_some, AllPairs}
+use Rattle.std.specs.Prelude.{◌≡◌, Bool, true, false, ◌&&◌, ◌==◌, IsTrue, Option, Some, None, List, length, cond, AllPairs}
 use Rattle.std.specs.List.{list_any, All}
 use Rattle.shred_model.specs.Plan as model
 use Rattle.shred_world.specs.declared.id.ResourceId.{ResourceId}
@@ -7,7 +7,7 @@ use Rattle.shred_world.specs.declared.table.Slot.{Slot}
 use Rattle.shred_world.specs.declared.table.Table.{Table}
 use Rattle.shred_world.specs.Parting.{IsEmptyHand, IsRoom, given, slot_value}
 use Rattle.shred_world.specs.Slots.{slot_at, among}
-use Rattle.shred_stage.specs.OwnSlots.{HasOnlySlots}
+use Rattle.shred_stage.specs.OwnSlots.{HasJustSlots, HasOnlySlots}
 use Rattle.shred_stage.specs.PlanOf.{group_plan}
 use Rattle.shred_stage.specs.declared.dispatch.entry.SystemEntry.{SystemEntry}
 use Rattle.shred_stage.specs.declared.dispatch.entry.Group.{Group}
@@ -46,7 +46,7 @@ module _ {V S : Type 0} where
 
   -- the hand has a slot for each written id, and no other slot
   abbrev pub FitsGroup : Group V S → Type 0
-  FitsGroup group = (q : ResourceId) → is_some (slot_at group.hand q) ≡ among group.written.items q
+  FitsGroup group = HasJustSlots group.written.items group.hand
 
   -- the table has the hand's values for the written ids, where it has slots for them
   abbrev pub IsBack : Table V → Table V → Group V S → Type 0

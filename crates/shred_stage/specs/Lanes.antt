@@ -9,16 +9,17 @@ use Rattle.shred_world.specs.Shown.{Lent, shown, IsSameSlots}
 use Rattle.shred_stage.specs.declared.dispatch.entry.Group.{Group}
 use Rattle.shred_stage.specs.declared.dispatch.run.StageFault.{StageFault}
 use Rattle.shred_stage.specs.Entries.{GroupRun, group_states}
-use Rattle.shred_stage.specs.Hands.{HasPlaces}
+use Rattle.shred_stage.specs.Hands.{FitsGroup, HasPlaces}
 use Rattle.shred_stage.specs.OwnLists.{IsOwnGroup}
 use Rattle.shred_stage.specs.OwnSlots.{HasGroupSlots}
 use Rattle.shred_stage.specs.PlanOf.{group_plan}
 use Rattle.shred_stage.specs.Steps.{Step}
 
--- The group's kept lists are its systems', its table has the slots that it writes, and its entries have their places.
+-- The group's kept lists are its systems', its table has the slots that it writes and no others, and its entries have their places.
 pub record IsReady {V S : Type 0} (reads writes : S → List ResourceId) (lent : Lent V) (group : Group V S) : Type 0 where
   pub own_lists : IsOwnGroup reads writes group
   pub own_slots : HasGroupSlots lent group.hand (group_plan group)
+  pub just_slots : FitsGroup group
   pub places : HasPlaces group.hand group
 
 -- The group ran over what its table shows; all beside its systems and the values in its table stayed.

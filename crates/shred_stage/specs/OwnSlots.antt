@@ -1,5 +1,5 @@
 -- Tables that have the slots which the entries of a plan write.
-use Rattle.std.specs.Prelude.{◌≡◌, false, None, List, All}
+use Rattle.std.specs.Prelude.{◌≡◌, false, None, List, All, is_some}
 use Rattle.shred_model.specs.Plan as model
 use Rattle.shred_world.specs.declared.id.ResourceId.{ResourceId}
 use Rattle.shred_world.specs.declared.table.Table.{Table}
@@ -13,6 +13,10 @@ lent_before own lent id = or_slot (slot_at own id) (lent id)
 -- the table has slots of these ids alone
 abbrev pub HasOnlySlots : {V : Type 0} → List ResourceId → Table V → Type 0
 HasOnlySlots ids own = (id : ResourceId) → among ids id ≡ false → slot_at own id ≡ None
+
+-- the table has a slot for each of these ids, and no other slot
+abbrev pub HasJustSlots : {V : Type 0} → List ResourceId → Table V → Type 0
+HasJustSlots ids own = (id : ResourceId) → is_some (slot_at own id) ≡ among ids id
 
 module _ {V : Type 0} (lent : Lent V) (own : Table V) where
   -- each id that an entry writes, where it is lent shared, has a slot in the table

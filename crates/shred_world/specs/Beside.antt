@@ -1,5 +1,5 @@
 -- The parts of a view, and what lies behind their hands.
-use Rattle.std.specs.Prelude.{◌≡◌, ℕ, IsTrue, None, Option, cond, List, [], get_or}
+use Rattle.std.specs.Prelude.{◌≡◌, ℕ, IsTrue, Option, cond, List, [], get_or}
 use Rattle.shred_world.specs.declared.id.ResourceId.{ResourceId}
 use Rattle.shred_world.specs.declared.table.Slot.{Slot}
 use Rattle.shred_world.specs.declared.table.Table.{Table}
@@ -8,7 +8,7 @@ use Rattle.shred_world.specs.declared.world.parts.Behind.{Behind}
 use Rattle.shred_world.specs.declared.world.parted.Parts.{Parts}
 use Rattle.shred_world.specs.Parts.{Pair, writes_of, declares}
 use Rattle.shred_world.specs.Shown.{Lent}
-use Rattle.shred_world.specs.Slots.{slot_at, among, or_slot}
+use Rattle.shred_world.specs.Slots.{slot_at, among}
 use Rattle.shred_world.specs.Views.{lent_slot}
 
 -- the pairs by which a view was parted
@@ -39,9 +39,9 @@ shelf_behind behind = behind.shelf
 abbrev pub lent_behind : {V : Type 0} → Behind V → Lent V
 lent_behind behind q = lent_slot behind.shelf q
 
--- the slot that a view of the pair shows over its hand and over what lies behind it
+-- the slot that a view of the pair shows: its hand's for what the pair writes, or else the one that lies behind
 abbrev pub part_slot : {V : Type 0} → Lent V → Pair → Table V → ResourceId → Option (Slot V)
-part_slot behind p hand q = or_slot (slot_at hand q) (cond (among (writes_of p) q) None (behind q))
+part_slot behind p hand q = cond (among (writes_of p) q) (slot_at hand q) (behind q)
 
 -- over the hand, a view of the pair shows these slots for the ids that the pair declares
 abbrev pub ShowsDeclared : {V : Type 0} → (behind first : Lent V) → Pair → Table V → Type 0

@@ -12,7 +12,7 @@ pub record IsOverWorld {V : Type 0} (world : World V) (view : View V) : Type 0 w
   pub own : (q : ResourceId) → slot_at (table_in view) q ≡ slot_at (table_of_world world) q
   pub shelf : shelves_of view ≡ []
 
--- The narrowed view is over what the other one is over. Its own ids are the other's, or, where that was of all that a table holds, those that it may write.
+-- The narrowed view is over what the other one is over. The ids listed as its own are the other's, or, where that was of all that a table holds, those that it may write.
 pub record IsNarrowed {V : Type 0} (view : View V) (writes : List ResourceId) (narrowed : View V) : Type 0 where
   pub own : table_in narrowed ≡ table_in view
   pub owned : owned_ids narrowed ≡ cond (is_whole view) writes (owned_ids view)

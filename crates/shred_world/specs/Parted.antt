@@ -13,7 +13,7 @@ use Rattle.shred_world.specs.Parts.{Pair, reads_of, writes_of, written_by, Fits,
 use Rattle.shred_world.specs.Slots.{slot_at}
 use Rattle.shred_world.specs.Views.{is_out, owned_ids, shelves_of, table_in, table_of, view_slot}
 
--- whether the view itself, and not what lies behind it, has a place for the id's value
+-- whether the view's own table has a slot for the id
 abbrev pub has_place : {V : Type 0} → View V → ResourceId → Bool
 has_place view id = is_some (slot_at (table_in view) id)
 

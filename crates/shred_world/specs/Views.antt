@@ -8,21 +8,29 @@ use Rattle.shred_world.specs.declared.world.view.DataError.{DataError}
 use Rattle.shred_world.specs.declared.world.view.DataError.TheVariants.{Missing, Undeclared, Taken, WrongKind}
 use Rattle.shred_world.specs.declared.world.view.Shelf.{Shelf, Last, Before'}
 use Rattle.shred_world.specs.declared.world.view.View.{View}
-use Rattle.shred_world.specs.Slots.{among, noted_in, slot_at, slot_held, or_slot}
+use Rattle.shred_world.specs.Slots.{among, noted_in, slot_at, slot_held}
 
--- the slot that a shelf shows for an id: that of the nearest table which has one, where no table before it owns the id
+-- the slot that a shelf shows for an id: that of the nearest table beside which the id is listed, or else of the last one
 abbrev pub shelf_slot : {V : Type 0} → Shelf V → ResourceId → Option (Slot V)
 shelf_slot (Last table) id = slot_at table.now id
-shelf_slot (Before' table owned p rest) id = or_slot (slot_at table.now id) (cond (among owned.now id) None (shelf_slot rest id))
+shelf_slot (Before' table owned p rest) id = cond (among owned.now id) (slot_at table.now id) (shelf_slot rest id)
 
 -- the slot that is lent shared for an id, where there is a shelf
 abbrev pub lent_slot : {V : Type 0} → List (Shelf V) → ResourceId → Option (Slot V)
 lent_slot [] id = None
 lent_slot (shelf ∷ rest) id = shelf_slot shelf id
 
--- the slot that a view shows for an id: its own, or else the shelf's where the id is not one of its own
+-- whether nothing lies behind the view's own table
+abbrev pub is_alone : {V : Type 0} → View V → Bool
+is_alone v = length v.shelf.now == 0
+
+-- whether the id is the view's own: it is listed so, or nothing lies behind the view's own table
+abbrev pub is_own : {V : Type 0} → View V → ResourceId → Bool
+is_own v id = is_alone v || among v.owned.now id
+
+-- the slot that a view shows for an id: that of its own table where the id is its own, or else the shelf's
 abbrev pub view_slot : {V : Type 0} → View V → ResourceId → Option (Slot V)
-view_slot v id = or_slot (slot_at v.own.now id) (cond (among v.owned.now id) None (lent_slot v.shelf.now id))
+view_slot v id = cond (is_own v id) (slot_at v.own.now id) (lent_slot v.shelf.now id)
 
 -- what a view shows under an id
 abbrev pub view_held : {V : Type 0} → (V → Kind) → View V → ResourceId → Option V
@@ -30,9 +38,9 @@ view_held kind v id = slot_held kind id (view_slot v id)
 
 -- whether the view is of all that a table holds, with nothing behind it
 abbrev pub is_whole : {V : Type 0} → View V → Bool
-is_whole v = v.whole && (length v.shelf.now == 0)
+is_whole v = v.whole && is_alone v
 
--- whether the id is declared to be written and its value is the view's own, or the view is of all that a table holds
+-- whether the id is declared to be written and it is listed as the view's own, or the view is of all that a table holds
 abbrev pub may_write : {V : Type 0} → View V → ResourceId → Bool
 may_write v id = is_whole v || (among v.writes.now id && among v.owned.now id)
 
@@ -45,13 +53,9 @@ abbrev pub is_vacant : {V : Type 0} → Option (Slot V) → Bool
 is_vacant (Some s) = is_none s.value
 is_vacant None = false
 
--- whether the value of the id is handed out: it is noted so, and its slot is empty
+-- whether the value of the id is handed out: the id is the view's own, it is noted so, and its slot is empty
 abbrev pub is_out : {V : Type 0} → View V → ResourceId → Bool
-is_out v id = noted_in v.own.now id && is_vacant (slot_at v.own.now id)
-
--- whether the id is looked for in the view's own table alone
-abbrev pub is_own : {V : Type 0} → View V → ResourceId → Bool
-is_own v id = is_some (slot_at v.own.now id) || (is_whole v || among v.owned.now id)
+is_out v id = is_own v id && (noted_in v.own.now id && is_vacant (slot_at v.own.now id))
 
 -- the first test that a part for an id fails: of the kind, of what is declared, of what is out, of what is held
 abbrev pub refusal : Kind → ResourceId → Bool → Bool → Bool → Option DataError
@@ -75,32 +79,36 @@ pub record HasSameLists {V : Type 0} (old new : View V) : Type 0 where
   pub whole : new.whole ≡ old.whole
   pub shelf : new.shelf ≡ old.shelf
 
--- the same ids are declared, the same tables are lent, and no slot came or went
+-- the same ids are declared, and the same are the view's own; the same tables are lent, no slot came or went, and the slot of each id that is not the view's own is as it was
 pub record IsSameLoan {V : Type 0} (old new : View V) : Type 0 where
   pub reads : new.reads.now ≡ old.reads.now
   pub writes : new.writes.now ≡ old.writes.now
   pub owned : new.owned.now ≡ old.owned.now
   pub shelf : (id : ResourceId) → lent_slot new.shelf.now id ≡ lent_slot old.shelf.now id
+  pub own : (id : ResourceId) → is_own new id ≡ is_own old id
   pub whole : is_whole new ≡ is_whole old
   pub table : table_of new ≡ table_of old
   pub slots : (id : ResourceId) → is_some (slot_at new.own.now id) ≡ is_some (slot_at old.own.now id)
+  pub others : (id : ResourceId) → is_own old id ≡ false → slot_at new.own.now id ≡ slot_at old.own.now id
 
--- the same ids are declared and out, the same tables are lent, and no slot came or went
+-- the same ids are declared, the same are the view's own, and the same are out; the same tables are lent, no slot came or went, and the slot of each id that is not the view's own is as it was
 pub record IsSameView {V : Type 0} (old new : View V) : Type 0 where
   pub reads : new.reads.now ≡ old.reads.now
   pub writes : new.writes.now ≡ old.writes.now
   pub owned : new.owned.now ≡ old.owned.now
   pub shelf : (id : ResourceId) → lent_slot new.shelf.now id ≡ lent_slot old.shelf.now id
+  pub own : (id : ResourceId) → is_own new id ≡ is_own old id
   pub whole : is_whole new ≡ is_whole old
   pub table : table_of new ≡ table_of old
   pub slots : (id : ResourceId) → is_some (slot_at new.own.now id) ≡ is_some (slot_at old.own.now id)
+  pub others : (id : ResourceId) → is_own old id ≡ false → slot_at new.own.now id ≡ slot_at old.own.now id
   pub out : (id : ResourceId) → is_out new id ≡ is_out old id
 
 -- the table that the view is lent to write
 abbrev pub table_in : {V : Type 0} → View V → Table V
 table_in v = v.own.now
 
--- the ids that are looked for in that table alone
+-- the ids that are listed as the view's own
 abbrev pub owned_ids : {V : Type 0} → View V → List ResourceId
 owned_ids v = v.owned.now
 

@@ -13,9 +13,11 @@ module _ {V : Type 0} where
     writes = two.writes ∙ one.writes;
     owned = two.owned ∙ one.owned;
     shelf = λ q. two.shelf q ∙ one.shelf q;
+    own = λ q. two.own q ∙ one.own q;
     whole = two.whole ∙ one.whole;
     table = two.table ∙ one.table;
     slots = λ q. two.slots q ∙ one.slots q;
+    others = λ q other. two.others q (one.own q ∙ other) ∙ one.others q other;
   }
 
   -- a view of the same loan that grants the same is the same
@@ -25,8 +27,10 @@ module _ {V : Type 0} where
     writes = loan.writes;
     owned = loan.owned;
     shelf = loan.shelf;
+    own = loan.own;
     whole = loan.whole;
     table = loan.table;
     slots = loan.slots;
+    others = loan.others;
     out = λ q i. (grant i).out q;
   }

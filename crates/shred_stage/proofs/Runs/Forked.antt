@@ -95,9 +95,14 @@ module _ {V S : Type 0} where
       rw (one, two) (apart i j d lt (omega arith) q)
 
 module _ {V : Type 0} (before after : Table V) (taken : ResourceId → Bool) (left : (q : ResourceId) → slot_at after q ≡ cond (taken q) (emptied (slot_at before q)) (slot_at before q)) where
+  carried-there : (b : Bool) (s : Option (Slot V)) → is_some (cond b (carried s) None) ≡ b
+  carried-there true s = refl
+  carried-there false s = refl
+
   -- a group whose values were moved out is ready to run
   pub is-ready : {S : Type 0} (reads writes : S → List ResourceId) (x y : Group V S) → KeepsRoom x → IsOwnGroup reads writes x → IsMovedOut before x y → IsReady reads writes (slot_at after) y
   is-ready {S} reads writes x y room own moved = record {
+    just_slots = λ q. ap is_some (moved.1 q) ∙ carried-there (among y.written.items q) (slot_at before q);
     places = subst (λ (items : List (SystemEntry V S)). All (HasPlace (length items == 1) y.hand) items) (ap (λ entries. entries.items) (sym moved.0.entries)) (λ k d below. at k d below (is_single x) refl);
     own_lists = subst (λ (items : List (SystemEntry V S)). All (IsOwnEntry reads writes) items) (ap (λ entries. entries.items) (sym moved.0.entries)) own;
     own_slots = subst (λ plan. All (λ e. HasOwnSlots e.access.writes (slot_at after) y.hand) plan) (sym (same-plan x y moved.0)) (λ k d below q there none.
@@ -116,10 +121,7 @@ module _ {V : Type 0} (before after : Table V) (taken : ResourceId → Bool) (le
   -- after the run, its hand has the slots that it had
   pub fits-after : {S : Type 0} (x y z : Group V S) → IsMovedOut before x y → IsSameSlots y.hand z.hand → z.written ≡ y.written → FitsGroup z
   fits-after x y z moved slots written q =
-      slots q ∙ ap is_some (moved.1 q) ∙ each (among y.written.items q) ∙ ap (λ ids. among ids.items q) (sym written) where
-        each : (b : Bool) → is_some (cond b (carried (slot_at before q)) None) ≡ b
-        each true = refl
-        each false = refl
+      slots q ∙ ap is_some (moved.1 q) ∙ carried-there (among y.written.items q) (slot_at before q) ∙ ap (λ ids. among ids.items q) (sym written)
 
   -- a moved hand, beside what is left, shows what was held, where no other group took it
   pub shows : {S : Type 0} (kind : V → Kind) (x y : Group V S) → IsMovedOut before x y → (q : ResourceId) → (among y.written.items q ≡ false → taken q ≡ false) → held kind before q ≡ shown kind (slot_at after) y.hand q

@@ -26,7 +26,13 @@ impl<'s, V: ResourceValue + Drop, S: System<V, Error = E>, E: Drop> Lane<[Shelf<
 
     fn run(&mut self, shelf: &[Shelf<'s, V>; 1]) -> Result<(), StageFault<E>> {
         let single = self.entries.len() == 1;
-        run_entries(self.entries.as_mut_slice(), single, shelf, &mut self.hand)
+        run_entries(
+            self.entries.as_mut_slice(),
+            single,
+            self.written.as_slice(),
+            shelf,
+            &mut self.hand,
+        )
     }
 }
 

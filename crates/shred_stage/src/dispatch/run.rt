@@ -7,7 +7,7 @@ ghost use Rattle.shred_stage.specs.Entries.{EntryRun, GroupRun, entry_states};
 ghost use Rattle.shred_stage.specs.Kept.{AreOwnLists};
 ghost use Rattle.shred_stage.specs.Hands.{HasEntryRoom, HasPlace};
 ghost use Rattle.shred_stage.specs.OwnLists.{IsOwnEntry};
-ghost use Rattle.shred_stage.specs.OwnSlots.{lent_before, HasOnlySlots, HasGroupSlots};
+ghost use Rattle.shred_stage.specs.OwnSlots.{lent_before, HasJustSlots, HasOnlySlots, HasGroupSlots};
 ghost use Rattle.shred_stage.specs.PlanOf.{access_of, entry_plan};
 ghost use Rattle.shred_stage.specs.Steps.{declared_of};
 ghost use Rattle.shred_world.specs.declared.id.ResourceId.{ResourceId};
@@ -38,7 +38,7 @@ pub enum StageFault<E> {
 fn step_over<'s, V: ResourceValue, S: System<V>>(
     reads: &'s [ResourceId],
     writes: &'s [ResourceId],
-    shelf: &'s [Shelf<'s, V>],
+    shelf: &'s [Shelf<'s, V>; 1],
     system: &mut S,
     own: &mut Table<V>,
 ) -> Result<(), Fault<S::Error>>
@@ -55,15 +55,29 @@ fn step_over<'s, V: ResourceValue, S: System<V>>(
     system.run(&mut view)
 }
 
+// The table before what is lent shared. It has a slot for each id of the list, and no other slot.
+fn before<'s, V>(
+    own: &'s Table<V>,
+    written: &'s [ResourceId],
+    shelf: &'s [Shelf<'s, V>; 1],
+) -> [Shelf<'s, V>; 1]
+    requires { HasJustSlots written.now own.now }
+    ensures { (id : ResourceId) → lent_slot result id ≡ lent_before own.now (lent_slot shelf.now) id }
+{
+    [Shelf::before(own, written, shelf)]
+}
+
 // One step of the entry's system, over the entry's hand, while the table is lent shared.
 fn step_in_hand<V: ResourceValue, S: System<V>>(
     entry: &mut SystemEntry<V, S>,
-    shelf: &[Shelf<V>],
+    written: &[ResourceId],
+    shelf: &[Shelf<V>; 1],
     own: &Table<V>,
 ) -> Result<(), Fault<S::Error>>
     requires own_lists { AreOwnLists (S.reads entry.old.system) (S.writes entry.old.system) entry.old.reads.items entry.old.writes.items }
     requires own_slots { HasOwnSlots entry.old.writes.items (lent_before own.now (lent_slot shelf.now)) entry.old.hand }
     requires only_own { HasOnlySlots entry.old.writes.items entry.old.hand }
+    requires just_slots { HasJustSlots written.now own.now }
     ensures step { S.step entry.old.system (declared_of (access_of entry.old) (shown V.kind_of (lent_before own.now (lent_slot shelf.now)) entry.old.hand)) result entry.new.system (declared_of (access_of entry.old) (shown V.kind_of (lent_before own.now (lent_slot shelf.now)) entry.new.hand)) }
     ensures kinds { (id : ResourceId) → option_map V.kind_of (shown V.kind_of (lent_before own.now (lent_slot shelf.now)) entry.new.hand id) ≡ option_map V.kind_of (shown V.kind_of (lent_before own.now (lent_slot shelf.now)) entry.old.hand id) }
     ensures slots { IsSameSlots entry.old.hand entry.new.hand }
@@ -72,7 +86,7 @@ fn step_in_hand<V: ResourceValue, S: System<V>>(
     ensures writes { entry.new.writes ≡ entry.old.writes }
     ensures own_lists { AreOwnLists (S.reads entry.new.system) (S.writes entry.new.system) entry.new.reads.items entry.new.writes.items }
 {
-    let behind = [Shelf::before(own, &[], shelf)];
+    let behind = before(own, written, shelf);
     step_over(
         entry.reads.as_slice(),
         entry.writes.as_slice(),
@@ -86,11 +100,13 @@ fn step_in_hand<V: ResourceValue, S: System<V>>(
 // be lent shared.
 fn step<V: ResourceValue + Drop, S: System<V>>(
     entry: &mut SystemEntry<V, S>,
-    shelf: &[Shelf<V>],
+    written: &[ResourceId],
+    shelf: &[Shelf<V>; 1],
     own: &mut Table<V>,
 ) -> Result<(), Fault<S::Error>>
     requires own_lists { IsOwnEntry S.reads S.writes entry.old }
     requires own_slots { HasOwnSlots entry.old.writes.items (lent_slot shelf.now) own.old }
+    requires just_slots { HasJustSlots written.now own.old }
     requires room { HasEntryRoom own.old entry.old }
     ensures step { S.step entry.old.system (declared_of (access_of entry.old) (shown V.kind_of (lent_slot shelf.now) own.old)) result entry.new.system (declared_of (access_of entry.old) (shown V.kind_of (lent_slot shelf.now) own.new)) }
     ensures kinds { (id : ResourceId) → option_map V.kind_of (shown V.kind_of (lent_slot shelf.now) own.new id) ≡ option_map V.kind_of (shown V.kind_of (lent_slot shelf.now) own.old id) }
@@ -101,7 +117,7 @@ fn step<V: ResourceValue + Drop, S: System<V>>(
     ensures room { HasEntryRoom own.new entry.new }
 {
     move_out(own, entry.writes.as_slice(), &mut entry.hand);
-    let outcome = step_in_hand(entry, shelf, own);
+    let outcome = step_in_hand(entry, written, shelf, own);
     move_back(own, entry.writes.as_slice(), &mut entry.hand);
     outcome
 }
@@ -109,7 +125,7 @@ fn step<V: ResourceValue + Drop, S: System<V>>(
 // The same, over a table that has the slots that the entry writes, and no others.
 fn step_single<V: ResourceValue, S: System<V>>(
     entry: &mut SystemEntry<V, S>,
-    shelf: &[Shelf<V>],
+    shelf: &[Shelf<V>; 1],
     own: &mut Table<V>,
 ) -> Result<(), Fault<S::Error>>
     requires own_lists { IsOwnEntry S.reads S.writes entry.old }
@@ -136,11 +152,13 @@ fn step_single<V: ResourceValue, S: System<V>>(
 fn step_of<V: ResourceValue + Drop, S: System<V>>(
     entry: &mut SystemEntry<V, S>,
     single: bool,
-    shelf: &[Shelf<V>],
+    written: &[ResourceId],
+    shelf: &[Shelf<V>; 1],
     own: &mut Table<V>,
 ) -> Result<(), Fault<S::Error>>
     requires own_lists { IsOwnEntry S.reads S.writes entry.old }
     requires own_slots { HasOwnSlots entry.old.writes.items (lent_slot shelf.now) own.old }
+    requires just_slots { HasJustSlots written.now own.old }
     requires place { HasPlace single own.old entry.old }
     ensures step { S.step entry.old.system (declared_of (access_of entry.old) (shown V.kind_of (lent_slot shelf.now) own.old)) result entry.new.system (declared_of (access_of entry.old) (shown V.kind_of (lent_slot shelf.now) own.new)) }
     ensures kinds { (id : ResourceId) → option_map V.kind_of (shown V.kind_of (lent_slot shelf.now) own.new id) ≡ option_map V.kind_of (shown V.kind_of (lent_slot shelf.now) own.old id) }
@@ -153,18 +171,20 @@ fn step_of<V: ResourceValue + Drop, S: System<V>>(
     if single {
         return step_single(entry, shelf, own);
     }
-    step(entry, shelf, own)
+    step(entry, written, shelf, own)
 }
 
 // The entry's run: one step of its system.
 fn run_entry<V: ResourceValue + Drop, S: System<V>>(
     entry: &mut SystemEntry<V, S>,
     single: bool,
-    shelf: &[Shelf<V>],
+    written: &[ResourceId],
+    shelf: &[Shelf<V>; 1],
     own: &mut Table<V>,
 ) -> Result<(), StageFault<S::Error>>
     requires own_lists { IsOwnEntry S.reads S.writes entry.old }
     requires own_slots { HasOwnSlots entry.old.writes.items (lent_slot shelf.now) own.old }
+    requires just_slots { HasJustSlots written.now own.old }
     requires place { HasPlace single own.old entry.old }
     ensures ran { Ran (EntryRun V.kind_of S.step 0 (entry_plan entry.old)) (configuration_of (entry_states entry.old) (shown V.kind_of (lent_slot shelf.now) own.old)) result (configuration_of (entry_states entry.new) (shown V.kind_of (lent_slot shelf.now) own.new)) }
     ensures plan { entry_plan entry.new ≡ entry_plan entry.old }
@@ -173,7 +193,7 @@ fn run_entry<V: ResourceValue + Drop, S: System<V>>(
     ensures kinds { (id : ResourceId) → option_map V.kind_of (shown V.kind_of (lent_slot shelf.now) own.new id) ≡ option_map V.kind_of (shown V.kind_of (lent_slot shelf.now) own.old id) }
     ensures slots { IsSameSlots own.old own.new }
 {
-    match step_of(entry, single, shelf, own) {
+    match step_of(entry, single, written, shelf, own) {
         Ok(()) => Ok(()),
         Err(fault) => Err(StageFault::System {
             id: entry.id,
@@ -186,11 +206,13 @@ fn run_entry<V: ResourceValue + Drop, S: System<V>>(
 pub(crate) fn run_entries<V: ResourceValue + Drop, S: System<V>>(
     entries: &mut [SystemEntry<V, S>],
     single: bool,
-    shelf: &[Shelf<V>],
+    written: &[ResourceId],
+    shelf: &[Shelf<V>; 1],
     own: &mut Table<V>,
 ) -> Result<(), StageFault<S::Error>>
     requires own_lists { All (IsOwnEntry S.reads S.writes) entries.old }
     requires own_slots { HasGroupSlots (lent_slot shelf.now) own.old (map entry_plan entries.old) }
+    requires just_slots { HasJustSlots written.now own.old }
     requires places { All (HasPlace single own.old) entries.old }
     ensures ran { Ran (GroupRun V.kind_of S.step 0 (map entry_plan entries.old)) (configuration_of (listed_states entry_states entries.old) (shown V.kind_of (lent_slot shelf.now) own.old)) result (configuration_of (listed_states entry_states entries.new) (shown V.kind_of (lent_slot shelf.now) own.new)) }
     ensures plan { map entry_plan entries.new ≡ map entry_plan entries.old }
@@ -199,7 +221,7 @@ pub(crate) fn run_entries<V: ResourceValue + Drop, S: System<V>>(
     ensures slots { IsSameSlots own.old own.new }
 {
     for entry in entries.iter_mut() {
-        if let Err(fault) = run_entry(entry, single, shelf, own) {
+        if let Err(fault) = run_entry(entry, single, written, shelf, own) {
             return Err(fault);
         }
     }

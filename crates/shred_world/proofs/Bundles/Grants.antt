@@ -11,8 +11,8 @@ use Rattle.shred_world.specs.Bundles.{after_moved}
 use Rattle.shred_world.specs.Grants.{grant_of, without, with_back}
 use Rattle.shred_world.specs.Id.{same_id}
 use Rattle.shred_world.specs.Parting.{emptied, filled}
-use Rattle.shred_world.specs.Slots.{slot_at, slot_held, of_kind, held, with_at, among, or_slot}
-use Rattle.shred_world.specs.Views.{lent_slot, view_held, is_vacant, is_out, noted, IsSameLoan}
+use Rattle.shred_world.specs.Slots.{slot_at, slot_held, of_kind, held, with_at, among}
+use Rattle.shred_world.specs.Views.{lent_slot, view_held, is_own, is_vacant, is_out, noted, IsSameLoan}
 use Rattle.shred_world.proofs.Tables.Slots.{same_id-true}
 use Rattle.shred_world.proofs.Views.Refusals.{slot-held}
 
@@ -48,6 +48,13 @@ module _ {V : Type 0} (s n : ResourceId → Option (Slot V)) (id : ResourceId) (
     at true e = ap is_some (is q ∙ (λ i. cond (e i) o (s q))) ∙ same ∙ (λ i. is_some (s (same_id-true id q e i)))
     at false e = ap is_some (is q ∙ (λ i. cond (e i) o (s q)))
 
+  -- where the slot of an id was changed that passes a test, those of ids that do not pass it stayed
+  pub others_with : (test : ResourceId → Bool) → test id ≡ true → (q : ResourceId) → test q ≡ false → n q ≡ s q
+  others_with test own q other = is q ∙ at (same_id id q) refl where
+    at : (b : Bool) → same_id id q ≡ b → cond b o (s q) ≡ s q
+    at true e = absurd (let f : true ≡ false = sym own ∙ ap test (same_id-true id q e) ∙ other in cc)
+    at false e = refl
+
 pub emptied-some : {V : Type 0} (o : Option (Slot V)) → is_some (emptied o) ≡ is_some o
 emptied-some (Some s) = refl
 emptied-some None = refl
@@ -59,16 +66,18 @@ filled-some v None = refl
 module _ {V : Type 0} (kind : V → Kind) (s n : View V) (reads : n.reads ≡ s.reads) (writes : n.writes ≡ s.writes) (owned : n.owned ≡ s.owned)
     (whole : n.whole ≡ s.whole) (shelf : n.shelf ≡ s.shelf) (table : n.own.ghost_name ≡ s.own.ghost_name)
     (slots : (q : ResourceId) → is_some (slot_at n.own.now q) ≡ is_some (slot_at s.own.now q)) where
-  -- the lists, the tables and the slots are as they were
-  pub same_loan : IsSameLoan s n
-  same_loan = record {
+  -- the lists and the tables are as they were, and the slot of each id that is not the view's own
+  pub same_loan : ((q : ResourceId) → is_own s q ≡ false → slot_at n.own.now q ≡ slot_at s.own.now q) → IsSameLoan s n
+  same_loan others = record {
     reads = λ i. (reads i).now;
     writes = λ i. (writes i).now;
     owned = λ i. (owned i).now;
     shelf = λ id i. lent_slot (shelf i).now id;
+    own = λ id i. (length (shelf i).now == 0) || among (owned i).now id;
     whole = λ i. whole i && (length (shelf i).now == 0);
     table = table;
     slots = slots;
+    others = others;
   }
 
   -- what is granted, by what is out and what is held
@@ -77,20 +86,27 @@ module _ {V : Type 0} (kind : V → Kind) (s n : View V) (reads : n.reads ≡ s.
   granted out held o h = λ i. record {
     reads = λ q. among (reads i).now q || ((whole i && (length (shelf i).now == 0)) || (among (writes i).now q && among (owned i).now q));
     writes = λ q. (whole i && (length (shelf i).now == 0)) || (among (writes i).now q && among (owned i).now q);
-    own = λ q. slots q i || ((whole i && (length (shelf i).now == 0)) || among (owned i).now q);
+    own = λ q. (length (shelf i).now == 0) || among (owned i).now q;
     out = λ q. o q i;
     held = λ q. h q i;
   }
 
   -- what a slot shows before what lies behind it
-  shows_slot : (q : ResourceId) (o : Option (Slot V)) → slot_at n.own.now q ≡ o → view_held kind n q ≡ slot_held kind q (or_slot o (cond (among s.owned.now q) None (lent_slot s.shelf.now q)))
-  shows_slot q o is = λ i. slot_held kind q (or_slot (is i) (cond (among (owned i).now q) None (lent_slot (shelf i).now q)))
+  shows_slot : (q : ResourceId) (o : Option (Slot V)) → slot_at n.own.now q ≡ o → view_held kind n q ≡ slot_held kind q (cond (is_own s q) o (lent_slot s.shelf.now q))
+  shows_slot q o is = λ i. slot_held kind q (cond ((length (shelf i).now == 0) || among (owned i).now q) (is i) (lent_slot (shelf i).now q))
+
+  -- what is noted in the view's own slots
+  noted_out : (q : ResourceId) (m : Bool) (o : Option (Slot V)) → noted n q ≡ m → slot_at n.own.now q ≡ o → is_out n q ≡ (is_own s q && (m && is_vacant o))
+  noted_out q m o notes is = λ i. ((length (shelf i).now == 0) || among (owned i).now q) && (notes i && is_vacant (is i))
 
   -- nothing was moved
   pub grant_kept : ((q : ResourceId) → noted n q ≡ noted s q) → ((q : ResourceId) → slot_at n.own.now q ≡ slot_at s.own.now q) → grant_of kind n ≡ grant_of kind s
-  grant_kept notes is = granted (is_out s) (view_held kind s) (λ q i. notes q i && is_vacant (is q i)) (λ q. shows_slot q (slot_at s.own.now q) (is q))
+  grant_kept notes is = granted (is_out s) (view_held kind s) (λ q. noted_out q (noted s q) (slot_at s.own.now q) (notes q) (is q)) (λ q. shows_slot q (slot_at s.own.now q) (is q))
 
-  module _ (id : ResourceId) (v : V) where
+  module _ (id : ResourceId) (v : V) (own : is_own s id ≡ true) where
+    own_at : (q : ResourceId) → same_id id q ≡ true → is_own s q ≡ true
+    own_at q e = ap (is_own s) (sym (same_id-true id q e)) ∙ own
+
     -- the value that was held in the view's own slot of the id was moved out of it
     pub grant_without : held kind s.own.now id ≡ Some v → ((q : ResourceId) → noted n q ≡ (same_id id q || noted s q))
         → ((q : ResourceId) → slot_at n.own.now q ≡ with_at (slot_at s.own.now) id (emptied (slot_at s.own.now id)) q) → grant_of kind n ≡ without (grant_of kind s) id
@@ -99,15 +115,15 @@ module _ {V : Type 0} (kind : V → Kind) (s n : View V) (reads : n.reads ≡ s.
       after q b e = is q ∙ (λ i. cond (e i) (emptied (held-there kind id (slot_at s.own.now id) v there i)) (slot_at s.own.now q))
 
       out : (q : ResourceId) (b : Bool) → same_id id q ≡ b → is_out n q ≡ (b || is_out s q)
-      out q true e = (λ i. (notes q ∙ ap (λ b. b || noted s q) e) i && is_vacant (after q true e i))
-      out q false e = (λ i. (notes q ∙ ap (λ b. b || noted s q) e) i && is_vacant (after q false e i))
+      out q true e = noted_out q true _ (notes q ∙ ap (λ b. b || noted s q) e) (after q true e) ∙ ap (λ (b : Bool). b && true) (own_at q e)
+      out q false e = noted_out q (noted s q) _ (notes q ∙ ap (λ b. b || noted s q) e) (after q false e)
 
       shown : (q : ResourceId) (b : Bool) → same_id id q ≡ b → view_held kind n q ≡ cond b None (view_held kind s q)
-      shown q true e = shows_slot q _ (after q true e)
+      shown q true e = shows_slot q _ (after q true e) ∙ ap (λ (b : Bool). slot_held kind q (cond b (Some (record { value = None })) (lent_slot s.shelf.now q))) (own_at q e)
       shown q false e = shows_slot q _ (after q false e)
 
     -- a value of the id's kind was put into the id's slot, out of which one had been moved
-    pub grant_with_back : (u : V) → u ≡ v → kind v ≡ id.kind → is_out s id ≡ true → ((q : ResourceId) → noted n q ≡ noted s q)
+    pub grant_with_back : (u : V) → u ≡ v → kind v ≡ id.kind → (noted s id && is_vacant (slot_at s.own.now id)) ≡ true → ((q : ResourceId) → noted n q ≡ noted s q)
         → ((q : ResourceId) → slot_at n.own.now q ≡ with_at (slot_at s.own.now) id (filled u (slot_at s.own.now id)) q) → grant_of kind n ≡ with_back (grant_of kind s) id v
     grant_with_back u same of was notes is = granted _ _ (λ q. out q (same_id id q) refl) (λ q. shown q (same_id id q) refl) where
       second : (a b : Bool) → (a && b) ≡ true → b ≡ true
@@ -117,23 +133,29 @@ module _ {V : Type 0} (kind : V → Kind) (s n : View V) (reads : n.reads ≡ s.
       after : (q : ResourceId) (b : Bool) → same_id id q ≡ b → slot_at n.own.now q ≡ cond b (Some (record { value = Some v })) (slot_at s.own.now q)
       after q b e = is q ∙ (λ i. cond (e i) (filled (same i) (vacant-there (slot_at s.own.now id) (second (noted s id) _ was) i)) (slot_at s.own.now q))
 
-      none : (b : Bool) → (b && false) ≡ false
-      none true = refl
-      none false = refl
+      none : (a b : Bool) → (a && (b && false)) ≡ false
+      none true true = refl
+      none true false = refl
+      none false b = refl
 
       out : (q : ResourceId) (b : Bool) → same_id id q ≡ b → is_out n q ≡ (not b && is_out s q)
-      out q true e = (λ i. notes q i && is_vacant (after q true e i)) ∙ none (noted s q)
-      out q false e = λ i. notes q i && is_vacant (after q false e i)
+      out q true e = noted_out q (noted s q) _ (notes q) (after q true e) ∙ none (is_own s q) (noted s q)
+      out q false e = noted_out q (noted s q) _ (notes q) (after q false e)
 
       shown : (q : ResourceId) (b : Bool) → same_id id q ≡ b → view_held kind n q ≡ cond b (Some v) (view_held kind s q)
-      shown q true e = shows_slot q _ (after q true e) ∙ slot-held kind q v (of ∙ (λ i. (same_id-true id q e i).kind))
+      shown q true e = shows_slot q _ (after q true e) ∙ ap (λ (b : Bool). slot_held kind q (cond b (Some (record { value = Some v })) (lent_slot s.shelf.now q))) (own_at q e) ∙ slot-held kind q v (of ∙ (λ i. (same_id-true id q e i).kind))
       shown q false e = shows_slot q _ (after q false e)
 
   -- what was held in the view's own slot of the id was moved out of it
-  pub grant_after : (id : ResourceId) (o : Option V) → held kind s.own.now id ≡ o → IsSome o → ((q : ResourceId) → noted n q ≡ (same_id id q || noted s q))
+  pub grant_after : (id : ResourceId) (o : Option V) → is_own s id ≡ true → held kind s.own.now id ≡ o → IsSome o → ((q : ResourceId) → noted n q ≡ (same_id id q || noted s q))
       → ((q : ResourceId) → slot_at n.own.now q ≡ with_at (slot_at s.own.now) id (emptied (slot_at s.own.now id)) q) → grant_of kind n ≡ after_moved (grant_of kind s) id o
-  grant_after id None there some notes is = absurd (cc)
-  grant_after id (Some v) there some notes is = grant_without id v there notes is
+  grant_after id None own there some notes is = absurd (cc)
+  grant_after id (Some v) own there some notes is = grant_without id v own there notes is
+
+-- what is out is the view's own, noted, and its slot is empty
+pub out-own : (own noted vacant : Bool) → (own && (noted && vacant)) ≡ true → (own ≡ true) × ((noted && vacant) ≡ true)
+out-own true noted vacant h = (refl, h)
+out-own false noted vacant h = absurd (cc)
 
 -- where a value is moved out, it is the one that is shown
 pub moved_shown : {V : Type 0} (own : Bool) (h : Option V) (v : V) → Some v ≡ cond own h None → Some v ≡ h

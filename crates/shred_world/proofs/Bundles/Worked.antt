@@ -3,12 +3,11 @@ use Rattle.std.proofs.Common.{◌≡◌, ℕ, zero, suc, ◌<◌, ◌≤◌, ◌
 use Rattle.std.specs.List.{All, AllZip}
 use Rattle.shred_world.specs.declared.id.Kind.{Kind}
 use Rattle.shred_world.specs.declared.id.ResourceId.{ResourceId}
-use Rattle.shred_world.specs.declared.table.Slot.{Slot}
 use Rattle.shred_world.specs.declared.table.Table.{Table}
 use Rattle.shred_world.specs.Beside.{ShowsDeclared, part_slot}
 use Rattle.shred_world.specs.Parts.{Pair, reads_of, writes_of, declares, HasNothingOut, IsJoined, HoldsSameIds}
 use Rattle.shred_world.specs.Shown.{Lent, IsSameSlots}
-use Rattle.shred_world.specs.Slots.{slot_at, slot_held, among, or_slot}
+use Rattle.shred_world.specs.Slots.{slot_at, slot_held, among}
 use Rattle.shred_world.specs.Worked.{Works, IsWorkedOver, IsWorkedEach, IsWorked, part_held}
 
 module _ {V W : Type 0} (kind : V → Kind) (works : Works V W) (behind : Lent V) where
@@ -83,13 +82,13 @@ module _ {V W : Type 0} (kind : V → Kind) (works : Works V W) (behind : Lent V
   cond-either false x = refl
 
   -- what a part leaves under an id that its pair writes
-  left-written : (p : Pair) (n : Table V) (q : ResourceId) → among (writes_of p) q ≡ true → part_held kind behind p n q ≡ slot_held kind q (or_slot (slot_at n q) None)
+  left-written : (p : Pair) (n : Table V) (q : ResourceId) → among (writes_of p) q ≡ true → part_held kind behind p n q ≡ slot_held kind q (slot_at n q)
   left-written p n q w =
-      ap (λ (b : Bool). cond (among (reads_of p) q || b) (slot_held kind q (or_slot (slot_at n q) (cond b None (behind q)))) None) w ∙ cond-either (among (reads_of p) q) (slot_held kind q (or_slot (slot_at n q) None))
+      ap (λ (b : Bool). cond (among (reads_of p) q || b) (slot_held kind q (cond b (slot_at n q) (behind q))) None) w ∙ cond-either (among (reads_of p) q) (slot_held kind q (slot_at n q))
 
   -- work over the hands of a view that was parted is work over what the view showed, and leaves what the view shows
   pub worked-apart : (old new : Lent V) (table : Table V) (ps : List Pair) (hs : List (Table V)) (b : W) (ns : List (Table V)) (a : W) → AllZip (ShowsDeclared behind old) ps hs → AllZip (IsJoined table) ps ns
-      → All (λ p. (q : ResourceId) → IsTrue (among (writes_of p) q) → new q ≡ or_slot (slot_at table q) None) ps
+      → All (λ p. (q : ResourceId) → IsTrue (among (writes_of p) q) → new q ≡ slot_at table q) ps
       → IsWorkedEach kind works behind ps hs b ns a → IsWorked works ps (λ q. slot_held kind q (old q)) b (λ q. slot_held kind q (new q)) a
   worked-apart old new table [] [] b [] a shown joined alone each = each
   worked-apart old new table [] [] b (n ∷ ns) a shown joined alone each = absurd each
@@ -103,7 +102,7 @@ module _ {V W : Type 0} (kind : V → Kind) (works : Works V W) (behind : Lent V
         (λ i q. same-declared (declares p q) (slot_held kind q (part_slot behind p h q)) (slot_held kind q (old q)) (λ d. ap (slot_held kind q) ((shown.0) q d)) i)
         each.1.lies,
     λ q other. each.1.frame q other ∙ same-declared (declares p q) (slot_held kind q (part_slot behind p h q)) (slot_held kind q (old q)) (λ d. ap (slot_held kind q) ((shown.0) q d)),
-    λ q w. ap (slot_held kind q) (alone 0 p (omega arith) q w ∙ ap (λ (s : Option (Slot V)). or_slot s None) ((joined.0) q w)) ∙ sym (left-written p n q w),
+    λ q w. ap (slot_held kind q) (alone 0 p (omega arith) q w ∙ (joined.0) q w) ∙ sym (left-written p n q w),
     worked-apart old new table ps hs each.0 ns a shown.1 joined.1 (λ i d below q w. alone (suc i) d (omega arith) q w) each.2,
   )
 

@@ -8,8 +8,8 @@ use Rattle.shred_world.specs.declared.id.Kind.{Kind}
 use Rattle.shred_world.specs.declared.table.Slot.{Slot}
 use Rattle.shred_world.specs.declared.table.Table.{Table}
 use Rattle.shred_world.specs.declared.world.view.View.{View}
-use Rattle.shred_world.specs.Views.{lent_slot, view_held, is_out, IsSameLoan, IsSameView}
-use Rattle.shred_world.specs.Slots.{slot_at, slot_held, held, among, or_slot}
+use Rattle.shred_world.specs.Views.{lent_slot, view_held, is_own, is_out, IsSameLoan, IsSameView}
+use Rattle.shred_world.specs.Slots.{slot_at, slot_held, held, among}
 use Rattle.shred_world.specs.Parting.{emptied}
 use Rattle.shred_world.specs.Parts.{Pair, writes_of, declares, AreBeside, DoNotConflict, written_by, HoldsWritten, HoldsSameIds, HoldsIdsOf, IsJoined}
 
@@ -51,10 +51,9 @@ written-none (suc i) (p ∷ ps) d q apart h w out =
 
 module _ {V : Type 0} where
   -- over its hand and what lies behind, a part shows what the view showed
-  pub shown-over : (b a o : Bool) (t s h l : Option (Slot V)) → h ≡ cond b t None → s ≡ cond a (emptied t) t → (b ≡ true → cond o None l ≡ None) → (b ≡ false → a ≡ false)
-      → or_slot h (cond b None (or_slot s (cond o None l))) ≡ or_slot t (cond o None l)
-  shown-over true a o t s h l held left own none = rw held (ap (or_slot t) (sym (own refl)))
-  shown-over false a o t s h l held left own none = rw (held, left, none refl) refl
+  pub shown-over : (b a o : Bool) (t s h l : Option (Slot V)) → h ≡ cond b t None → s ≡ cond a (emptied t) t → (b ≡ true → o ≡ true) → (b ≡ false → a ≡ false) → cond b h (cond o s l) ≡ cond o t l
+  shown-over true a o t s h l held left own none = held ∙ sym (ap (λ (c : Bool). cond c t l) (own refl))
+  shown-over false a o t s h l held left own none = ap (λ (x : Option (Slot V)). cond o x l) (left ∙ ap (λ (c : Bool). cond c (emptied t) t) (none refl))
 
   pub left-slots : (a : Bool) (t s : Option (Slot V)) → s ≡ cond a (emptied t) t → is_some s ≡ is_some t
   left-slots true (Some t) s left = ap is_some left
@@ -65,10 +64,6 @@ module _ {V : Type 0} where
   fit-over true a t s h held left = ap is_some held ∙ sym (left-slots a t s left)
   fit-over false a t s h held left = ap is_some held
 
--- behind the same loan's own table the same is shown
-pub same-behind : {V : Type 0} (v w : View V) → IsSameLoan v w → (q : ResourceId) → cond (among w.owned.now q) None (lent_slot w.shelf.now q) ≡ cond (among v.owned.now q) None (lent_slot v.shelf.now q)
-same-behind v w same q = ap (λ (ids : List ResourceId). cond (among ids q) None (lent_slot w.shelf.now q)) same.owned ∙ ap (cond (among v.owned.now q) None) (same.shelf q)
-
 -- a loan that stayed twice, with nothing out at first and in the end, is the same view
 pub same-again : {V : Type 0} (u v w : View V) → IsSameLoan u v → IsSameLoan v w → ((q : ResourceId) → is_out u q ≡ false) → ((q : ResourceId) → is_out w q ≡ false) → IsSameView u w
 same-again u v w one two before after = record {
@@ -76,29 +71,21 @@ same-again u v w one two before after = record {
   writes = two.writes ∙ one.writes;
   owned = two.owned ∙ one.owned;
   shelf = λ q. two.shelf q ∙ one.shelf q;
+  own = λ q. two.own q ∙ one.own q;
   whole = two.whole ∙ one.whole;
   table = two.table ∙ one.table;
   slots = λ q. two.slots q ∙ one.slots q;
+  others = λ q other. two.others q (one.own q ∙ other) ∙ one.others q other;
   out = λ q. after q ∙ sym (before q);
 }
 
 module _ {V : Type 0} where
   -- a hand that holds what its pair writes is the pair's over what is left
-  pub hand-of : (b a : Bool) (h t s f : Option (Slot V)) → h ≡ cond b t None → s ≡ cond a (emptied t) t → (b ≡ true → f ≡ None) → is_some h ≡ (b && is_some (or_slot s f))
-  hand-of true a h t s f held left none = ap is_some held ∙ sym (left-slots a t s left) ∙ bare s ∙ ap (λ o. is_some (or_slot s o)) (sym (none refl)) where
-    bare : (s : Option (Slot V)) → is_some s ≡ is_some (or_slot s None)
-    bare (Some s) = refl
-    bare None = refl
-  hand-of false a h t s f held left none = ap is_some held
+  pub hand-of : (b a o : Bool) (h t s l : Option (Slot V)) → h ≡ cond b t None → s ≡ cond a (emptied t) t → (b ≡ true → o ≡ true) → is_some h ≡ (b && is_some (cond o s l))
+  hand-of true a o h t s l held left own = ap is_some held ∙ sym (left-slots a t s left) ∙ sym (ap (λ (c : Bool). is_some (cond c s l)) (own refl))
+  hand-of false a o h t s l held left own = ap is_some held
 
 module _ {V : Type 0} (kind : V → Kind) where
-  -- what is shown over the same shelf is there where it was, where the table's own is
-  pub held-over : (q : ResourceId) (s t f : Option (Slot V)) → is_some s ≡ is_some t → is_some (slot_held kind q s) ≡ is_some (slot_held kind q t) → is_some (slot_held kind q (or_slot s f)) ≡ is_some (slot_held kind q (or_slot t f))
-  held-over q (Some s) (Some t) f same held = held
-  held-over q None None f same held = refl
-  held-over q (Some s) None f same held = absurd (cc)
-  held-over q None (Some t) f same held = absurd (cc)
-
   -- under an id that was moved out a value is held again, where one was, once the table holds values where the hands did
   pub held-again : (t u : Table V) (ps : List Pair) (hs : List (Table V)) (q : ResourceId) → AllZip (HoldsWritten t) ps hs → AllZip (HoldsIdsOf kind u) ps hs → written_by ps q ≡ true → is_some (held kind u q) ≡ is_some (held kind t q)
   held-again t u [] hs q holds ids w = absurd (cc)
@@ -125,8 +112,11 @@ module _ {V : Type 0} (kind : V → Kind) where
       → ((q : ResourceId) → written_by ps q ≡ false → slot_at w.own.now q ≡ slot_at v.own.now q)
       → (q : ResourceId) → is_some (view_held kind w q) ≡ is_some (view_held kind u q)
   held-kept u v w ps hs one two holds ids left rest q =
-      ap (λ (o : Option (Slot V)). is_some (slot_held kind q (or_slot (slot_at w.own.now q) o))) (same-behind v w two q ∙ same-behind u v one q)
-      ∙ held-over q (slot_at w.own.now q) (slot_at u.own.now q) _ (two.slots q ∙ one.slots q) (at (written_by ps q) refl) where
+      (λ i. is_some (slot_held kind q (cond ((two.own q ∙ one.own q) i) (slot_at w.own.now q) ((two.shelf q ∙ one.shelf q) i)))) ∙ by_own (is_own u q) where
         at : (b : Bool) → written_by ps q ≡ b → is_some (held kind w.own.now q) ≡ is_some (held kind u.own.now q)
         at true e = held-again u.own.now w.own.now ps hs q holds ids e
         at false e = ap (λ (o : Option (Slot V)). is_some (slot_held kind q o)) (rest q e ∙ left q ∙ ap (λ (b : Bool). cond b (emptied (slot_at u.own.now q)) (slot_at u.own.now q)) e)
+
+        by_own : (b : Bool) → is_some (slot_held kind q (cond b (slot_at w.own.now q) (lent_slot u.shelf.now q))) ≡ is_some (slot_held kind q (cond b (slot_at u.own.now q) (lent_slot u.shelf.now q)))
+        by_own true = at (written_by ps q) refl
+        by_own false = refl

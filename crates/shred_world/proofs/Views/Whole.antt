@@ -1,16 +1,16 @@
 -- Views of all that a table holds, and bundles that are taken of them.
 use Rattle.std.proofs.Common.{◌≡◌, Bool, true, false, ◌&&◌, ◌||◌, List, [], ◌∷◌, subst, refl, sym, ◌∙◌, ap}
-use Rattle.std.specs.Prelude.{Option, Some, None, is_some, Result, Ok, Err, OnErr}
+use Rattle.std.specs.Prelude.{Option, Some, None, Result, Ok, Err, OnErr}
 use Rattle.shred_world.specs.declared.id.Kind.{Kind}
 use Rattle.shred_world.specs.declared.id.ResourceId.{ResourceId}
 use Rattle.shred_world.specs.declared.world.view.View.{View}
 use Rattle.shred_world.specs.Bundles.{Part, moved_for, after_moved, after_part, after_parts, moved_at, moved_parts, bundle_refusal, ids_of, AreAllOut}
 use Rattle.shred_world.specs.Grants.{Grant, grant_of, map_grant, table_grant, Moved}
 use Rattle.shred_world.specs.Id.{same_id}
-use Rattle.shred_world.specs.Slots.{among, slot_at}
-use Rattle.shred_world.specs.Views.{is_whole, is_out}
+use Rattle.shred_world.specs.Slots.{among, noted_in, slot_at}
+use Rattle.shred_world.specs.Views.{is_whole, is_vacant}
 use Rattle.shred_world.proofs.Bundles.Parts.{moved_are_out}
-use Rattle.shred_world.proofs.Views.Refusals.{whole-held}
+use Rattle.shred_world.proofs.Views.Refusals.{whole-alone, whole-held}
 
 or_true : (b : Bool) → (b || true) ≡ true
 or_true true = refl
@@ -36,8 +36,8 @@ pub whole-grant : {V : Type 0} (kind : V → Kind) (v : View V) → is_whole v �
 whole-grant kind v e = λ i. record {
   reads = λ q. (ap (λ b. among v.reads.now q || (b || (among v.writes.now q && among v.owned.now q))) e ∙ or_true (among v.reads.now q)) i;
   writes = λ q. ap (λ b. b || (among v.writes.now q && among v.owned.now q)) e i;
-  own = λ q. (ap (λ b. is_some (slot_at v.own.now q) || (b || among v.owned.now q)) e ∙ or_true (is_some (slot_at v.own.now q))) i;
-  out = is_out v;
+  own = λ q. whole-alone v e i || among v.owned.now q;
+  out = λ q. (whole-alone v e i || among v.owned.now q) && (noted_in v.own.now q && is_vacant (slot_at v.own.now q));
   held = whole-held kind v e i;
 }
 

@@ -43,7 +43,7 @@ impl<'s, 'a, V: ResourceValue> View<'s, 'a, V> {
         }
     }
 
-    // Moves out what the view's own slot of an id of the resource's kind holds, if it holds something.
+    // Moves out what is held under an id of the resource's kind, if something is and the id is the view's own.
     #[tactic(auto, using(crate::proofs::Views::Refusals::own_held))]
     pub(crate) fn take_out<R: Resource<V>>(
         &mut self,
@@ -58,6 +58,9 @@ impl<'s, 'a, V: ResourceValue> View<'s, 'a, V> {
         ensures no_room { OnErr result (IsSome (moved_value V.kind_of self.old id)) }
         ensures loan { IsSameLoan self.old self.new }
     {
+        if !self.is_own(id) {
+            return Ok(None);
+        }
         if self.own.get(id).is_none() {
             return Ok(None);
         }
@@ -79,11 +82,11 @@ impl<'s, 'a, V: ResourceValue> View<'s, 'a, V> {
         self.own.fill(id, resource.wrap());
     }
 
-    // What is lent shared under the id, where the view's own table is not to have it.
+    // What is lent shared under the id, where it is not the view's own.
     fn shared(&self, id: ResourceId) -> Option<&'s V>
         ensures { option_copied result ≡ cond (is_own self.now id) None (view_held V.kind_of self.now id) }
     {
-        if self.own.slot(id).is_some() || self.is_whole() || self.owned.contains(&id) {
+        if self.is_own(id) {
             return None;
         }
         match self.lent_slot(id) {

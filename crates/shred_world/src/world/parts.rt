@@ -8,7 +8,7 @@ ghost use Rattle.shred_world.specs.Parted.{has_place, IsJoinedWith, IsParted, Is
 ghost use Rattle.shred_world.specs.Parting.{emptied};
 ghost use Rattle.shred_world.specs.Parts.{DoNotConflict, reads_of, writes_of, written_by, HasNothingOut, HasRoom, HoldsWritten, Fits, IsHandOf, IsJoined};
 ghost use Rattle.shred_world.specs.Slots.{slot_at, noted_in, among};
-ghost use Rattle.shred_world.specs.Views.{may_read, may_write, is_out, table_of, view_slot, IsSameLoan};
+ghost use Rattle.shred_world.specs.Views.{may_read, may_write, is_out, is_own, table_of, view_slot, IsSameLoan};
 
 use crate::accessor::OutOfMemory;
 use crate::id::ResourceId;
@@ -116,6 +116,7 @@ impl<'p, 's, V> Behind<'p, 's, V> {
         ensures name { result.own.ghost_name ≡ hand.entry.ghost_name }
         ensures over { IsViewOfPair (pair_behind self.now number) hand.old (shelf_behind self.now) result }
         ensures lent { IsLent result (reads_of (pair_behind self.now number)) (writes_of (pair_behind self.now number)) }
+        ensures own { (id : ResourceId) → is_own result id ≡ among (writes_of (pair_behind self.now number)) id }
     {
         let pair = &self.pairs[number];
         View::over(pair.0, pair.1, &self.shelf, hand)

@@ -1,5 +1,5 @@
 //! Views: what a system is lent of a world.
-ghost use Rattle.std.specs.Prelude.{◌≡◌, ◌&&◌, ◌||◌, Bool, None, Some, IfOk, IsTrue, true, false, cond, is_some};
+ghost use Rattle.std.specs.Prelude.{◌≡◌, ◌==◌, ◌&&◌, ◌||◌, Bool, None, Some, IfOk, IsTrue, true, false, cond, is_some, length};
 ghost use Rattle.std.specs.Borrow.{sem};
 ghost use Rattle.shred_world.specs.declared.id.ResourceId.{ResourceId};
 ghost use Rattle.shred_world.specs.Lending.{IsNarrowed};
@@ -7,8 +7,8 @@ ghost use Rattle.shred_world.specs.Lent.{LendsWritten, LendsNarrow};
 ghost use Rattle.std.specs.Option.{option_copied};
 ghost use Rattle.std.specs.Result.{result_err};
 ghost use Rattle.shred_world.specs.Grants.{grant_of, map_grant, table_grant};
-ghost use Rattle.shred_world.specs.Slots.{among, slot_at, held, or_slot};
-ghost use Rattle.shred_world.specs.Views.{shelf_slot, lent_slot, view_slot, view_held, is_whole, may_read, may_write, is_vacant, is_out, refusal};
+ghost use Rattle.shred_world.specs.Slots.{among, slot_at, held};
+ghost use Rattle.shred_world.specs.Views.{shelf_slot, lent_slot, view_slot, view_held, is_whole, is_own, may_read, may_write, is_vacant, is_out, refusal};
 
 use crate::id::{Kind, ResourceId};
 use crate::resource::{Resource, ResourceValue};
@@ -34,8 +34,8 @@ pub enum DataError {
     WrongKind { asked: Kind, found: Kind },
 }
 
-/// Tables lent shared, one behind another, of which the nearest that has a slot for an id shows it. Behind a table the
-/// ids that are listed beside it are not looked for.
+/// Tables lent shared, one behind another. An id is looked for in the nearest table beside which it is listed, and in the
+/// last one where it is listed beside none.
 #[derive(Drop)]
 pub enum Shelf<'s, V> {
     Last(&'s Table<V>),
@@ -43,10 +43,10 @@ pub enum Shelf<'s, V> {
 }
 
 impl<'s, V> Shelf<'s, V> {
-    /// A table before the first of the tables behind it, where there is one; the ids of the list are not looked for behind
-    /// the table.
+    /// A table before the first of the tables behind it, where there is one; then the ids of the list, and no others, are
+    /// looked for in the table.
     pub fn before(table: &'s Table<V>, owned: &'s [ResourceId], behind: &'s [Shelf<'s, V>]) -> Self
-        ensures { (q : ResourceId) → shelf_slot result q ≡ or_slot (slot_at table.now q) (cond (among owned.now q) None (lent_slot behind.now q)) }
+        ensures { (q : ResourceId) → shelf_slot result q ≡ cond ((length behind.now == 0) || among owned.now q) (slot_at table.now q) (lent_slot behind.now q) }
     {
         match behind.first() {
             Some(rest) => Shelf::Before(table, owned, rest),
@@ -60,16 +60,13 @@ impl<'s, V> Shelf<'s, V> {
     {
         match self {
             Shelf::Last(table) => table.slot(id),
-            Shelf::Before(table, owned, rest) => match table.slot(id) {
-                Some(slot) => Some(slot),
-                None => {
-                    if owned.contains(&id) {
-                        None
-                    } else {
-                        rest.slot(id)
-                    }
+            Shelf::Before(table, owned, rest) => {
+                if owned.contains(&id) {
+                    table.slot(id)
+                } else {
+                    rest.slot(id)
                 }
-            },
+            }
         }
     }
 }
@@ -100,16 +97,18 @@ impl<'s, 'a, V: ResourceValue> View<'s, 'a, V> {
     fn slot(&self, id: ResourceId) -> Option<&Slot<V>>
         ensures { option_copied result ≡ view_slot self.now id }
     {
-        match self.own.slot(id) {
-            Some(slot) => Some(slot),
-            None => {
-                if self.owned.contains(&id) {
-                    None
-                } else {
-                    self.lent_slot(id)
-                }
-            }
+        if self.is_own(id) {
+            self.own.slot(id)
+        } else {
+            self.lent_slot(id)
         }
+    }
+
+    // Whether the id is looked for in the view's own table, and not behind it.
+    pub(crate) fn is_own(&self, id: ResourceId) -> bool
+        ensures { result ≡ is_own self.now id }
+    {
+        self.shelf.is_empty() || self.owned.contains(&id)
     }
 
     pub(crate) fn is_whole(&self) -> bool
@@ -143,7 +142,7 @@ impl<'s, 'a, V: ResourceValue> View<'s, 'a, V> {
     fn is_out(&self, id: ResourceId) -> bool
         ensures { result ≡ is_out self.now id }
     {
-        self.own.has_note(id) && self.is_vacant(id)
+        self.own.has_note(id) && self.is_own(id) && self.is_vacant(id)
     }
 
     // Whether the view's own slot of an id is empty.
@@ -213,7 +212,8 @@ impl<'s, 'a, V: ResourceValue> View<'s, 'a, V> {
         Ok(resource)
     }
 
-    /// The view of fewer ids, which all lie in this view's own, while nothing of this view is out.
+    /// The view of fewer ids, while nothing of this view is out: those to be read are among the ids that this view may read,
+    /// and those to be written among the ids that it may write.
     pub fn narrow<'b>(
         &'b mut self,
         reads: &'b [ResourceId],
@@ -271,8 +271,9 @@ impl<'s, 'a, V: ResourceValue> View<'s, 'a, V> {
 }
 
 impl<'s, 'a, V> View<'s, 'a, V> {
-    /// The view of these ids over a table, and over what is lent shared where the table has no slot. It is there for
-    /// those who lend views of a world's table.
+    /// The view of these ids over a table, where the written ids are looked for, and over what is lent shared, where all
+    /// others are; where nothing is lent shared, all are looked for in the table. It is there for those who lend views of
+    /// a world's table.
     pub fn over(
         reads: &'s [ResourceId],
         writes: &'s [ResourceId],

@@ -22,11 +22,11 @@ pub returns-in-Err-clause-kinds : goal.returns-in-Err-clause-kinds
 returns-in-Err-clause-kinds g c = λ id. c.in-Err.ensures.kinds id ∙ c.loop-entry.invariant.kinds id
 
 pub run_entry-requires : goal.run_entry-requires
-run_entry-requires g c = record {
-  own_lists = c.loop-entry.invariant.own_lists c.loop-entry.entry-index c.entry-item.result (omega arith);
-  place = c.loop-entry.invariant.places c.loop-entry.entry-index c.entry-item.result (omega arith);
-  own_slots = own_slots-here entry_plan (lent_slot c.args.shelf.now) c.args.own.now c.loop-entry.own c.loop-entry.entries c.args.entries.now c.loop-entry.entry-index c.entry-item.result (omega arith) c.loop-entry.invariant.plan c.loop-entry.invariant.slots c.requires.own_slots;
-}
+run_entry-requires g c =
+    let own_lists = c.loop-entry.invariant.own_lists c.loop-entry.entry-index c.entry-item.result (omega arith) in
+    let own_slots = own_slots-here entry_plan (lent_slot c.args.shelf.now) c.args.own.now c.loop-entry.own c.loop-entry.entries c.args.entries.now c.loop-entry.entry-index c.entry-item.result (omega arith) c.loop-entry.invariant.plan c.loop-entry.invariant.slots c.requires.own_slots in
+    let place = c.loop-entry.invariant.places c.loop-entry.entry-index c.entry-item.result (omega arith) in
+    (omega arith, (own_lists, (own_slots, ((λ id. c.loop-entry.invariant.slots id ∙ c.requires.just_slots id), place))))
 
 pub returns-in-Err-clause-slots : goal.returns-in-Err-clause-slots
 returns-in-Err-clause-slots g c = λ id. c.in-Err.ensures.slots id ∙ c.loop-entry.invariant.slots id

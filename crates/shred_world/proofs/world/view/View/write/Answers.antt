@@ -3,7 +3,7 @@ use Rattle.std.specs.Prelude.{is_some}
 use Rattle.shred_world.specs.declared.world.view.DataError.TheVariants.{Missing}
 use Rattle.shred_world.specs.Slots.{slot_held}
 use Rattle.shred_world.specs.Views.{view_held, may_write, is_out}
-use Rattle.shred_world.proofs.Views.Refusals.{refusal-passed, refusal-rest, written-held, slot-held}
+use Rattle.shred_world.proofs.Views.Refusals.{refusal-passed, refusal-rest, written-own, written-held, slot-held}
 use Rattle.shred_world.proofs.Tables.Slots.{OnSome-here}
 use Rattle.shred_world.proofs.Views.Shown.{view_kept, view_written}
 use Rattle.shred_world.proofs.world.view.View.write.Goals as goal
@@ -27,6 +27,6 @@ returns g c =
     let law : (r : g.row.R.Denot) → kind (g.R.Resource.wrapped r) ≡ c.args.id.kind = λ r. g.met.R.Resource.wrapped_kind r ∙ passed.0 in
     let some : view_held kind c.args.self.now c.args.id ≡ Some (g.R.Resource.wrapped c.in-Some.resource.now) =
     written-held c.args.self.now c.args.id declared kind ∙ ap (slot_held kind c.args.id) here ∙ slot-held kind c.args.id _ (law c.in-Some.resource.now) in (
-      (refl, (λ w e. view_written kind c.args.self.now _ refl refl refl refl (c.resource_mut.follows.holds w).1 refl refl c.args.id (g.R.Resource.wrapped c.in-Some.resource.now) (g.R.Resource.wrapped w) (law w) here (OnSome-here c.resource_mut.result c.in-Some.resource c.in-Some.is (c.resource_mut.follows.holds w).0)), tt),
+      (refl, (λ w e. view_written kind c.args.self.now _ refl refl refl refl (c.resource_mut.follows.holds w).1 refl refl c.args.id (g.R.Resource.wrapped c.in-Some.resource.now) (g.R.Resource.wrapped w) (written-own c.args.self.now c.args.id declared) (law w) here (OnSome-here c.resource_mut.result c.in-Some.resource c.in-Some.is (c.resource_mut.follows.holds w).0)), tt),
       record { refused = sym (refusal-rest g.R.Resource.KIND c.args.id _ _ _ (passed.0, declared, passed.2) ∙ ap (λ (o : Option g.row.V.Denot). cond (is_some o) None (Some (Missing c.args.id))) some); shown = some; written = tt },
     )

@@ -2,8 +2,8 @@
 use Rattle.std.specs.Prelude.{Option}
 use Rattle.shred_model.specs.Plan as model
 use Rattle.shred_model.specs.Record.{Agent}
-use Rattle.shred_world.specs.declared.id.Kind.{Kind}
-use Rattle.shred_world.specs.declared.id.ResourceId.{ResourceId}
+use Rattle.shred_table.specs.declared.id.Kind.{Kind}
+use Rattle.shred_table.specs.declared.id.ResourceId.{ResourceId}
 use Rattle.shred_world.specs.declared.world.World.{World}
 use Rattle.shred_stage.specs.Dispatched.{Situation, stages_over}
 use Rattle.shred.specs.declared.dispatch.dispatcher.Dispatcher.{Dispatcher}

@@ -2,8 +2,8 @@
 use Rattle.std.specs.Prelude.{◌≡◌, ℕ, List, Ok, Err}
 use Rattle.shred_model.specs.Plan as model
 use Rattle.shred_model.specs.Runs.{Answer, RunsUpToFault}
-use Rattle.shred_world.specs.declared.id.Kind.{Kind}
-use Rattle.shred_world.specs.declared.id.ResourceId.{ResourceId}
+use Rattle.shred_table.specs.declared.id.Kind.{Kind}
+use Rattle.shred_table.specs.declared.id.ResourceId.{ResourceId}
 use Rattle.shred.specs.declared.dispatch.dispatcher.DispatchError.{DispatchError}
 use Rattle.shred.specs.declared.dispatch.dispatcher.DispatchError.TheVariants as dispatch
 use Rattle.shred_stage.specs.declared.dispatch.run.StageFault.{StageFault}

@@ -1,6 +1,6 @@
 -- What a builder has planned.
 use Rattle.std.specs.Prelude.{ℕ, Option}
-use Rattle.shred_world.specs.declared.id.ResourceId.{ResourceId}
+use Rattle.shred_table.specs.declared.id.ResourceId.{ResourceId}
 use Rattle.shred_model.specs.Plan.{Plan}
 use Rattle.shred_model.specs.Record.{Agent}
 use Rattle.shred_stage.specs.Plans.{plan_states}

@@ -10,8 +10,8 @@ use Rattle.shred_model.specs.Plan as model
 use Rattle.shred_model.specs.Record.{Record, Agent}
 use Rattle.shred_model.specs.Runs.{Answer}
 use Rattle.shred_model.specs.States.{configuration_of}
-use Rattle.shred_world.specs.declared.id.Kind.{Kind}
-use Rattle.shred_world.specs.declared.id.ResourceId.{ResourceId}
+use Rattle.shred_table.specs.declared.id.Kind.{Kind}
+use Rattle.shred_table.specs.declared.id.ResourceId.{ResourceId}
 use Rattle.shred_world.specs.declared.world.World.{World}
 use Rattle.shred_world.specs.Worked.{Held}
 use Rattle.shred_world.specs.Worlds.{world_held}

@@ -2,11 +2,11 @@
 use Rattle.std.specs.Prelude.{◌≡◌, Bool, true, false, ◌&&◌, ◌==◌, IsTrue, Option, Some, None, List, length, cond, AllPairs}
 use Rattle.std.specs.List.{list_any, All}
 use Rattle.shred_model.specs.Plan as model
-use Rattle.shred_world.specs.declared.id.ResourceId.{ResourceId}
-use Rattle.shred_world.specs.declared.table.Slot.{Slot}
-use Rattle.shred_world.specs.declared.table.Table.{Table}
-use Rattle.shred_world.specs.Parting.{IsEmptyHand, IsRoom, given, slot_value}
-use Rattle.shred_world.specs.Slots.{slot_at, among}
+use Rattle.shred_table.specs.declared.id.ResourceId.{ResourceId}
+use Rattle.shred_table.specs.declared.table.Slot.{Slot}
+use Rattle.shred_table.specs.declared.table.Table.{Table}
+use Rattle.shred_table.specs.Parting.{IsEmptyHand, IsRoom, given, slot_value}
+use Rattle.shred_table.specs.Slots.{slot_at, among}
 use Rattle.shred_stage.specs.OwnSlots.{HasJustSlots, HasOnlySlots}
 use Rattle.shred_stage.specs.PlanOf.{group_plan}
 use Rattle.shred_stage.specs.declared.dispatch.entry.SystemEntry.{SystemEntry}

@@ -1,8 +1,8 @@
 -- What the planner keeps of a system.
 use Rattle.std.specs.Prelude.{◌≡◌, ◌↔◌, ℕ, List, Contains, AllPairs}
-use Rattle.shred_world.specs.Id.{IsBefore}
-use Rattle.shred_world.specs.Slots.{among}
-use Rattle.shred_world.specs.declared.id.ResourceId.{ResourceId}
+use Rattle.shred_table.specs.Id.{IsBefore}
+use Rattle.shred_table.specs.Slots.{among}
+use Rattle.shred_table.specs.declared.id.ResourceId.{ResourceId}
 use Rattle.shred_model.specs.Plan.{PlanEntry}
 use Rattle.shred_stage.specs.Time.{time_count}
 use Rattle.shred_stage.specs.declared.system.RunningTime.{RunningTime}

@@ -1,7 +1,7 @@
 -- Entries beside whose systems stands what is the systems' own.
 use Rattle.std.specs.Prelude.{List, All}
-use Rattle.shred_world.specs.declared.id.ResourceId.{ResourceId}
-use Rattle.shred_world.specs.Parting.{IsEmptyHand}
+use Rattle.shred_table.specs.declared.id.ResourceId.{ResourceId}
+use Rattle.shred_table.specs.Parting.{IsEmptyHand}
 use Rattle.shred_stage.specs.Kept.{AreOwnLists}
 use Rattle.shred_stage.specs.declared.dispatch.entry.SystemEntry.{SystemEntry}
 use Rattle.shred_stage.specs.declared.dispatch.entry.Group.{Group}

@@ -1,10 +1,10 @@
 -- Tables that have the slots which the entries of a plan write.
 use Rattle.std.specs.Prelude.{◌≡◌, false, None, List, All, is_some}
 use Rattle.shred_model.specs.Plan as model
-use Rattle.shred_world.specs.declared.id.ResourceId.{ResourceId}
-use Rattle.shred_world.specs.declared.table.Table.{Table}
-use Rattle.shred_world.specs.Shown.{Lent, HasOwnSlots}
-use Rattle.shred_world.specs.Slots.{slot_at, among, or_slot}
+use Rattle.shred_table.specs.declared.id.ResourceId.{ResourceId}
+use Rattle.shred_table.specs.declared.table.Table.{Table}
+use Rattle.shred_table.specs.Shown.{Lent, HasOwnSlots}
+use Rattle.shred_table.specs.Slots.{slot_at, among, or_slot}
 
 -- what is lent where the table is lent before all else
 abbrev pub lent_before : {V : Type 0} → Table V → Lent V → Lent V

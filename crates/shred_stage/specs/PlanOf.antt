@@ -1,6 +1,6 @@
 -- The plan, as plain data, that entries and groups hold.
 use Rattle.std.specs.Prelude.{◌≡◌, ℕ, List, map}
-use Rattle.shred_world.specs.declared.id.ResourceId.{ResourceId}
+use Rattle.shred_table.specs.declared.id.ResourceId.{ResourceId}
 use Rattle.shred_model.specs.Access.{Access}
 use Rattle.shred_model.specs.Plan as model
 use Rattle.shred_stage.specs.Time.{time_count}

@@ -3,9 +3,9 @@ use Rattle.std.specs.Prelude.{◌≡◌, cond, ◌||◌, None, Result}
 use Rattle.std.specs.Option.{option_map}
 use Rattle.shred_model.specs.Access.{Access, Declares}
 use Rattle.shred_model.specs.Record.{Record, Agent, IsFramed}
-use Rattle.shred_world.specs.declared.id.Kind.{Kind}
-use Rattle.shred_world.specs.declared.id.ResourceId.{ResourceId}
-use Rattle.shred_world.specs.Slots.{among}
+use Rattle.shred_table.specs.declared.id.Kind.{Kind}
+use Rattle.shred_table.specs.declared.id.ResourceId.{ResourceId}
+use Rattle.shred_table.specs.Slots.{among}
 use Rattle.shred_world.specs.Worked.{Held}
 use Rattle.shred_stage.specs.declared.system.Fault.{Fault}
 

@@ -3,8 +3,8 @@ use Rattle.std.specs.Prelude.{◌≡◌, List, All, map}
 use Rattle.std.specs.Option.{option_map}
 use Rattle.shred_model.specs.Runs.{Answer, Ran}
 use Rattle.shred_model.specs.States.{configuration_of, listed_states}
-use Rattle.shred_world.specs.declared.id.Kind.{Kind}
-use Rattle.shred_world.specs.declared.id.ResourceId.{ResourceId}
+use Rattle.shred_table.specs.declared.id.Kind.{Kind}
+use Rattle.shred_table.specs.declared.id.ResourceId.{ResourceId}
 use Rattle.shred_world.specs.Worked.{Held}
 use Rattle.shred_stage.specs.declared.dispatch.entry.Group.{Group}
 use Rattle.shred_stage.specs.declared.dispatch.run.StageFault.{StageFault}

@@ -2,7 +2,7 @@
 ghost use Rattle.std.specs.Prelude.{◌≡◌, List, IfOk, false, is_some};
 ghost use Rattle.shred_stage.specs.Time.{time_count};
 ghost use Rattle.shred_stage.specs.declared.system.RunningTime.{RunningTime};
-ghost use Rattle.shred_world.specs.declared.id.ResourceId.{ResourceId};
+ghost use Rattle.shred_table.specs.declared.id.ResourceId.{ResourceId};
 
 use shred_world::{Accessor, DataError, OutOfMemory, ResourceValue, View, World};
 use std::alloc::Global;

@@ -1,4 +1,3 @@
 -- Views that are parted, and joined again.
 pub mod Hands
-pub mod Pairs
 pub mod Beside

@@ -1,8 +1,2 @@
--- Slots of tables, and values that move between them.
+-- Tables behind worlds.
 pub mod Finite
-mod IdOrder
-pub mod InOrder
-pub mod Ids
-pub mod Slots
-pub mod Held
-pub mod Moves

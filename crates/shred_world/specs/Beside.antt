@@ -1,14 +1,14 @@
 -- The parts of a view, and what lies behind their hands.
 use Rattle.std.specs.Prelude.{◌≡◌, ℕ, IsTrue, Option, cond, List, [], get_or}
-use Rattle.shred_world.specs.declared.id.ResourceId.{ResourceId}
-use Rattle.shred_world.specs.declared.table.Slot.{Slot}
-use Rattle.shred_world.specs.declared.table.Table.{Table}
+use Rattle.shred_table.specs.declared.id.ResourceId.{ResourceId}
+use Rattle.shred_table.specs.declared.table.Slot.{Slot}
+use Rattle.shred_table.specs.declared.table.Table.{Table}
 use Rattle.shred_world.specs.declared.world.view.Shelf.{Shelf}
 use Rattle.shred_world.specs.declared.world.parts.Behind.{Behind}
 use Rattle.shred_world.specs.declared.world.parted.Parts.{Parts}
-use Rattle.shred_world.specs.Parts.{Pair, writes_of, declares}
-use Rattle.shred_world.specs.Shown.{Lent}
-use Rattle.shred_world.specs.Slots.{slot_at, among}
+use Rattle.shred_table.specs.Parts.{Pair, writes_of, declares}
+use Rattle.shred_table.specs.Shown.{Lent}
+use Rattle.shred_table.specs.Slots.{slot_at, among}
 use Rattle.shred_world.specs.Views.{lent_slot}
 
 -- the pairs by which a view was parted

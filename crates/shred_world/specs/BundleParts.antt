@@ -1,6 +1,6 @@
 -- What reading and writing parts of bundles have.
 use Rattle.std.specs.Prelude.{Option, Some, None, List, [], ◌∷◌}
-use Rattle.shred_world.specs.declared.id.ResourceId.{ResourceId}
+use Rattle.shred_table.specs.declared.id.ResourceId.{ResourceId}
 use Rattle.shred_world.specs.declared.world.handing.Handed.{Handed}
 use Rattle.shred_world.specs.declared.world.handing.Handed.TheVariants.{Lent, Moved}
 use Rattle.shred_world.specs.declared.world.read.Read.{Read}

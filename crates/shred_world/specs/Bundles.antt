@@ -1,12 +1,12 @@
 -- Bundles: what their parts ask of a view, what they show, and what they move out of it.
 use Rattle.std.specs.Prelude.{◌≡◌, Bool, false, ◌&&◌, ◌||◌, ◌⊎◌, ⊤, IsTrue, Option, Some, None, cond, is_some, is_none, List, [], ◌∷◌, map, Result, Ok, Err}
-use Rattle.shred_world.specs.declared.id.Kind.{Kind}
-use Rattle.shred_world.specs.declared.id.ResourceId.{ResourceId}
+use Rattle.shred_table.specs.declared.id.Kind.{Kind}
+use Rattle.shred_table.specs.declared.id.ResourceId.{ResourceId}
 use Rattle.shred_world.specs.declared.world.WorldError.{WorldError}
 use Rattle.shred_world.specs.declared.world.view.DataError.{DataError}
 use Rattle.shred_world.specs.declared.world.view.DataError.TheVariants.{OutOfMemory}
 use Rattle.shred_world.specs.Grants.{Grant, without, Moved}
-use Rattle.shred_world.specs.Slots.{among}
+use Rattle.shred_table.specs.Slots.{among}
 use Rattle.shred_world.specs.Views.{refusal}
 
 -- a part of a bundle: the kind of its type, its id, whether it is to be written, and whether it may be absent

@@ -1,8 +1,8 @@
 -- Entries: worlds that are lent to look at the resource of number 0 of one type.
 use Rattle.std.specs.Borrow.{MutBor, Fml, RattleType}
 use Rattle.std.specs.Prelude.{Result}
-use Rattle.shred_world.specs.declared.id.Kind.{Kind}
-use Rattle.shred_world.specs.declared.id.ResourceId.{ResourceId}
+use Rattle.shred_table.specs.declared.id.Kind.{Kind}
+use Rattle.shred_table.specs.declared.id.ResourceId.{ResourceId}
 use Rattle.shred_world.specs.declared.world.World.{World}
 use Rattle.shred_world.specs.declared.world.entry.Entry.{Entry}
 use Rattle.shred_world.specs.Lent.{LendsGotOk}

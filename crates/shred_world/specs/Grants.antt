@@ -1,12 +1,13 @@
 -- Grants: what views grant, and how handing a value out and giving one back change it.
 use Rattle.std.specs.Prelude.{true, false, Bool, not, ◌&&◌, ◌||◌, Option, Some, None, List, [], ◌∷◌}
-use Rattle.shred_world.specs.declared.id.Kind.{Kind}
-use Rattle.shred_world.specs.declared.id.ResourceId.{ResourceId}
-use Rattle.shred_world.specs.declared.table.Table.{Table}
+use Rattle.shred_table.specs.declared.id.Kind.{Kind}
+use Rattle.shred_table.specs.declared.id.ResourceId.{ResourceId}
+use Rattle.shred_table.specs.declared.table.Table.{Table}
 use Rattle.shred_world.specs.declared.world.view.View.{View}
-use Rattle.shred_world.specs.Id.{same_id}
-use Rattle.shred_world.specs.Slots.{slot_at, noted_in, held, with_at}
-use Rattle.shred_world.specs.Views.{may_read, may_write, is_own, is_vacant, is_out, view_held}
+use Rattle.shred_table.specs.Id.{same_id}
+use Rattle.shred_table.specs.Slots.{slot_at, noted_in, held, with_at}
+use Rattle.shred_world.specs.Views.{may_read, may_write, is_own, is_out, view_held}
+use Rattle.shred_table.specs.Slots.{is_vacant}
 
 -- which ids may be read, which may be written, which values are not shared, which are out, and what is held
 pub record Grant (V : Type 0) : Type 0 where

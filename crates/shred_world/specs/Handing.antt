@@ -1,7 +1,7 @@
 -- Resources that are handed out: lent shared, or moved out.
 use Rattle.std.specs.Prelude.{Option, Some, None, cond}
-use Rattle.shred_world.specs.declared.id.Kind.{Kind}
-use Rattle.shred_world.specs.declared.id.ResourceId.{ResourceId}
+use Rattle.shred_table.specs.declared.id.Kind.{Kind}
+use Rattle.shred_table.specs.declared.id.ResourceId.{ResourceId}
 use Rattle.shred_world.specs.declared.world.view.View.{View}
 use Rattle.shred_world.specs.declared.world.handing.Handed.{Handed}
 use Rattle.shred_world.specs.declared.world.handing.Handed.TheVariants.{Lent, Moved}

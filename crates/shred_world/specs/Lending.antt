@@ -1,9 +1,9 @@
 -- Views that a world lends, and views that a view lends of itself.
 use Rattle.std.specs.Prelude.{◌≡◌, cond, List, []}
-use Rattle.shred_world.specs.declared.id.ResourceId.{ResourceId}
+use Rattle.shred_table.specs.declared.id.ResourceId.{ResourceId}
 use Rattle.shred_world.specs.declared.world.World.{World}
 use Rattle.shred_world.specs.declared.world.view.View.{View}
-use Rattle.shred_world.specs.Slots.{slot_at}
+use Rattle.shred_table.specs.Slots.{slot_at}
 use Rattle.shred_world.specs.Views.{is_whole, owned_ids, shelves_of, table_in}
 use Rattle.shred_world.specs.Worlds.{table_of_world}
 

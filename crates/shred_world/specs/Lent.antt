@@ -1,62 +1,19 @@
--- What a table ends as where a part of it is lent to be written.
+-- What a view or a world ends as where a part of it is lent to be written.
 use Rattle.std.specs.Prelude.{◌≡◌, ℕ, Option, Some, OnSome}
-use Rattle.std.specs.Borrow.{Lends, LendsIf, LendsSo, LendsSoOk, MutBor, Fml, RattleType}
+use Rattle.std.specs.Borrow.{Lends, LendsSo, LendsSoOk, MutBor, Fml, RattleType}
 use Rattle.std.specs.Prelude.{Result, []}
 use Rattle.shred_world.specs.declared.world.World.{World}
 use Rattle.shred_world.specs.contracts.world.World.{the_row as world_row}
 use mir.Syntax.{named}
-use Rattle.shred_world.specs.declared.id.Kind.{Kind}
-use Rattle.shred_world.specs.declared.id.ResourceId.{ResourceId}
-use Rattle.shred_world.specs.declared.table.Slot.{Slot}
-use Rattle.shred_world.specs.declared.table.Table.{Table}
-use Rattle.shred_world.specs.contracts.table.Slot.{the_row as slot_row}
-use Rattle.shred_world.specs.contracts.table.Table.{the_row as table_row}
+use Rattle.shred_table.specs.declared.id.Kind.{Kind}
+use Rattle.shred_table.specs.declared.id.ResourceId.{ResourceId}
+use Rattle.shred_table.specs.declared.table.Table.{Table}
+use Rattle.shred_table.specs.contracts.table.Table.{the_row as table_row}
 use Rattle.shred_world.specs.declared.world.view.View.{View}
 use Rattle.shred_world.specs.contracts.world.view.View.{the_row as view_row}
-use Rattle.shred_world.specs.declared.listed.Listed.{Listed}
-use Rattle.shred_world.specs.declared.store.Slots.{Slots}
-use Rattle.shred_world.specs.contracts.listed.Listed.{the_row as listed_row}
-use Rattle.shred_world.specs.contracts.store.Slots.{the_row as slots_row}
-use Rattle.shred_world.specs.Listed.{listed_at}
-use Rattle.shred_world.specs.Slots.{kept_at, slot_at, noted_in, with_at}
+use Rattle.shred_table.specs.Slots.{with_at}
 use Rattle.shred_world.specs.Views.{view_held, IsSameView}
 use Rattle.shred_world.specs.Worlds.{world_held}
-
--- the slot with this value
-abbrev pub with_value : {V : Type 0} → Slot V → V → Slot V
-with_value s w = record s { value = Some w }
-
--- the slot ends with the value last written, or as it was where it has none
-abbrev pub LendsValue : (V : RattleType) → MutBor (Slot V.Denot) → Option (MutBor V.Denot) → Fml
-LendsValue V s r = LendsIf (slot_row V) V s r (with_value s.now) s.now
-
--- the slot ends with the resource last written, as a value, or as it was
-abbrev pub LendsResource : (V R : RattleType) → (R.Denot → V.Denot) → MutBor (Slot V.Denot) → Option (MutBor R.Denot) → Fml
-LendsResource V R wrapped s r = LendsIf (slot_row V) R s r (λ w. with_value s.now (wrapped w)) s.now
-
--- the list ends with the slot last written at the id, or as it was where there is none
-abbrev pub LendsListed : (V : RattleType) → MutBor (Listed V.Denot) → ResourceId → Option (MutBor (Slot V.Denot)) → Fml
-LendsListed V s id r = LendsSo (listed_row V) (slot_row V) s r
-    (λ n w. OnSome r ((q : ResourceId) → listed_at n q ≡ with_at (listed_at s.now) id (Some w) q))
-    (λ n. (q : ResourceId) → listed_at n q ≡ listed_at s.now q)
-
--- the slots end with the one last written at the id, or as they were where there is none
-abbrev pub LendsKept : (V : RattleType) → MutBor (Slots V.Denot) → ResourceId → Option (MutBor (Slot V.Denot)) → Fml
-LendsKept V s id r = LendsSo (slots_row V) (slot_row V) s r
-    (λ n w. OnSome r ((q : ResourceId) → kept_at n q ≡ with_at (kept_at s.now) id (Some w) q))
-    (λ n. (q : ResourceId) → kept_at n q ≡ kept_at s.now q)
-
--- the table ends with the slot last written at the id, or as it was where there is none, and all else as it was
-abbrev pub LendsSlot : (V : RattleType) → MutBor (Table V.Denot) → ResourceId → Option (MutBor (Slot V.Denot)) → Fml
-LendsSlot V s id r = LendsSo (table_row V) (slot_row V) s r
-    (λ n w. OnSome r ((q : ResourceId) → slot_at n q ≡ with_at (slot_at s.now) id (Some w) q) × ((q : ResourceId) → noted_in n q ≡ noted_in s.now q))
-    (λ n. ((q : ResourceId) → slot_at n q ≡ slot_at s.now q) × ((q : ResourceId) → noted_in n q ≡ noted_in s.now q))
-
--- the table ends with the resource last written under the id, or as it was where none was lent, and all else as it was
-abbrev pub LendsHeld : (V R : RattleType) → (R.Denot → V.Denot) → MutBor (Table V.Denot) → ResourceId → Option (MutBor R.Denot) → Fml
-LendsHeld V R wrapped s id r = LendsSo (table_row V) R s r
-    (λ n w. OnSome r ((q : ResourceId) → slot_at n q ≡ with_at (slot_at s.now) id (Some (record { value = Some (wrapped w) })) q) × ((q : ResourceId) → noted_in n q ≡ noted_in s.now q))
-    (λ n. ((q : ResourceId) → slot_at n q ≡ slot_at s.now q) × ((q : ResourceId) → noted_in n q ≡ noted_in s.now q))
 
 -- the row of a view whose lifetimes stand at these places of a signature
 abbrev pub view_at : ℕ → ℕ → RattleType → RattleType

@@ -2,7 +2,7 @@
 use Rattle.std.specs.Prelude.{[]}
 use Rattle.std.specs.Borrow.{MutBor, Fml, RattleType, Lends}
 use mir.Syntax.{named}
-use Rattle.shred_world.specs.declared.id.Kind.{Kind}
+use Rattle.shred_table.specs.declared.id.Kind.{Kind}
 use Rattle.shred_world.specs.declared.world.World.{World}
 use Rattle.shred_world.specs.declared.world.lent.Lent.{Lent}
 use Rattle.shred_world.specs.contracts.world.lent.Lent.{the_row as lent_row}

@@ -1,14 +1,7 @@
-pub mod Id
-pub mod InOrder
-pub mod Listed
-pub mod Slots
 pub mod Lent
 pub mod Fetched
 pub mod Views
 pub mod Worlds
-pub mod Shown
-pub mod Parting
-pub mod Parts
 pub mod Beside
 pub mod OwnViews
 pub mod Worked
@@ -19,6 +12,5 @@ pub mod Handing
 pub mod BundleParts
 pub mod Executed
 pub mod LentBundles
-pub mod Accessors
 pub mod Lending
 pub mod Parted

@@ -1,8 +1,8 @@
 -- Views of just some ids.
 use Rattle.std.specs.Prelude.{◌≡◌, false, ◌||◌, IsTrue, List, is_some}
-use Rattle.shred_world.specs.declared.id.ResourceId.{ResourceId}
+use Rattle.shred_table.specs.declared.id.ResourceId.{ResourceId}
 use Rattle.shred_world.specs.declared.world.view.View.{View}
-use Rattle.shred_world.specs.Slots.{among}
+use Rattle.shred_table.specs.Slots.{among}
 use Rattle.shred_world.specs.Views as views
 
 -- The view of just these ids, with none of them out. Of these ids, where the view shows a slot, the written ones are the view's own, and all others are lent shared.

@@ -1,16 +1,16 @@
 -- Views that are parted, the views of their parts, and parts that are joined.
 use Rattle.std.specs.Prelude.{◌≡◌, Bool, false, ◌&&◌, cond, is_some, List}
 use Rattle.std.specs.List.{All, AllZip}
-use Rattle.shred_world.specs.declared.id.Kind.{Kind}
-use Rattle.shred_world.specs.declared.id.ResourceId.{ResourceId}
-use Rattle.shred_world.specs.declared.table.Table.{Table}
+use Rattle.shred_table.specs.declared.id.Kind.{Kind}
+use Rattle.shred_table.specs.declared.id.ResourceId.{ResourceId}
+use Rattle.shred_table.specs.declared.table.Table.{Table}
 use Rattle.shred_world.specs.declared.world.parted.Parts.{Parts}
 use Rattle.shred_world.specs.declared.world.view.Shelf.{Shelf}
 use Rattle.shred_world.specs.declared.world.view.View.{View}
 use Rattle.shred_world.specs.Beside.{lender_of, pairs_of, parted_of, ShowsDeclared}
-use Rattle.shred_world.specs.Parting.{emptied}
-use Rattle.shred_world.specs.Parts.{Pair, reads_of, writes_of, written_by, Fits, HasNothingOut, HoldsIdsOf, HoldsSameIds, HoldsWritten, IsHandOf, IsJoined}
-use Rattle.shred_world.specs.Slots.{slot_at}
+use Rattle.shred_table.specs.Parting.{emptied}
+use Rattle.shred_table.specs.Parts.{Pair, reads_of, writes_of, written_by, Fits, HasNothingOut, HoldsIdsOf, HoldsSameIds, HoldsWritten, IsHandOf, IsJoined}
+use Rattle.shred_table.specs.Slots.{slot_at}
 use Rattle.shred_world.specs.Views.{is_out, owned_ids, shelves_of, table_in, table_of, view_slot}
 
 -- whether the view's own table has a slot for the id

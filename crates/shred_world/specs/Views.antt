@@ -1,14 +1,14 @@
 -- Views: the declared ids, what is held under them, and what is out.
-use Rattle.std.specs.Prelude.{◌≡◌, ℕ, Bool, false, Option, Some, None, cond, nat_eq, ◌&&◌, ◌||◌, List, [], ◌∷◌, is_some, is_none, length, ◌==◌}
-use Rattle.shred_world.specs.declared.id.Kind.{Kind}
-use Rattle.shred_world.specs.declared.id.ResourceId.{ResourceId}
-use Rattle.shred_world.specs.declared.table.Slot.{Slot}
-use Rattle.shred_world.specs.declared.table.Table.{Table}
+use Rattle.std.specs.Prelude.{◌≡◌, ℕ, Bool, false, Option, Some, None, cond, nat_eq, ◌&&◌, ◌||◌, List, [], ◌∷◌, is_some, length, ◌==◌}
+use Rattle.shred_table.specs.declared.id.Kind.{Kind}
+use Rattle.shred_table.specs.declared.id.ResourceId.{ResourceId}
+use Rattle.shred_table.specs.declared.table.Slot.{Slot}
+use Rattle.shred_table.specs.declared.table.Table.{Table}
 use Rattle.shred_world.specs.declared.world.view.DataError.{DataError}
 use Rattle.shred_world.specs.declared.world.view.DataError.TheVariants.{Missing, Undeclared, Taken, WrongKind}
 use Rattle.shred_world.specs.declared.world.view.Shelf.{Shelf, Last, Before'}
 use Rattle.shred_world.specs.declared.world.view.View.{View}
-use Rattle.shred_world.specs.Slots.{among, noted_in, slot_at, slot_held}
+use Rattle.shred_table.specs.Slots.{among, is_vacant, noted_in, slot_at, slot_held}
 
 -- the slot that a shelf shows for an id: that of the nearest table beside which the id is listed, or else of the last one
 abbrev pub shelf_slot : {V : Type 0} → Shelf V → ResourceId → Option (Slot V)
@@ -47,11 +47,6 @@ may_write v id = is_whole v || (among v.writes.now id && among v.owned.now id)
 -- whether the id is declared at all
 abbrev pub may_read : {V : Type 0} → View V → ResourceId → Bool
 may_read v id = among v.reads.now id || may_write v id
-
--- a slot whose value was moved out
-abbrev pub is_vacant : {V : Type 0} → Option (Slot V) → Bool
-is_vacant (Some s) = is_none s.value
-is_vacant None = false
 
 -- whether the value of the id is handed out: the id is the view's own, it is noted so, and its slot is empty
 abbrev pub is_out : {V : Type 0} → View V → ResourceId → Bool

@@ -1,12 +1,12 @@
 -- Work over the view of each part of a view that was parted.
 use Rattle.std.specs.Prelude.{◌≡◌, false, IsTrue, Option, None, cond, List, [], ◌∷◌, is_some}
-use Rattle.shred_world.specs.declared.id.Kind.{Kind}
-use Rattle.shred_world.specs.declared.id.ResourceId.{ResourceId}
-use Rattle.shred_world.specs.declared.table.Table.{Table}
+use Rattle.shred_table.specs.declared.id.Kind.{Kind}
+use Rattle.shred_table.specs.declared.id.ResourceId.{ResourceId}
+use Rattle.shred_table.specs.declared.table.Table.{Table}
 use Rattle.shred_world.specs.Beside.{part_slot}
-use Rattle.shred_world.specs.Parts.{Pair, reads_of, writes_of, declares, written_by, HasNothingOut, HoldsSameIds}
-use Rattle.shred_world.specs.Shown.{Lent, IsSameSlots}
-use Rattle.shred_world.specs.Slots.{among, slot_held}
+use Rattle.shred_table.specs.Parts.{Pair, reads_of, writes_of, declares, written_by, HasNothingOut, HoldsSameIds}
+use Rattle.shred_table.specs.Shown.{Lent, IsSameSlots}
+use Rattle.shred_table.specs.Slots.{among, slot_held}
 
 -- the values that are shown, by id
 abbrev pub Held : Type 0 → Type 0

@@ -1,12 +1,12 @@
 -- Worlds: finite maps from ids to values of their id's kind.
 use Rattle.std.specs.Prelude.{◌≡◌, false, List, Option, Some, None, MatchOption, Result, Ok, Err}
-use Rattle.shred_world.specs.declared.id.Kind.{Kind}
-use Rattle.shred_world.specs.declared.id.ResourceId.{ResourceId}
-use Rattle.shred_world.specs.declared.table.Table.{Table}
+use Rattle.shred_table.specs.declared.id.Kind.{Kind}
+use Rattle.shred_table.specs.declared.id.ResourceId.{ResourceId}
+use Rattle.shred_table.specs.declared.table.Table.{Table}
 use Rattle.shred_world.specs.declared.world.World.{World}
 use Rattle.shred_world.specs.declared.world.WorldError.{WorldError}
 use Rattle.shred_world.specs.declared.world.WorldError.TheVariants.{OutOfMemory}
-use Rattle.shred_world.specs.Slots.{among, held, with_at}
+use Rattle.shred_table.specs.Slots.{among, held, with_at}
 
 -- the table behind a world
 abbrev pub table_of_world : {V : Type 0} → World V → Table V

@@ -1,21 +1,13 @@
 //! Resources, the world that holds them, and the views through which systems reach them.
 #![tactic(auto)]
 
-pub mod accessor;
-pub mod id;
-mod listed;
 pub mod parting;
-pub mod resource;
-mod store;
-pub mod table;
-pub mod util;
 pub mod world;
 
-pub use accessor::{Accessor, BatchAccessor, OutOfMemory};
-pub use id::{Kind, ResourceId};
-pub use resource::{Resource, ResourceValue};
-pub use table::{Slot, Table};
-pub use util::check_intersection;
+pub use shred_table::{
+    Accessor, BatchAccessor, Kind, OutOfMemory, Resource, ResourceId, ResourceValue, Slot, Table,
+    accessor, check_intersection, id, resource, table, util,
+};
 pub use world::bundle::SystemData;
 pub use world::dynamic::DynamicSystemData;
 pub use world::each::ViewWork;

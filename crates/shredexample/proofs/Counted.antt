@@ -2,15 +2,15 @@
 use Rattle.std.proofs.Common.{◌≡◌, ℤ, inl, inr, Bool, true, false, cond, List, [], ◌∷◌, Option, Some, None, Result, Ok, Err, IfOk, refl, sym, ◌∙◌, ap}
 use Rattle.std.specs.Borrow.{MutBor}
 use Rattle.std.specs.Fn.{FnOnceReturnsAtMut, Once}
-use Rattle.shred_world.specs.declared.id.ResourceId.{ResourceId}
+use Rattle.shred_table.specs.declared.id.ResourceId.{ResourceId}
 use Rattle.shred_world.specs.declared.world.view.DataError.{DataError}
 use Rattle.shred_world.specs.BundleParts.{written_value, read_value, moved_to_read}
 use Rattle.shred_world.specs.Bundles.{Part, after_moved, after_part, after_parts, moved_at, moved_for}
 use Rattle.shred_world.specs.Executed.{IsExecuted, IsTaken}
 use Rattle.shred_world.specs.Grants.{Moved, given_back, map_grant}
-use Rattle.shred_world.specs.Id.{id_of, same_id}
-use Rattle.shred_world.specs.Slots.{with_at}
-use Rattle.shred_world.proofs.Tables.Slots.{same_id-true}
+use Rattle.shred_table.specs.Id.{id_of, same_id}
+use Rattle.shred_table.specs.Slots.{with_at}
+use Rattle.shred_table.proofs.Tables.Slots.{same_id-true}
 use Rattle.shredexample.specs.declared.counting.Counting.{Counting}
 use Rattle.shredexample.specs.declared.limits.Count.{Count}
 use Rattle.shredexample.specs.declared.limits.Limit.{Limit}

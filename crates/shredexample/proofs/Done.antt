@@ -4,8 +4,8 @@ use Rattle.std.specs.List.{AllZip, flat_map}
 use Rattle.shred_model.specs.Plan.{PlanEntry, Group, Stage, Plan}
 use Rattle.shred_model.specs.Record.{Record, Agent, under}
 use Rattle.shred_model.specs.Runs.{Answer, RunsUpToFault, RunsEach}
-use Rattle.shred_world.specs.declared.id.Kind.{Kind}
-use Rattle.shred_world.specs.declared.id.ResourceId.{ResourceId}
+use Rattle.shred_table.specs.declared.id.Kind.{Kind}
+use Rattle.shred_table.specs.declared.id.ResourceId.{ResourceId}
 use Rattle.shred_stage.specs.declared.dispatch.run.StageFault.TheVariants.{System, Memory}
 use Rattle.shred_stage.specs.Entries.{EntryRun, GroupRun, entry_answer}
 use Rattle.shred.specs.PlanRuns.{PlanRun, PlanTurn}

@@ -7,8 +7,8 @@ use Rattle.shred_model.specs.Serializable.{IsSerializable}
 use Rattle.shred_model.specs.Plan.{PlanEntry, Plan}
 use Rattle.shred_model.specs.Record.{Agent}
 use Rattle.shred_model.specs.Replay.{Configuration, Replays}
-use Rattle.shred_world.specs.declared.id.Kind.{Kind}
-use Rattle.shred_world.specs.declared.id.ResourceId.{ResourceId}
+use Rattle.shred_table.specs.declared.id.Kind.{Kind}
+use Rattle.shred_table.specs.declared.id.ResourceId.{ResourceId}
 use Rattle.shred_world.specs.Worked.{Held}
 use Rattle.shred_stage.specs.Placement.{IsPlaced, in_new_group, at_end_of_group, in_new_stage}
 use Rattle.shred.specs.PlanRuns.{PlanRun}

@@ -1,12 +1,12 @@
 -- Counts and limits, and the bundle of both.
 use Rattle.std.specs.Prelude.{◌≡◌, ℤ, Option, Some, Ok, Err, cond, pos, ◌+ℤ◌}
 use Rattle.std.specs.Int.Signed.{lt_z}
-use Rattle.shred_world.specs.declared.id.Kind.{Kind}
-use Rattle.shred_world.specs.declared.id.ResourceId.{ResourceId}
+use Rattle.shred_table.specs.declared.id.Kind.{Kind}
+use Rattle.shred_table.specs.declared.id.ResourceId.{ResourceId}
 use Rattle.shred_world.specs.declared.world.WorldError.{WorldError}
 use Rattle.shred_world.specs.Bundles.{Setup}
-use Rattle.shred_world.specs.Id.{id_of}
-use Rattle.shred_world.specs.Slots.{with_at}
+use Rattle.shred_table.specs.Id.{id_of}
+use Rattle.shred_table.specs.Slots.{with_at}
 use Rattle.shred_world.specs.Worlds.{IsKeptOrMade}
 use Rattle.shredexample.specs.declared.limits.Count.{Count}
 use Rattle.shredexample.specs.declared.limits.Limit.{Limit}

@@ -1,7 +1,7 @@
 //! A bundle of a caller's own: a count, and how far it may go.
 ghost use Rattle.std.specs.Prelude.{◌≡◌, [], ◌∷◌, Some, IfOk, true, false};
 ghost use Rattle.shred_world.specs.BundleParts.{written_value, read_value, moved_to_read};
-ghost use Rattle.shred_world.specs.Id.{id_of};
+ghost use Rattle.shred_table.specs.Id.{id_of};
 ghost use Rattle.shred_world.specs.Worlds.{world_held};
 ghost use Rattle.shredexample.specs.Limits.{IsCountedIn, StartsAtZero, counted_up, kind_of, count_kind, limit_kind};
 ghost use Rattle.shredexample.specs.declared.limits.Value.TheVariants.{Counted, Limited};

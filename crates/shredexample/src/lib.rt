@@ -5,7 +5,7 @@ pub mod counting;
 pub mod limits;
 
 ghost use Rattle.std.specs.Prelude.{◌≡◌, [], ◌∷◌, Some, IfOk, IfSome, pos};
-ghost use Rattle.shred_world.specs.Id.{id_of};
+ghost use Rattle.shred_table.specs.Id.{id_of};
 ghost use Rattle.shred_stage.specs.declared.system.RunningTime.TheVariants.{Average};
 ghost use Rattle.shredexample.specs.declared.Value.TheVariants.{Count};
 

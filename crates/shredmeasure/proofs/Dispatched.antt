@@ -10,9 +10,9 @@ use Rattle.shred_model.specs.Plan.{PlanEntry, Plan}
 use Rattle.shred_model.specs.Record.{Agent}
 use Rattle.shred_model.specs.Replay.{Configuration}
 use Rattle.shred_model.proofs.Records.Membership.{is_contained, is_declared}
-use Rattle.shred_world.specs.declared.id.ResourceId.{ResourceId}
+use Rattle.shred_table.specs.declared.id.ResourceId.{ResourceId}
 use Rattle.shred_world.specs.declared.world.view.DataError.{DataError}
-use Rattle.shred_world.proofs.Tables.Ids.{tell_ids}
+use Rattle.shred_table.proofs.Tables.Ids.{tell_ids}
 use Rattle.shred.specs.declared.dispatch.dispatcher.DispatchError.{DispatchError}
 use Rattle.shred_stage.specs.Placement.{IsPlaced}
 use Rattle.shred.specs.PlanRuns.{PlanRun}

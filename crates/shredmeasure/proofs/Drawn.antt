@@ -1,7 +1,7 @@
 -- One more system that is drawn, and one more plan.
 use Rattle.std.proofs.Common.{◌≡◌, ℕ, suc, ◌+◌, ◌%◌, ◌^◌, List, [], length, subst, arith}
 use Rattle.shred_model.specs.Plan.{PlanEntry, Plan}
-use Rattle.shred_world.specs.declared.id.ResourceId.{ResourceId}
+use Rattle.shred_table.specs.declared.id.ResourceId.{ResourceId}
 use Rattle.shred_stage.specs.declared.system.RunningTime.TheVariants.{Average}
 use Rattle.shred_stage.specs.Kept.{IsKept}
 use Rattle.shred_stage.specs.Placement.{IsPlaced}

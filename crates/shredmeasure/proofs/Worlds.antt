@@ -4,8 +4,8 @@ use Rattle.std.specs.Prelude.{FitsSigned}
 use Rattle.std.specs.Int.{w64, int_wrap, int_wrapping_add}
 use Rattle.std.proofs.lemmas.Bool.Decides.{nat_tests}
 use Rattle.std.proofs.lemmas.Int.{SFits-int_wrap, int_wrap-add_left, int_wrap-add_right, int_wrap-add_same, of_z-to_z, wrapping_add_is}
-use Rattle.shred_world.specs.declared.id.ResourceId.{ResourceId}
-use Rattle.shred_world.specs.Slots.{with_at}
+use Rattle.shred_table.specs.declared.id.ResourceId.{ResourceId}
+use Rattle.shred_table.specs.Slots.{with_at}
 use Rattle.shred_world.specs.Worked.{Held}
 use Rattle.shredexample.specs.declared.Value.{Value}
 use Rattle.shredmeasure.specs.Counts.{count_id, count_value, number_of, sum_to, zeros_to}

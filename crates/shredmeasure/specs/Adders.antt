@@ -2,7 +2,7 @@
 use Rattle.std.specs.Prelude.{◌≡◌, ℕ, ◌+◌, ◌==◌, ◌&&◌, nat_lt, nat_le, cond, List, [], ◌∷◌}
 use Rattle.std.specs.List.{AllZip}
 use Rattle.shred_model.specs.Plan.{Plan}
-use Rattle.shred_world.specs.declared.id.ResourceId.{ResourceId}
+use Rattle.shred_table.specs.declared.id.ResourceId.{ResourceId}
 use Rattle.shredexample.specs.Entries.{entries_of_plan}
 use Rattle.shredmeasure.specs.Counts.{count_id}
 

@@ -1,7 +1,7 @@
 -- Systems of random accesses, and the plans of them.
 use Rattle.std.specs.Prelude.{◌≡◌, ℕ, zero, suc, ◌+◌, ◌*◌, ◌/◌, ◌%◌, ◌^◌, ◌==◌, Bool, cond, List, [], ◌∷◌, ◌++◌, length}
 use Rattle.shred_model.specs.Plan.{PlanEntry, Plan}
-use Rattle.shred_world.specs.declared.id.ResourceId.{ResourceId}
+use Rattle.shred_table.specs.declared.id.ResourceId.{ResourceId}
 use Rattle.shred_stage.specs.declared.system.RunningTime.TheVariants.{Average}
 use Rattle.shred_stage.specs.Kept.{IsKept}
 use Rattle.shred_stage.specs.Placement.{IsPlaced}

@@ -1,6 +1,6 @@
 //! The system that is dispatched.
 ghost use Rattle.std.specs.Prelude.{◌≡◌, [], ◌∷◌, Ok, IfOk};
-ghost use Rattle.shred_world.specs.Id.{id_of};
+ghost use Rattle.shred_table.specs.Id.{id_of};
 ghost use Rattle.shred_stage.specs.declared.system.RunningTime.TheVariants.{Average};
 ghost use Rattle.shredmeasure.specs.Adds.{adds_one};
 

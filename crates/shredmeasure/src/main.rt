@@ -9,7 +9,7 @@
 ghost use Rattle.std.specs.Prelude.{◌≡◌, ℕ, ◌*◌, length, IfOk, pos};
 ghost use Rattle.std.specs.Int.{w64, int_wrap};
 ghost use Rattle.shred_model.specs.Plan.{Plan};
-ghost use Rattle.shred_world.specs.declared.id.ResourceId.{ResourceId};
+ghost use Rattle.shred_table.specs.declared.id.ResourceId.{ResourceId};
 ghost use Rattle.shred_world.specs.Worlds.{world_held};
 ghost use Rattle.shred.specs.Dispatchers.{dispatcher_plan};
 ghost use Rattle.shredmeasure.specs.Adders.{HasOneForEach};

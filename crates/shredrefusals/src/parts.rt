@@ -1,6 +1,6 @@
 //! A view that is parted.
 ghost use Rattle.std.specs.Prelude.{◌≡◌, false};
-ghost use Rattle.shred_world.specs.Id.{id_of, same_id};
+ghost use Rattle.shred_table.specs.Id.{id_of, same_id};
 ghost use Rattle.shredtest.specs.Values.{count_kind};
 
 use crate::Ended;

@@ -3,12 +3,12 @@ use Rattle.std.proofs.Common.{◌≡◌, ℕ, ◌+◌, ◌<◌, Bool, true, fals
 use Rattle.std.specs.List.{AllByRecursion}
 use Rattle.std.proofs.lemmas.List.{at_drop_more}
 use Rattle.std.proofs.lemmas.List.Elements.{All-from_recursion}
-use Rattle.shred_world.specs.declared.id.ResourceId.{ResourceId}
+use Rattle.shred_table.specs.declared.id.ResourceId.{ResourceId}
 use Rattle.shred_world.specs.declared.world.view.View.{View}
-use Rattle.shred_world.specs.Id.{same_id}
-use Rattle.shred_world.specs.Slots.{among}
+use Rattle.shred_table.specs.Id.{same_id}
+use Rattle.shred_table.specs.Slots.{among}
 use Rattle.shred_world.specs.Views.{may_write}
-use Rattle.shred_world.proofs.Tables.Slots.{same_id-refl}
+use Rattle.shred_table.proofs.Tables.Slots.{same_id-refl}
 use Rattle.shredscript.specs.declared.step.Step.{Step}
 use Rattle.shredscript.specs.declared.step.Step.TheVariants.{Change, Read, Write, Refuse}
 use Rattle.shredscript.specs.declared.value.Value.{Value}

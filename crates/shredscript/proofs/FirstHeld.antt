@@ -3,9 +3,9 @@ use Rattle.std.proofs.Common.{◌≡◌, ℕ, zero, suc, ℤ, ◌+◌, ◌==◌,
 use Rattle.std.proofs.lemmas.Bool.Decides.{nat_tests}
 use Rattle.std.specs.List.{slice_get}
 use Rattle.std.specs.Option.{option_map}
-use Rattle.shred_world.specs.declared.id.ResourceId.{ResourceId}
-use Rattle.shred_world.specs.Id.{same_id}
-use Rattle.shred_world.specs.Slots.{with_at}
+use Rattle.shred_table.specs.declared.id.ResourceId.{ResourceId}
+use Rattle.shred_table.specs.Id.{same_id}
+use Rattle.shred_table.specs.Slots.{with_at}
 use Rattle.shredscript.specs.Place.{id_at}
 use Rattle.shred_world.specs.Worked.{Held}
 use Rattle.shredscript.specs.declared.value.Value.{Value}

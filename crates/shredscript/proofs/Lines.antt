@@ -1,6 +1,6 @@
 -- Lines that are taken one after another.
 use Rattle.std.proofs.Common.{◌≡◌, ℕ, List, [], ◌∷◌, ◌++◌, refl, sym, ◌∙◌, ap, subst, append_assoc}
-use Rattle.shred_world.specs.declared.id.ResourceId.{ResourceId}
+use Rattle.shred_table.specs.declared.id.ResourceId.{ResourceId}
 use Rattle.shred.specs.Built.{Built, IsAddition, IsNewBuilt, MayAdd}
 use Rattle.shredscript.specs.declared.script.PlanLine.{PlanLine}
 use Rattle.shredscript.specs.declared.script.SystemLine.{SystemLine}

@@ -4,12 +4,12 @@ use Rattle.std.proofs.Math.Path.{fun_ext}
 use Rattle.std.specs.Prelude.{ℕ, Option, IsSome, is_some}
 use Rattle.std.specs.Option.{option_map}
 use Rattle.shredscript.specs.Frame.{ChangesWritten}
-use Rattle.shred_world.specs.declared.id.ResourceId.{ResourceId}
+use Rattle.shred_table.specs.declared.id.ResourceId.{ResourceId}
 use Rattle.shred_world.specs.declared.world.view.View.{View}
-use Rattle.shred_world.specs.Id.{same_id}
-use Rattle.shred_world.specs.Slots.{among, with_at}
+use Rattle.shred_table.specs.Id.{same_id}
+use Rattle.shred_table.specs.Slots.{among, with_at}
 use Rattle.shred_world.specs.Views.{may_read, may_write, view_held, IsSameView}
-use Rattle.shred_world.proofs.Tables.Slots.{same_id-true}
+use Rattle.shred_table.proofs.Tables.Slots.{same_id-true}
 use Rattle.shredscript.specs.declared.value.Value.{Value}
 use Rattle.shredscript.specs.Place.{id_at, number_at, seen_through}
 use Rattle.shredscript.specs.Value.{kind_of}

@@ -1,7 +1,7 @@
 -- What the steps of a system declare.
 use Rattle.std.specs.Prelude.{ℕ, Option, Some, None, List, [], ◌∷◌, ◌++◌, IsTrue, IfSome}
 use Rattle.std.specs.Option.{option_map, option_to_list}
-use Rattle.shred_world.specs.declared.id.ResourceId.{ResourceId}
+use Rattle.shred_table.specs.declared.id.ResourceId.{ResourceId}
 use Rattle.shred_world.specs.declared.world.view.View.{View}
 use Rattle.shred_world.specs.Views.{may_write}
 use Rattle.shredscript.specs.declared.step.Operand.{Operand}

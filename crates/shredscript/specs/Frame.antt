@@ -1,5 +1,5 @@
 use Rattle.std.specs.Prelude.{◌≡◌, false, is_some}
-use Rattle.shred_world.specs.declared.id.ResourceId.{ResourceId}
+use Rattle.shred_table.specs.declared.id.ResourceId.{ResourceId}
 use Rattle.shred_world.specs.declared.world.view.View.{View}
 use Rattle.shred_world.specs.Views.{view_held, may_write, IsSameView}
 use Rattle.shredscript.specs.declared.value.Value.{Value}

@@ -1,9 +1,9 @@
 -- Resources by their places among the declared ones.
 use Rattle.std.specs.Prelude.{ℕ, ℤ, Option}
 use Rattle.std.specs.Option.{option_map}
-use Rattle.shred_world.specs.declared.id.ResourceId.{ResourceId}
+use Rattle.shred_table.specs.declared.id.ResourceId.{ResourceId}
 use Rattle.shred_world.specs.declared.world.view.View.{View}
-use Rattle.shred_world.specs.Id.{id_of}
+use Rattle.shred_table.specs.Id.{id_of}
 use Rattle.shred_world.specs.Views.{declared_held}
 use Rattle.shred_world.specs.Worked.{Held}
 use Rattle.shredscript.specs.declared.value.Value.{Value}

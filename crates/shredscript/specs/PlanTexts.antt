@@ -1,7 +1,7 @@
 -- What is printed of a plan.
 use Rattle.std.specs.Prelude.{◌≡◌, ℕ, Bool, true, false, None, Some, List, [], ◌++◌}
 use Rattle.shred_model.specs.Plan.{Plan, plan_ids}
-use Rattle.shred_world.specs.declared.id.ResourceId.{ResourceId}
+use Rattle.shred_table.specs.declared.id.ResourceId.{ResourceId}
 use Rattle.shred_stage.specs.Names.{NamedId, first_unnamed}
 use Rattle.shred_stage.specs.Printed.{line_feed, plan_text}
 use Rattle.shred_stage.specs.StagePlan.{widest}

@@ -8,7 +8,7 @@ use Rattle.shred_model.specs.Record.{Agent}
 use Rattle.shred_model.specs.Replay.{Configuration}
 use Rattle.shred_model.specs.Runs.{Answer}
 use Rattle.shred_model.specs.States.{configuration_of}
-use Rattle.shred_world.specs.declared.id.ResourceId.{ResourceId}
+use Rattle.shred_table.specs.declared.id.ResourceId.{ResourceId}
 use Rattle.shred_world.specs.Worked.{Held}
 use Rattle.shred.specs.Built.{Built}
 use Rattle.shred_stage.specs.Names.{AreNames, NamedId, first_unnamed}

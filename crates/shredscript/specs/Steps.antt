@@ -5,7 +5,7 @@ use Rattle.shred_world.specs.Worked.{Held}
 use Rattle.shred_stage.specs.declared.system.Fault.{Fault}
 use Rattle.shred_stage.specs.declared.system.Fault.TheVariants.{Refused}
 use Rattle.shred_stage.specs.Steps.{Outcome}
-use Rattle.shred_world.specs.Slots.{with_at}
+use Rattle.shred_table.specs.Slots.{with_at}
 use Rattle.shredscript.specs.declared.outcome.Refusal.{Refusal}
 use Rattle.shredscript.specs.declared.outcome.Refusal.TheVariants.{Code}
 use Rattle.shredscript.specs.declared.step.Step.{Step}

@@ -1,4 +1,4 @@
-use Rattle.shred_world.specs.declared.id.Kind.{Kind}
+use Rattle.shred_table.specs.declared.id.Kind.{Kind}
 use Rattle.shredscript.specs.declared.value.Value.{Value}
 
 -- every value is of the one kind

@@ -2,7 +2,7 @@
 ghost use Rattle.std.specs.Prelude.{◌≡◌, OnOk, IfOk, IfErr};
 ghost use Rattle.std.specs.Io.KnownBytes.{Appends};
 ghost use Rattle.indexmap.specs.IndexMap.{values};
-ghost use Rattle.shred_world.specs.declared.id.ResourceId.{ResourceId};
+ghost use Rattle.shred_table.specs.declared.id.ResourceId.{ResourceId};
 ghost use Rattle.shred_world.specs.Worlds.{world_held};
 ghost use Rattle.shred_model.specs.Record.{Agent};
 ghost use Rattle.shred_model.specs.States.{configuration_of};

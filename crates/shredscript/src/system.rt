@@ -3,8 +3,8 @@ ghost use Rattle.std.specs.Prelude.{◌≡◌, false, true, Ok, Some, IfOk, IsSo
 ghost use Rattle.std.specs.List.{All};
 ghost use Rattle.std.specs.Option.{ok_or};
 ghost use Rattle.shred_stage.specs.declared.system.Fault.TheVariants.{Refused};
-ghost use Rattle.shred_world.specs.declared.id.ResourceId.{ResourceId};
-ghost use Rattle.shred_world.specs.Slots.{with_at};
+ghost use Rattle.shred_table.specs.declared.id.ResourceId.{ResourceId};
+ghost use Rattle.shred_table.specs.Slots.{with_at};
 ghost use Rattle.shred_world.specs.Views.{is_out, may_write};
 ghost use Rattle.shredscript.specs.declared.outcome.Refusal.TheVariants.{Undeclared};
 ghost use Rattle.shredscript.specs.Change.{changed, operand_number};

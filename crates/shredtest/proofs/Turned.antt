@@ -1,6 +1,6 @@
 -- Rings of ids that turn.
 use Rattle.std.proofs.Common.{◌≡◌, List, [], ◌∷◌, length}
-use Rattle.shred_world.specs.Parts.{Pair}
+use Rattle.shred_table.specs.Parts.{Pair}
 use Rattle.shredtest.specs.declared.adding.Adding.{Adding}
 use Rattle.shredtest.specs.declared.values.Value.{Value}
 use Rattle.shredtest.specs.Adding.{HasSameIds, HasTurned, HasTurnedOften}

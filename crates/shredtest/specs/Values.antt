@@ -1,5 +1,5 @@
 -- The kinds of the tests' values.
-use Rattle.shred_world.specs.declared.id.Kind.{Kind}
+use Rattle.shred_table.specs.declared.id.Kind.{Kind}
 use Rattle.shredtest.specs.declared.values.Value.{Value}
 use Rattle.shredtest.specs.declared.values.Value.TheVariants.{Count, Name, Flag}
 

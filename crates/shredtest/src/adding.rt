@@ -1,6 +1,6 @@
 //! Counts that are added to over the parts of a view.
 ghost use Rattle.std.specs.Prelude.{◌≡◌, false, is_some};
-ghost use Rattle.shred_world.specs.declared.id.ResourceId.{ResourceId};
+ghost use Rattle.shred_table.specs.declared.id.ResourceId.{ResourceId};
 ghost use Rattle.shred_world.specs.Views.{view_held, may_write, IsSameView};
 ghost use Rattle.shredtest.specs.Adding.{HasTurned};
 ghost use Rattle.shredtest.specs.Values.{kind_of};

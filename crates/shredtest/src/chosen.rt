@@ -2,7 +2,7 @@
 ghost use Rattle.std.specs.Prelude.{[], ◌∷◌, true, false, cond};
 ghost use Rattle.shred_world.specs.Bundles.{NoSetup};
 ghost use Rattle.shred_world.specs.BundleParts.{moved_if_written};
-ghost use Rattle.shred_world.specs.Id.{id_of};
+ghost use Rattle.shred_table.specs.Id.{id_of};
 ghost use Rattle.shredtest.specs.Chosen.{shown_chosen};
 ghost use Rattle.shredtest.specs.Values.{count_kind};
 ghost use Rattle.shredtest.specs.declared.values.Value.TheVariants.{Count as counted};

@@ -1,9 +1,9 @@
 //! Bundles that are taken on a world and given back, whose whole effect their caller can say.
 ghost use Rattle.std.specs.Prelude.{◌≡◌, Some, OnOk, OnErr};
-ghost use Rattle.shred_world.specs.Id.{id_of};
-ghost use Rattle.shred_world.specs.Slots.{with_at};
+ghost use Rattle.shred_table.specs.Id.{id_of};
+ghost use Rattle.shred_table.specs.Slots.{with_at};
 ghost use Rattle.shred_world.specs.Worlds.{world_held};
-ghost use Rattle.shred_world.specs.declared.id.ResourceId.{ResourceId};
+ghost use Rattle.shred_table.specs.declared.id.ResourceId.{ResourceId};
 ghost use Rattle.shredtest.specs.Values.{kind_of, count_kind};
 ghost use Rattle.shredtest.specs.declared.values.Value.TheVariants.{Count as counted};
 

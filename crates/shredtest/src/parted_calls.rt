@@ -1,10 +1,10 @@
 //! Work over the parts of a view.
 ghost use Rattle.std.specs.Prelude.{◌≡◌, ◌||◌, IsTrue, false, is_some, length, OnOk, OnErr, ⊤};
 ghost use Rattle.std.specs.List.{All};
-ghost use Rattle.shred_world.specs.Parts.{DoNotConflict, reads_of, writes_of};
-ghost use Rattle.shred_world.specs.Slots.{among};
-ghost use Rattle.shred_world.specs.declared.id.ResourceId.{ResourceId};
-ghost use Rattle.shred_world.specs.Id.{same_id};
+ghost use Rattle.shred_table.specs.Parts.{DoNotConflict, reads_of, writes_of};
+ghost use Rattle.shred_table.specs.Slots.{among};
+ghost use Rattle.shred_table.specs.declared.id.ResourceId.{ResourceId};
+ghost use Rattle.shred_table.specs.Id.{same_id};
 ghost use Rattle.shred_world.specs.Views.{may_read, may_write, is_out, table_of, view_held, IsSameView};
 ghost use Rattle.shredtest.specs.Adding.{HasTurnedOften};
 ghost use Rattle.shredtest.specs.Values.{kind_of};

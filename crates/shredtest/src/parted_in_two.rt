@@ -2,10 +2,10 @@
 ghost use Rattle.std.specs.Prelude.{◌≡◌, IsTrue, false, length};
 ghost use Rattle.std.specs.List.{All, AllZip};
 ghost use Rattle.shred_world.specs.Beside.{pairs_behind, pair_behind, lent_behind};
-ghost use Rattle.shred_world.specs.Parts.{DoNotConflict, HasNothingOut, HoldsSameIds, IsHandOf, reads_of, writes_of};
-ghost use Rattle.shred_world.specs.Shown.{IsSameSlots};
-ghost use Rattle.shred_world.specs.Slots.{among};
-ghost use Rattle.shred_world.specs.declared.id.ResourceId.{ResourceId};
+ghost use Rattle.shred_table.specs.Parts.{DoNotConflict, HasNothingOut, HoldsSameIds, IsHandOf, reads_of, writes_of};
+ghost use Rattle.shred_table.specs.Shown.{IsSameSlots};
+ghost use Rattle.shred_table.specs.Slots.{among};
+ghost use Rattle.shred_table.specs.declared.id.ResourceId.{ResourceId};
 ghost use Rattle.shred_world.specs.Views.{may_read, may_write, is_out, view_held, IsSameView};
 ghost use Rattle.shred_world.specs.Worked.{KeepsHeldIds};
 ghost use Rattle.shredtest.specs.Values.{kind_of};

@@ -1,6 +1,6 @@
 //! Views that are parted, worked over and joined.
 ghost use Rattle.std.specs.Prelude.{◌≡◌};
-ghost use Rattle.shred_world.specs.Id.{id_of};
+ghost use Rattle.shred_table.specs.Id.{id_of};
 ghost use Rattle.shredtest.specs.Values.{count_kind};
 
 use crate::adding::Adding;

@@ -2,9 +2,9 @@
 ghost use Rattle.std.specs.Prelude.{◌≡◌, ◌<◌, ℕ, length};
 ghost use Rattle.std.specs.Thread.{IsSync};
 ghost use Rattle.shred_world.specs.Beside.{pairs_behind, pair_behind, lent_behind};
-ghost use Rattle.shred_world.specs.Id.{id_of};
-ghost use Rattle.shred_world.specs.Parts.{HasNothingOut, HoldsSameIds, IsHandOf};
-ghost use Rattle.shred_world.specs.Shown.{IsSameSlots};
+ghost use Rattle.shred_table.specs.Id.{id_of};
+ghost use Rattle.shred_table.specs.Parts.{HasNothingOut, HoldsSameIds, IsHandOf};
+ghost use Rattle.shred_table.specs.Shown.{IsSameSlots};
 ghost use Rattle.shredtest.specs.Values.{kind_of, count_kind};
 
 use crate::adding::add;

@@ -1,6 +1,6 @@
 //! Three kinds of resources, for the tests.
 ghost use Rattle.std.specs.Prelude.{◌≡◌, MatchOption, MatchResult};
-ghost use Rattle.shred_world.specs.declared.id.Kind.{Kind};
+ghost use Rattle.shred_table.specs.declared.id.Kind.{Kind};
 ghost use Rattle.shredtest.specs.Values.{kind_of, count_kind, name_kind, flag_kind};
 ghost use Rattle.shredtest.specs.declared.values.Value.{Value};
 ghost use Rattle.shredtest.specs.declared.values.Value.TheVariants.{Count, Name, Flag};

@@ -1,9 +1,9 @@
 //! Calls of a world, whose whole effect their caller can say.
 ghost use Rattle.std.specs.Prelude.{◌≡◌, ◌≢◌, None, Some, Err, OnOk, OnErr, IfErr};
-ghost use Rattle.shred_world.specs.Id.{id_of, id_kind};
-ghost use Rattle.shred_world.specs.Slots.{with_at};
+ghost use Rattle.shred_table.specs.Id.{id_of, id_kind};
+ghost use Rattle.shred_table.specs.Slots.{with_at};
 ghost use Rattle.shred_world.specs.Worlds.{world_held, IsProvided};
-ghost use Rattle.shred_world.specs.declared.id.ResourceId.{ResourceId};
+ghost use Rattle.shred_table.specs.declared.id.ResourceId.{ResourceId};
 ghost use Rattle.shred_world.specs.declared.world.WorldError.TheVariants.{Missing, OutOfMemory, WrongKind};
 ghost use Rattle.shredtest.specs.Values.{kind_of, count_kind};
 ghost use Rattle.shredtest.specs.declared.values.Value.TheVariants.{Count as counted};

@@ -1,6 +1,6 @@
 -- Views that stay the same.
 use Rattle.std.proofs.Common.{◌≡◌, ◌∙◌}
-use Rattle.shred_world.specs.declared.id.Kind.{Kind}
+use Rattle.shred_table.specs.declared.id.Kind.{Kind}
 use Rattle.shred_world.specs.declared.world.view.View.{View}
 use Rattle.shred_world.specs.Grants.{grant_of}
 use Rattle.shred_world.specs.Views.{IsSameLoan, IsSameView}

@@ -1,6 +1,6 @@
 //! The same plans, dispatched on the caller's thread and on threads.
 ghost use Rattle.std.specs.Prelude.{◌≡◌, [], ◌∷◌, IfOk};
-ghost use Rattle.shred_world.specs.Id.{id_of};
+ghost use Rattle.shred_table.specs.Id.{id_of};
 ghost use Rattle.shredtest.specs.Values.{count_kind};
 
 use crate::calls::{dispatched, dispatcher_of, executed, inserted};

@@ -1,6 +1,6 @@
 //! A system that is only planned, made of what it declares.
 ghost use Rattle.std.specs.Prelude.{◌≡◌, IfOk};
-ghost use Rattle.shred_world.specs.Accessors.{batch_reads, batch_writes};
+ghost use Rattle.shred_table.specs.Accessors.{batch_reads, batch_writes};
 
 use shred::{
     BatchAccessor, Fault, Kind, OutOfMemory, ResourceId, RunningTime, System, View, World,

@@ -1,7 +1,7 @@
 //! What a system only reads goes out in bundles any number of times, also where another system of its group writes it.
 ghost use Rattle.std.specs.Prelude.{◌≡◌, false, is_some};
 ghost use Rattle.shred_world.specs.Views.{may_write, table_of, view_held, IsSameView};
-ghost use Rattle.shred_world.specs.declared.id.ResourceId.{ResourceId};
+ghost use Rattle.shred_table.specs.declared.id.ResourceId.{ResourceId};
 ghost use Rattle.shredtest.specs.Values.{kind_of};
 
 use crate::calls::{dispatched, dispatcher_of};

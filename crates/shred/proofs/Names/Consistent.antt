@@ -8,7 +8,7 @@ use Rattle.shred_stage.specs.Added.{IsNewAt}
 use Rattle.shred.specs.Built.{Built, IsConsistent}
 use Rattle.shred_stage.specs.Earlier.{HasIdAt}
 use Rattle.shred_stage.specs.Known.{Known, with_name}
-use Rattle.shred_world.specs.declared.id.ResourceId.{ResourceId}
+use Rattle.shred_table.specs.declared.id.ResourceId.{ResourceId}
 
 path-cases : (path place : List ℕ) → (path ≡ place) ⊎ (path ≢ place)
 path-cases path place = told (bytes_eq path place) refl where

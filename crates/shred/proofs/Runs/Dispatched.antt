@@ -6,9 +6,9 @@ use Rattle.shred_model.specs.Runs.{Answer, Ran}
 use Rattle.shred_model.specs.States.{configuration_of}
 use Rattle.shred_model.proofs.Orders.Serializable.{Ran-as_one_thread}
 use Rattle.shred_model.proofs.Records.Framed.{AllFramed, RunsUpToFault-framed}
-use Rattle.shred_world.specs.declared.id.Kind.{Kind}
-use Rattle.shred_world.specs.declared.id.ResourceId.{ResourceId}
-use Rattle.shred_world.proofs.Tables.Ids.{tell_ids}
+use Rattle.shred_table.specs.declared.id.Kind.{Kind}
+use Rattle.shred_table.specs.declared.id.ResourceId.{ResourceId}
+use Rattle.shred_table.proofs.Tables.Ids.{tell_ids}
 use Rattle.shred_stage.specs.Dispatched.{Dispatched, Situation}
 use Rattle.shred_stage.specs.Steps.{Step, Written}
 use Rattle.shred_stage.proofs.Runs.FramedRuns.{turn_framed}

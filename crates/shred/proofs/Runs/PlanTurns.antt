@@ -6,8 +6,8 @@ use Rattle.shred_model.specs.Record.{Agent}
 use Rattle.shred_model.specs.Replay.{Configuration}
 use Rattle.shred_model.specs.Runs.{Answer, Ran}
 use Rattle.shred_model.proofs.Joined.Ran.{Ran-as, Ran-of_one_thread}
-use Rattle.shred_world.specs.declared.id.Kind.{Kind}
-use Rattle.shred_world.specs.declared.id.ResourceId.{ResourceId}
+use Rattle.shred_table.specs.declared.id.Kind.{Kind}
+use Rattle.shred_table.specs.declared.id.ResourceId.{ResourceId}
 use Rattle.shred.specs.declared.dispatch.dispatcher.DispatchError.{DispatchError}
 use Rattle.shred_stage.specs.declared.dispatch.run.StageFault.{StageFault}
 use Rattle.shred_stage.specs.Plans.{StageTurn}

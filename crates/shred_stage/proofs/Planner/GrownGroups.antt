@@ -3,7 +3,7 @@ use Rattle.std.proofs.Common.{◌≡◌, [], ◌∷◌, ◌++◌, map, sym, ◌�
 use Rattle.std.specs.List.{flat_map}
 use Rattle.std.proofs.lemmas.List.{flat_map_more, map_push}
 use Rattle.shred_model.specs.Plan as model
-use Rattle.shred_world.specs.declared.id.ResourceId.{ResourceId}
+use Rattle.shred_table.specs.declared.id.ResourceId.{ResourceId}
 use Rattle.shred_stage.specs.Hands.{KeepsRoom, HasEmptyHand}
 use Rattle.shred_stage.specs.PlanOf.{entry_plan, group_plan}
 use Rattle.shred_stage.specs.declared.dispatch.entry.SystemEntry.{SystemEntry}

@@ -3,9 +3,9 @@ use Rattle.std.proofs.Common.{◌≡◌, ◌↔◌, ◌∙◌, Bool, true, false
 use Rattle.std.specs.List.{All}
 use Rattle.std.specs.Result.{OnOk, OnErr}
 use Rattle.std.proofs.lemmas.List.Elements.{All-nil, All-cons, All-push}
-use Rattle.shred_world.specs.declared.id.ResourceId.{ResourceId}
-use Rattle.shred_world.specs.Slots.{among}
-use Rattle.shred_world.proofs.Tables.Ids.{among-true, among-contains, among-false}
+use Rattle.shred_table.specs.declared.id.ResourceId.{ResourceId}
+use Rattle.shred_table.specs.Slots.{among}
+use Rattle.shred_table.proofs.Tables.Ids.{among-true, among-contains, among-false}
 use Rattle.shred_stage.specs.Kept.{AreOwnLists}
 use Rattle.shred_stage.specs.OwnLists.{IsOwnEntry, IsOwnGroup}
 use Rattle.shred_stage.specs.declared.dispatch.entry.SystemEntry.{SystemEntry}

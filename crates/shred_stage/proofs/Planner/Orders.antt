@@ -7,8 +7,8 @@ use Rattle.std.specs.List.{AllPairs, Any, Contains}
 use Rattle.std.specs.List.Sorted.{IsStrictlySortedBy}
 use Rattle.std.proofs.lemmas.List.Elements.{All-from_recursion, All-weaker}
 use Rattle.std.proofs.lemmas.List.Kept.{AllPairs-cons}
-use Rattle.shred_world.specs.Id.{IsBefore, same_id}
-use Rattle.shred_world.specs.declared.id.ResourceId.{ResourceId}
+use Rattle.shred_table.specs.Id.{IsBefore, same_id}
+use Rattle.shred_table.specs.declared.id.ResourceId.{ResourceId}
 use Rattle.shred_stage.proofs.Planner.Ids.{same_id-Agrees}
 
 pub AllPairs-from_sorted : {X : Type 0} (cmp : X → X → Ordering) (R : X → X → Type 0) → ((a b : X) → cmp a b ≡ Less → R a b) → (xs : List X) → IsStrictlySortedBy cmp xs → AllPairs R xs

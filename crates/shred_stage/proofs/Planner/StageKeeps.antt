@@ -5,7 +5,7 @@ use Rattle.std.specs.Result.{OnOk, OnErr}
 use Rattle.std.proofs.lemmas.List.{map-set, map_push, set-get_or, length_push}
 use Rattle.std.proofs.lemmas.List.Elements.{All-nil, All-cons, All-push, All-set}
 use Rattle.std.proofs.lemmas.Option.{slice_get-get_or}
-use Rattle.shred_world.specs.declared.id.ResourceId.{ResourceId}
+use Rattle.shred_table.specs.declared.id.ResourceId.{ResourceId}
 use Rattle.shred_model.specs.Access.{Conflicts}
 use Rattle.shred_model.specs.Beside.{AreApart}
 use Rattle.shred_model.specs.Plan as model

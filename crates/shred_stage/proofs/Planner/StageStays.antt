@@ -3,7 +3,7 @@ use Rattle.std.proofs.Common.{◌≡◌, zero, suc, List, [], ◌∷◌, length,
 use Rattle.std.specs.List.{All}
 use Rattle.std.proofs.lemmas.List.{length-map}
 use Rattle.shred_model.specs.Plan as model
-use Rattle.shred_world.specs.declared.id.ResourceId.{ResourceId}
+use Rattle.shred_table.specs.declared.id.ResourceId.{ResourceId}
 use Rattle.shred_stage.specs.Hands.{KeepsRoom}
 use Rattle.shred_stage.specs.OwnLists.{IsOwnGroup}
 use Rattle.shred_stage.specs.PlanOf.{group_plan, group_numbers, groups_plan, HasEntryIds}

@@ -3,10 +3,10 @@ use Rattle.std.proofs.Common.{List}
 use Rattle.shred_model.specs.Runs.{Answer}
 use Rattle.shred_model.specs.States.{listed_states}
 use Rattle.shred_model.proofs.Orders.Serializable.{Ran-as_one_thread}
-use Rattle.shred_world.specs.declared.id.Kind.{Kind}
-use Rattle.shred_world.specs.declared.id.ResourceId.{ResourceId}
+use Rattle.shred_table.specs.declared.id.Kind.{Kind}
+use Rattle.shred_table.specs.declared.id.ResourceId.{ResourceId}
 use Rattle.shred_world.specs.Worked.{Held}
-use Rattle.shred_world.proofs.Tables.Ids.{tell_ids}
+use Rattle.shred_table.proofs.Tables.Ids.{tell_ids}
 use Rattle.shred_stage.specs.declared.dispatch.entry.Group.{Group}
 use Rattle.shred_stage.specs.declared.dispatch.run.StageFault.{StageFault}
 use Rattle.shred_stage.specs.Dispatched.{Dispatched}

@@ -9,15 +9,15 @@ use Rattle.shred_model.specs.Access.{Conflicts}
 use Rattle.shred_model.specs.Beside.{AreApart}
 use Rattle.shred_model.specs.Plan as model
 use Rattle.shred_model.specs.Plan.{group_access}
-use Rattle.shred_world.specs.declared.id.Kind.{Kind}
-use Rattle.shred_world.specs.declared.id.ResourceId.{ResourceId}
-use Rattle.shred_world.specs.declared.table.Slot.{Slot}
-use Rattle.shred_world.specs.declared.table.Table.{Table}
-use Rattle.shred_world.specs.Parting.{emptied, given, slot_value}
-use Rattle.shred_world.specs.Shown.{shown, HasOwnSlots, IsSameSlots}
-use Rattle.shred_world.specs.Slots.{slot_at, slot_held, held, among, or_slot}
-use Rattle.shred_world.proofs.Tables.Ids.{among-true, among-contains}
-use Rattle.shred_world.proofs.Parted.Pairs.{zip-get}
+use Rattle.shred_table.specs.declared.id.Kind.{Kind}
+use Rattle.shred_table.specs.declared.id.ResourceId.{ResourceId}
+use Rattle.shred_table.specs.declared.table.Slot.{Slot}
+use Rattle.shred_table.specs.declared.table.Table.{Table}
+use Rattle.shred_table.specs.Parting.{emptied, given, slot_value}
+use Rattle.shred_table.specs.Shown.{shown, HasOwnSlots, IsSameSlots}
+use Rattle.shred_table.specs.Slots.{slot_at, slot_held, held, among, or_slot}
+use Rattle.shred_table.proofs.Tables.Ids.{among-true, among-contains}
+use Rattle.shred_table.proofs.Parted.Pairs.{zip-get}
 use Rattle.shred_stage.specs.Hands.{KeepsRoom, IsSameButHand, WriteApart, FitsGroup, IsBack, IsMovedOut, carried, is_single, HasPlace}
 use Rattle.shred_stage.specs.Lanes.{IsReady}
 use Rattle.shred_stage.specs.OwnLists.{IsOwnEntry, IsOwnGroup}

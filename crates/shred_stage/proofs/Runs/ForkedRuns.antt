@@ -15,14 +15,14 @@ use Rattle.shred_model.specs.States.{configuration_of, listed_states}
 use Rattle.shred_model.proofs.Joined.AllWent.{RanBeside-from_went}
 use Rattle.shred_model.proofs.Joined.BesideAsOne.{beside_as_one_thread}
 use Rattle.shred_model.proofs.Joined.Ran.{Ran-from_alike, Ran-to_alike, Ran-of_one_thread}
-use Rattle.shred_world.specs.declared.id.Kind.{Kind}
-use Rattle.shred_world.specs.declared.id.ResourceId.{ResourceId}
-use Rattle.shred_world.specs.declared.table.Table.{Table}
-use Rattle.shred_world.specs.Parting.{emptied}
-use Rattle.shred_world.specs.Shown.{shown}
-use Rattle.shred_world.specs.Slots.{slot_at, slot_held, held, among}
-use Rattle.shred_world.proofs.Tables.Ids.{tell_ids}
-use Rattle.shred_world.proofs.Parted.Pairs.{zip-length}
+use Rattle.shred_table.specs.declared.id.Kind.{Kind}
+use Rattle.shred_table.specs.declared.id.ResourceId.{ResourceId}
+use Rattle.shred_table.specs.declared.table.Table.{Table}
+use Rattle.shred_table.specs.Parting.{emptied}
+use Rattle.shred_table.specs.Shown.{shown}
+use Rattle.shred_table.specs.Slots.{slot_at, slot_held, held, among}
+use Rattle.shred_table.proofs.Tables.Ids.{tell_ids}
+use Rattle.shred_table.proofs.Parted.Pairs.{zip-length}
 use Rattle.shred_stage.specs.declared.dispatch.entry.SystemEntry.{SystemEntry}
 use Rattle.shred_stage.specs.declared.dispatch.entry.Group.{Group}
 use Rattle.shred_stage.specs.declared.dispatch.run.StageFault.{StageFault}

@@ -4,8 +4,8 @@ use Rattle.shred_model.specs.Plan as model
 use Rattle.shred_model.specs.Record.{IsFramed}
 use Rattle.shred_model.specs.Runs.{Answer}
 use Rattle.shred_model.proofs.Records.Framed.{AllFramed, AllByRecursion-same, RunsUpToFault-framed, RunsEach-framed}
-use Rattle.shred_world.specs.declared.id.Kind.{Kind}
-use Rattle.shred_world.specs.declared.id.ResourceId.{ResourceId}
+use Rattle.shred_table.specs.declared.id.Kind.{Kind}
+use Rattle.shred_table.specs.declared.id.ResourceId.{ResourceId}
 use Rattle.shred_stage.specs.declared.dispatch.run.StageFault.{StageFault}
 use Rattle.shred_stage.specs.Steps.{Step, Written}
 use Rattle.shred_stage.specs.Entries.{EntryRun, GroupRun, StageRun}

@@ -6,8 +6,8 @@ use Rattle.shred_model.specs.Plan as model
 use Rattle.shred_model.specs.Runs.{Answer}
 use Rattle.shred_model.proofs.Records.Framed.{AllByRecursion-same}
 use Rattle.shred_model.proofs.Records.Within.{IsWithin, RunsUpToFault-within}
-use Rattle.shred_world.specs.declared.id.Kind.{Kind}
-use Rattle.shred_world.specs.declared.id.ResourceId.{ResourceId}
+use Rattle.shred_table.specs.declared.id.Kind.{Kind}
+use Rattle.shred_table.specs.declared.id.ResourceId.{ResourceId}
 use Rattle.shred_stage.specs.declared.dispatch.run.StageFault.{StageFault}
 use Rattle.shred_stage.specs.Steps.{Step, Written}
 use Rattle.shred_stage.specs.Entries.{EntryRun, GroupRun}

@@ -2,13 +2,13 @@
 use Rattle.std.proofs.Common.{◌≡◌, Bool, true, false, Option, Some, None, cond, List, refl, ◌∙◌, ap}
 use Rattle.std.specs.Prelude.{is_some}
 use Rattle.std.specs.Option.{option_map}
-use Rattle.shred_world.specs.declared.id.Kind.{Kind}
-use Rattle.shred_world.specs.declared.id.ResourceId.{ResourceId}
-use Rattle.shred_world.specs.declared.table.Slot.{Slot}
-use Rattle.shred_world.specs.declared.table.Table.{Table}
-use Rattle.shred_world.specs.Parting.{emptied, given, slot_value, IsRoom}
-use Rattle.shred_world.specs.Shown.{IsSameSlots}
-use Rattle.shred_world.specs.Slots.{slot_at, slot_held, of_kind, among}
+use Rattle.shred_table.specs.declared.id.Kind.{Kind}
+use Rattle.shred_table.specs.declared.id.ResourceId.{ResourceId}
+use Rattle.shred_table.specs.declared.table.Slot.{Slot}
+use Rattle.shred_table.specs.declared.table.Table.{Table}
+use Rattle.shred_table.specs.Parting.{emptied, given, slot_value, IsRoom}
+use Rattle.shred_table.specs.Shown.{IsSameSlots}
+use Rattle.shred_table.specs.Slots.{slot_at, slot_held, of_kind, among}
 use Rattle.shred_stage.specs.Hands.{carried}
 
 -- room stays while no slot of the table comes or goes

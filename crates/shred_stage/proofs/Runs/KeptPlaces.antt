@@ -3,10 +3,10 @@ use Rattle.std.proofs.Common.{◌≡◌, ℕ, Bool, true, false, Option, Some, N
 use Rattle.std.specs.Prelude.{is_some}
 use Rattle.std.specs.List.{All}
 use Rattle.std.proofs.lemmas.List.Elements.{All-set, All-weaker}
-use Rattle.shred_world.specs.declared.table.Table.{Table}
-use Rattle.shred_world.specs.declared.table.Slot.{Slot}
-use Rattle.shred_world.specs.Shown.{IsSameSlots}
-use Rattle.shred_world.specs.Slots.{slot_at}
+use Rattle.shred_table.specs.declared.table.Table.{Table}
+use Rattle.shred_table.specs.declared.table.Slot.{Slot}
+use Rattle.shred_table.specs.Shown.{IsSameSlots}
+use Rattle.shred_table.specs.Slots.{slot_at}
 use Rattle.shred_stage.specs.declared.dispatch.entry.SystemEntry.{SystemEntry}
 use Rattle.shred_stage.specs.Hands.{HasPlace}
 use Rattle.shred_stage.proofs.Runs.HandSlots.{room-kept}

@@ -4,11 +4,11 @@ use Rattle.std.specs.Prelude.{is_some}
 use Rattle.std.specs.List.{All}
 use Rattle.std.proofs.lemmas.List.{length-map, get_or-map}
 use Rattle.shred_model.specs.Plan as model
-use Rattle.shred_world.specs.declared.id.ResourceId.{ResourceId}
-use Rattle.shred_world.specs.declared.table.Slot.{Slot}
-use Rattle.shred_world.specs.declared.table.Table.{Table}
-use Rattle.shred_world.specs.Shown.{Lent, HasOwnSlots, IsSameSlots}
-use Rattle.shred_world.specs.Slots.{slot_at}
+use Rattle.shred_table.specs.declared.id.ResourceId.{ResourceId}
+use Rattle.shred_table.specs.declared.table.Slot.{Slot}
+use Rattle.shred_table.specs.declared.table.Table.{Table}
+use Rattle.shred_table.specs.Shown.{Lent, HasOwnSlots, IsSameSlots}
+use Rattle.shred_table.specs.Slots.{slot_at}
 use Rattle.shred_stage.specs.OwnSlots.{HasGroupSlots}
 
 none_before : {V : Type 0} (old new : Option (Slot V)) → is_some new ≡ is_some old → new ≡ None → old ≡ None

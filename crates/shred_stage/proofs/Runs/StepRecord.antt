@@ -6,10 +6,10 @@ use Rattle.shred_model.specs.Runs.{Answer, Ran}
 use Rattle.shred_model.specs.Plan as model
 use Rattle.shred_model.specs.States.{own_state, configuration_of}
 use Rattle.shred_model.proofs.Joined.Ran.{Ran-one, Goes-alone}
-use Rattle.shred_world.specs.declared.id.Kind.{Kind}
-use Rattle.shred_world.specs.declared.id.ResourceId.{ResourceId}
-use Rattle.shred_world.specs.Slots.{among}
-use Rattle.shred_world.proofs.Tables.Ids.{among-contains, among-false}
+use Rattle.shred_table.specs.declared.id.Kind.{Kind}
+use Rattle.shred_table.specs.declared.id.ResourceId.{ResourceId}
+use Rattle.shred_table.specs.Slots.{among}
+use Rattle.shred_table.proofs.Tables.Ids.{among-contains, among-false}
 use Rattle.shred_world.specs.Worked.{Held}
 use Rattle.shred_stage.specs.declared.dispatch.run.StageFault.{StageFault}
 use Rattle.shred_stage.specs.Steps.{Outcome, Step, Written, IsStep, declared_of}

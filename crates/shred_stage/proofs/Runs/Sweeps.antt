@@ -4,11 +4,11 @@ use Rattle.std.specs.List.{All, AllByRecursion}
 use Rattle.std.proofs.lemmas.List.Folds.{list_any_at}
 use Rattle.std.proofs.lemmas.List.Elements.{All-from_recursion, All-head, All-tail}
 use Rattle.shred_model.proofs.Joined.Apart.{AllPairs-head, AllPairs-tail}
-use Rattle.shred_world.specs.declared.id.ResourceId.{ResourceId}
-use Rattle.shred_world.specs.declared.table.Slot.{Slot}
-use Rattle.shred_world.specs.Parting.{emptied, given, slot_value}
-use Rattle.shred_world.specs.Slots.{slot_at, among}
-use Rattle.shred_world.proofs.Parted.Pairs.{ZipTo}
+use Rattle.shred_table.specs.declared.id.ResourceId.{ResourceId}
+use Rattle.shred_table.specs.declared.table.Slot.{Slot}
+use Rattle.shred_table.specs.Parting.{emptied, given, slot_value}
+use Rattle.shred_table.specs.Slots.{slot_at, among}
+use Rattle.shred_table.proofs.Parted.Pairs.{ZipTo}
 use Rattle.shred_stage.specs.Hands.{WriteApart, carried, some_writes}
 use Rattle.shred_stage.specs.declared.dispatch.entry.Group.{Group}
 

@@ -5,11 +5,11 @@ use Rattle.shred_model.specs.Beside.{AreApart, AllWent}
 use Rattle.shred_model.specs.Plan.{group_access}
 use Rattle.shred_model.specs.Runs.{Answer}
 use Rattle.shred_model.proofs.Joined.Ran.{Ran-as}
-use Rattle.shred_world.specs.declared.id.Kind.{Kind}
-use Rattle.shred_world.specs.declared.id.ResourceId.{ResourceId}
-use Rattle.shred_world.specs.declared.table.Table.{Table}
-use Rattle.shred_world.specs.Parting.{emptied}
-use Rattle.shred_world.specs.Slots.{slot_at, held}
+use Rattle.shred_table.specs.declared.id.Kind.{Kind}
+use Rattle.shred_table.specs.declared.id.ResourceId.{ResourceId}
+use Rattle.shred_table.specs.declared.table.Table.{Table}
+use Rattle.shred_table.specs.Parting.{emptied}
+use Rattle.shred_table.specs.Slots.{slot_at, held}
 use Rattle.shred_stage.specs.declared.dispatch.entry.Group.{Group}
 use Rattle.shred_stage.specs.declared.dispatch.run.StageFault.{StageFault}
 use Rattle.shred_stage.specs.Entries.{StageRun}

@@ -1,13 +1,13 @@
 -- What a view over a table shows of the declared ids.
 use Rattle.std.proofs.Common.{◌≡◌, Bool, true, false, ◌&&◌, ◌||◌, Option, Some, None, cond, List, refl, sym, ◌∙◌, ap}
 use Rattle.std.specs.Prelude.{is_some}
-use Rattle.shred_world.specs.declared.id.Kind.{Kind}
-use Rattle.shred_world.specs.declared.id.ResourceId.{ResourceId}
-use Rattle.shred_world.specs.declared.table.Slot.{Slot}
-use Rattle.shred_world.specs.declared.table.Table.{Table}
+use Rattle.shred_table.specs.declared.id.Kind.{Kind}
+use Rattle.shred_table.specs.declared.id.ResourceId.{ResourceId}
+use Rattle.shred_table.specs.declared.table.Slot.{Slot}
+use Rattle.shred_table.specs.declared.table.Table.{Table}
 use Rattle.shred_world.specs.declared.world.view.View.{View}
-use Rattle.shred_world.specs.Shown.{Lent, shown, HasOwnSlots}
-use Rattle.shred_world.specs.Slots.{slot_at, slot_held, or_slot, among}
+use Rattle.shred_table.specs.Shown.{Lent, shown, HasOwnSlots}
+use Rattle.shred_table.specs.Slots.{slot_at, slot_held, or_slot, among}
 use Rattle.shred_world.specs.Views.{lent_slot, is_whole, is_own, may_read, view_held, declared_held}
 use Rattle.shred_stage.specs.OwnSlots.{HasJustSlots, HasOnlySlots}
 use Rattle.shred_stage.specs.Steps.{declared_of}

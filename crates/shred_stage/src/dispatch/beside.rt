@@ -2,7 +2,7 @@
 ghost use Rattle.std.specs.Prelude.{All};
 ghost use Rattle.shred_model.specs.Beside.{AllWent, AreApart};
 ghost use Rattle.shred_model.specs.Plan.{group_access};
-ghost use Rattle.shred_world.specs.Slots.{slot_at, held};
+ghost use Rattle.shred_table.specs.Slots.{slot_at, held};
 ghost use Rattle.shred_world.specs.Views.{lent_slot};
 ghost use Rattle.shred_stage.specs.Hands.{KeepsRoom};
 ghost use Rattle.shred_stage.specs.Lanes.{IsReady, GroupWent};

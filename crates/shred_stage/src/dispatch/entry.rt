@@ -1,8 +1,8 @@
 //! Entries of a plan, in groups that run in order.
 ghost use Rattle.std.specs.Prelude.{◌≡◌, ◌≤◌, ◌<◌, ℕ, List, [], ◌∷◌, ◌++◌, map, length, remove, IfOk, OnOk, OnErr, IfSome, IfNone};
 ghost use Rattle.shred_model.specs.Plan.{group_ids, group_time};
-ghost use Rattle.shred_world.specs.Id.{same_id};
-ghost use Rattle.shred_world.specs.Parting.{IsEmptyHand};
+ghost use Rattle.shred_table.specs.Id.{same_id};
+ghost use Rattle.shred_table.specs.Parting.{IsEmptyHand};
 ghost use Rattle.shred_stage.specs.Hands.{KeepsRoom};
 ghost use Rattle.shred_stage.specs.PlanOf.{access_of, entry_plan, group_plan, numbers_of, HasEntryIds};
 ghost use Rattle.shred_stage.specs.Placement.{difference, without_one};

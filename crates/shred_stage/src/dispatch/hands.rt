@@ -1,9 +1,9 @@
 //! Moving what groups write into their hands, and back.
 ghost use Rattle.std.specs.Prelude.{◌≡◌, false, cond, All};
 ghost use Rattle.std.specs.List.{AllZip};
-ghost use Rattle.shred_world.specs.Parting.{emptied, given, slot_value};
-ghost use Rattle.shred_world.specs.Slots.{slot_at, among};
-ghost use Rattle.shred_world.specs.declared.id.ResourceId.{ResourceId};
+ghost use Rattle.shred_table.specs.Parting.{emptied, given, slot_value};
+ghost use Rattle.shred_table.specs.Slots.{slot_at, among};
+ghost use Rattle.shred_table.specs.declared.id.ResourceId.{ResourceId};
 ghost use Rattle.shred_stage.specs.Hands.{HasEmptyHand, WriteApart, some_writes, FitsGroup, IsBack, IsMovedOut, IsLeftEmpty};
 
 use crate::dispatch::entry::Group;

@@ -10,9 +10,9 @@ ghost use Rattle.shred_stage.specs.OwnLists.{IsOwnEntry};
 ghost use Rattle.shred_stage.specs.OwnSlots.{lent_before, HasJustSlots, HasOnlySlots, HasGroupSlots};
 ghost use Rattle.shred_stage.specs.PlanOf.{access_of, entry_plan};
 ghost use Rattle.shred_stage.specs.Steps.{declared_of};
-ghost use Rattle.shred_world.specs.declared.id.ResourceId.{ResourceId};
-ghost use Rattle.shred_world.specs.Shown.{shown, HasOwnSlots, IsSameSlots};
-ghost use Rattle.shred_world.specs.Slots.{among};
+ghost use Rattle.shred_table.specs.declared.id.ResourceId.{ResourceId};
+ghost use Rattle.shred_table.specs.Shown.{shown, HasOwnSlots, IsSameSlots};
+ghost use Rattle.shred_table.specs.Slots.{among};
 ghost use Rattle.shred_world.specs.Views.{lent_slot, shelf_slot};
 
 use crate::dispatch::entry::{SystemEntry, SystemId};

@@ -3,7 +3,7 @@ ghost use Rattle.std.specs.Prelude.{◌≡◌, ◌↔◌, ◌<◌, ◌≤◌, �
 ghost use Rattle.shred_model.specs.Plan.{group_access, group_ids, stage_ids};
 ghost use Rattle.shred_model.specs.Access.{Conflicts};
 ghost use Rattle.shred_model.specs.Beside.{AreApart};
-ghost use Rattle.shred_world.specs.Id.{same_id};
+ghost use Rattle.shred_table.specs.Id.{same_id};
 ghost use Rattle.shred_stage.specs.Placement.{difference, greatest_time};
 ghost use Rattle.shred_stage.specs.Hands.{KeepsRoom};
 ghost use Rattle.shred_stage.specs.OwnLists.{IsOwnEntry, IsOwnGroup};

@@ -2,8 +2,8 @@
 ghost use Rattle.std.specs.Prelude.{◌≡◌, ◌↔◌, ◌<◌, ◌≤◌, ℕ, length, [], ◌∷◌, ◌++◌, slice_index_or, slice_set, All, AllPairs, Any, Contains, IfOk, OnOk, OnErr, true};
 ghost use Rattle.std.specs.List.{flat_map};
 ghost use Rattle.std.specs.List.Sorted.{IsStrictlySortedBy};
-ghost use Rattle.shred_world.specs.Id.{IsBefore};
-ghost use Rattle.shred_world.specs.declared.id.ResourceId.{ResourceId};
+ghost use Rattle.shred_table.specs.Id.{IsBefore};
+ghost use Rattle.shred_table.specs.declared.id.ResourceId.{ResourceId};
 ghost use Rattle.shred_model.specs.Plan as model;
 ghost use Rattle.shred_model.specs.Access.{Conflicts};
 ghost use Rattle.shred_model.specs.Plan.{group_access, plan_ids};

@@ -1,7 +1,7 @@
 -- Two bundles, one after the other: what the parts of both show, move out and give back.
 use Rattle.std.proofs.Common.{◌≡◌, Option, None, List, ◌++◌, inl, subst, sym, ◌∙◌, ap}
 use Rattle.std.specs.Prelude.{Result, Ok}
-use Rattle.shred_world.specs.declared.id.ResourceId.{ResourceId}
+use Rattle.shred_table.specs.declared.id.ResourceId.{ResourceId}
 use Rattle.shred_world.specs.declared.world.WorldError.{WorldError}
 use Rattle.shred_world.specs.declared.world.view.DataError.{DataError}
 use Rattle.shred_world.specs.Bundles.{Part, after_parts, or_refusal, bundle_refusal, shown_parts, moved_parts, ids_of, AreOut, IsRefused, Setup, SetupBoth}

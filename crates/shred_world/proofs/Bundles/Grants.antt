@@ -3,17 +3,18 @@ use Rattle.std.proofs.Common.{◌≡◌, Bool, true, false, not, ◌&&◌, ◌||
 use Rattle.std.specs.Prelude.{IsSome, is_some, is_none, length, ◌==◌}
 use Rattle.std.specs.Borrow.{Bor}
 use Rattle.std.specs.Option.{option_copied}
-use Rattle.shred_world.specs.declared.id.Kind.{Kind}
-use Rattle.shred_world.specs.declared.id.ResourceId.{ResourceId}
-use Rattle.shred_world.specs.declared.table.Slot.{Slot}
+use Rattle.shred_table.specs.declared.id.Kind.{Kind}
+use Rattle.shred_table.specs.declared.id.ResourceId.{ResourceId}
+use Rattle.shred_table.specs.declared.table.Slot.{Slot}
 use Rattle.shred_world.specs.declared.world.view.View.{View}
 use Rattle.shred_world.specs.Bundles.{after_moved}
 use Rattle.shred_world.specs.Grants.{grant_of, without, with_back}
-use Rattle.shred_world.specs.Id.{same_id}
-use Rattle.shred_world.specs.Parting.{emptied, filled}
-use Rattle.shred_world.specs.Slots.{slot_at, slot_held, of_kind, held, with_at, among}
-use Rattle.shred_world.specs.Views.{lent_slot, view_held, is_own, is_vacant, is_out, noted, IsSameLoan}
-use Rattle.shred_world.proofs.Tables.Slots.{same_id-true}
+use Rattle.shred_table.specs.Id.{same_id}
+use Rattle.shred_table.specs.Parting.{emptied, filled}
+use Rattle.shred_table.specs.Slots.{slot_at, slot_held, of_kind, held, with_at, among}
+use Rattle.shred_world.specs.Views.{lent_slot, view_held, is_own, is_out, noted, IsSameLoan}
+use Rattle.shred_table.specs.Slots.{is_vacant}
+use Rattle.shred_table.proofs.Tables.Slots.{same_id-true}
 use Rattle.shred_world.proofs.Views.Refusals.{slot-held}
 
 -- a slot in which a value is held for an id has that value

@@ -1,16 +1,16 @@
 -- Parts that are fetched one after the other, and what they moved out given back.
 use Rattle.std.proofs.Common.{◌≡◌, Bool, true, false, not, ◌&&◌, ◌||◌, Option, Some, None, cond, nat_eq, List, [], ◌∷◌, ◌++◌, inl, inr, subst, refl, sym, ◌∙◌, ap}
 use Rattle.std.specs.Prelude.{is_some, is_none}
-use Rattle.shred_world.specs.declared.id.Kind.{Kind}
-use Rattle.shred_world.specs.declared.id.ResourceId.{ResourceId}
+use Rattle.shred_table.specs.declared.id.Kind.{Kind}
+use Rattle.shred_table.specs.declared.id.ResourceId.{ResourceId}
 use Rattle.shred_world.specs.declared.world.view.DataError.{DataError}
 use Rattle.shred_world.specs.declared.world.view.DataError.TheVariants.{Missing, Undeclared, Taken, WrongKind}
 use Rattle.shred_world.specs.Bundles.{Part, part_refusal, moved_for, after_moved, after_part, after_parts, or_refusal, bundle_refusal, shown_parts, moved_at, moved_parts, may_lack_room, ids_of, AreOut, IsRefused}
 use Rattle.shred_world.specs.Grants.{Grant, without, with_back, Moved, given_back}
-use Rattle.shred_world.specs.Id.{same_id}
-use Rattle.shred_world.specs.Slots.{among}
+use Rattle.shred_table.specs.Id.{same_id}
+use Rattle.shred_table.specs.Slots.{among}
 use Rattle.shred_world.specs.Views.{refusal}
-use Rattle.shred_world.proofs.Tables.Slots.{same_id-true, same_id-refl}
+use Rattle.shred_table.proofs.Tables.Slots.{same_id-true, same_id-refl}
 
 or_again : (a b c : Option DataError) → or_refusal a (or_refusal b c) ≡ or_refusal (or_refusal a b) c
 or_again (Some e) b c = refl

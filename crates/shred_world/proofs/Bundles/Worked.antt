@@ -1,13 +1,13 @@
 -- Hands that are worked over one after the other, and what the view shows then.
 use Rattle.std.proofs.Common.{◌≡◌, ℕ, zero, suc, ◌<◌, ◌≤◌, ◌+◌, Bool, true, false, ◌||◌, Option, None, cond, List, [], ◌∷◌, length, get_or, set, refl, sym, subst, ◌∙◌, ap, arith, IsTrue, add-one}
 use Rattle.std.specs.List.{All, AllZip}
-use Rattle.shred_world.specs.declared.id.Kind.{Kind}
-use Rattle.shred_world.specs.declared.id.ResourceId.{ResourceId}
-use Rattle.shred_world.specs.declared.table.Table.{Table}
+use Rattle.shred_table.specs.declared.id.Kind.{Kind}
+use Rattle.shred_table.specs.declared.id.ResourceId.{ResourceId}
+use Rattle.shred_table.specs.declared.table.Table.{Table}
 use Rattle.shred_world.specs.Beside.{ShowsDeclared, part_slot}
-use Rattle.shred_world.specs.Parts.{Pair, reads_of, writes_of, declares, HasNothingOut, IsJoined, HoldsSameIds}
-use Rattle.shred_world.specs.Shown.{Lent, IsSameSlots}
-use Rattle.shred_world.specs.Slots.{slot_at, slot_held, among}
+use Rattle.shred_table.specs.Parts.{Pair, reads_of, writes_of, declares, HasNothingOut, IsJoined, HoldsSameIds}
+use Rattle.shred_table.specs.Shown.{Lent, IsSameSlots}
+use Rattle.shred_table.specs.Slots.{slot_at, slot_held, among}
 use Rattle.shred_world.specs.Worked.{Works, IsWorkedOver, IsWorkedEach, IsWorked, part_held}
 
 module _ {V W : Type 0} (kind : V → Kind) (works : Works V W) (behind : Lent V) where

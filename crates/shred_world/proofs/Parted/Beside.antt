@@ -3,32 +3,15 @@ use Rattle.std.proofs.Common.{◌≡◌, ℕ, zero, suc, ◌<◌, Bool, true, fa
 use Rattle.std.specs.Prelude.{is_some}
 use Rattle.std.specs.List.{AllZip, AllByRecursion}
 use Rattle.shred_model.proofs.Joined.Apart.{AllPairs-head, AllPairs-tail}
-use Rattle.shred_world.specs.declared.id.ResourceId.{ResourceId}
-use Rattle.shred_world.specs.declared.id.Kind.{Kind}
-use Rattle.shred_world.specs.declared.table.Slot.{Slot}
-use Rattle.shred_world.specs.declared.table.Table.{Table}
+use Rattle.shred_table.specs.declared.id.ResourceId.{ResourceId}
+use Rattle.shred_table.specs.declared.id.Kind.{Kind}
+use Rattle.shred_table.specs.declared.table.Slot.{Slot}
+use Rattle.shred_table.specs.declared.table.Table.{Table}
 use Rattle.shred_world.specs.declared.world.view.View.{View}
 use Rattle.shred_world.specs.Views.{lent_slot, view_held, is_own, is_out, IsSameLoan, IsSameView}
-use Rattle.shred_world.specs.Slots.{slot_at, slot_held, held, among}
-use Rattle.shred_world.specs.Parting.{emptied}
-use Rattle.shred_world.specs.Parts.{Pair, writes_of, declares, AreBeside, DoNotConflict, written_by, HoldsWritten, HoldsSameIds, HoldsIdsOf, IsJoined}
-
--- from each pair with its hand to what holds of them
-pub zip-map : {A B : Type 0} (Q R : A → B → Type 0) (xs : List A) (ys : List B) → ((i : ℕ) (d : A) (y : B) → i < length xs → Q (get_or xs i d) y → R (get_or xs i d) y) → AllZip Q xs ys → AllZip R xs ys
-zip-map Q R [] [] f zip = tt
-zip-map Q R [] (y ∷ ys) f zip = absurd zip
-zip-map Q R (x ∷ xs) [] f zip = absurd zip
-zip-map Q R (x ∷ xs) (y ∷ ys) f zip = (f 0 x y (omega arith) zip.0, zip-map Q R xs ys (λ i d z h. f (suc i) d z (omega arith)) zip.1)
-
--- what holds of each pair with its hand, by what holds of the pair with the hand before
-pub zip-through : {A B C : Type 0} (Q : A → B → Type 0) (S : B → C → Type 0) (R : A → C → Type 0) (xs : List A) (ys : List B) (zs : List C)
-    → ((x : A) (y : B) (z : C) → Q x y → S y z → R x z) → AllZip Q xs ys → AllZip S ys zs → AllZip R xs zs
-zip-through Q S R [] [] [] f one two = tt
-zip-through Q S R [] [] (z ∷ zs) f one two = absurd two
-zip-through Q S R [] (y ∷ ys) zs f one two = absurd one
-zip-through Q S R (x ∷ xs) [] zs f one two = absurd one
-zip-through Q S R (x ∷ xs) (y ∷ ys) [] f one two = absurd two
-zip-through Q S R (x ∷ xs) (y ∷ ys) (z ∷ zs) f one two = (f x y z one.0 two.0, zip-through Q S R xs ys zs f one.1 two.1)
+use Rattle.shred_table.specs.Slots.{slot_at, slot_held, held, among}
+use Rattle.shred_table.specs.Parting.{emptied}
+use Rattle.shred_table.specs.Parts.{Pair, writes_of, declares, AreBeside, DoNotConflict, written_by, HoldsWritten, HoldsSameIds, HoldsIdsOf, IsJoined}
 
 never : (b : Bool) → (b ≡ true → ⊥) → b ≡ false
 never true n = absurd (n refl)

@@ -2,17 +2,19 @@
 use Rattle.std.proofs.Common.{◌≡◌, Bool, true, false, ◌&&◌, ◌||◌, IsTrue, Option, Some, List, [], ◌∷◌, suc, None, cond, refl, sym, ap, ◌∙◌, get_or, arith}
 use Rattle.std.specs.Prelude.{is_some}
 use Rattle.std.specs.List.{All, AllZip}
-use Rattle.shred_world.specs.declared.id.ResourceId.{ResourceId}
-use Rattle.shred_world.specs.declared.table.Slot.{Slot}
-use Rattle.shred_world.specs.declared.table.Table.{Table}
+use Rattle.shred_table.specs.declared.id.ResourceId.{ResourceId}
+use Rattle.shred_table.specs.declared.table.Slot.{Slot}
+use Rattle.shred_table.specs.declared.table.Table.{Table}
 use Rattle.shred_world.specs.declared.world.view.View.{View}
 use Rattle.shred_world.specs.Beside.{ShowsDeclared}
-use Rattle.shred_world.specs.Parting.{emptied}
-use Rattle.shred_world.specs.Parts.{Pair, writes_of, written_by, DoNotConflict, HoldsWritten, Fits, IsHandOf}
-use Rattle.shred_world.specs.Shown.{Lent, IsSameSlots}
-use Rattle.shred_world.specs.Slots.{slot_at, noted_in, among}
-use Rattle.shred_world.specs.Views.{lent_slot, is_own, is_out, may_write, is_vacant, view_slot}
-use Rattle.shred_world.proofs.Parted.Beside.{zip-map, zip-through, written-none, shown-over, hand-of, fit-over}
+use Rattle.shred_table.specs.Parting.{emptied}
+use Rattle.shred_table.specs.Parts.{Pair, writes_of, written_by, DoNotConflict, HoldsWritten, Fits, IsHandOf}
+use Rattle.shred_table.specs.Shown.{Lent, IsSameSlots}
+use Rattle.shred_table.specs.Slots.{slot_at, noted_in, among}
+use Rattle.shred_world.specs.Views.{lent_slot, is_own, is_out, may_write, view_slot}
+use Rattle.shred_table.specs.Slots.{is_vacant}
+use Rattle.shred_world.proofs.Parted.Beside.{written-none, shown-over, hand-of, fit-over}
+use Rattle.shred_table.proofs.Parted.Pairs.{zip-map, zip-through}
 use Rattle.shred_world.proofs.Views.Refusals.{written-own}
 
 -- what some pair writes may be written, where it may for each pair

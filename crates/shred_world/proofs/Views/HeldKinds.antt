@@ -3,10 +3,10 @@ use Rattle.std.proofs.Common.{◌≡◌, Bool, true, false, cond, Option, Some, 
 use Rattle.std.specs.Prelude.{is_some}
 use Rattle.std.specs.Option.{option_map}
 use Rattle.std.proofs.lemmas.Bool.Decides.{nat_tests}
-use Rattle.shred_world.specs.declared.id.Kind.{Kind}
-use Rattle.shred_world.specs.declared.id.ResourceId.{ResourceId}
-use Rattle.shred_world.specs.declared.table.Slot.{Slot}
-use Rattle.shred_world.specs.Slots.{slot_held, of_kind}
+use Rattle.shred_table.specs.declared.id.Kind.{Kind}
+use Rattle.shred_table.specs.declared.id.ResourceId.{ResourceId}
+use Rattle.shred_table.specs.declared.table.Slot.{Slot}
+use Rattle.shred_table.specs.Slots.{slot_held, of_kind}
 
 -- the kind of what a slot holds is the id's
 pub slot_held-kind : {V : Type 0} (kind : V → Kind) (id : ResourceId) (s : Option (Slot V)) → option_map kind (slot_held kind id s) ≡ cond (is_some (slot_held kind id s)) (Some id.kind) None

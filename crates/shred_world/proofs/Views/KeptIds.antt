@@ -1,10 +1,10 @@
 -- Values written under ids that held one.
 use Rattle.std.proofs.Common.{◌≡◌, Bool, true, false, Option, Some, cond, refl, sym, ◌∙◌, ap}
 use Rattle.std.specs.Prelude.{is_some}
-use Rattle.shred_world.specs.declared.id.ResourceId.{ResourceId}
-use Rattle.shred_world.specs.Id.{same_id}
-use Rattle.shred_world.specs.Slots.{with_at}
-use Rattle.shred_world.proofs.Tables.Slots.{same_id-true}
+use Rattle.shred_table.specs.declared.id.ResourceId.{ResourceId}
+use Rattle.shred_table.specs.Id.{same_id}
+use Rattle.shred_table.specs.Slots.{with_at}
+use Rattle.shred_table.proofs.Tables.Slots.{same_id-true}
 
 -- where a value was written under an id that held one, values are held under the same ids
 pub ids-kept : {V : Type 0} (old new : ResourceId → Option V) (id : ResourceId) (v : V) → is_some (old id) ≡ true → ((q : ResourceId) → new q ≡ with_at old id (Some v) q) → (q : ResourceId) → is_some (new q) ≡ is_some (old q)

@@ -1,12 +1,12 @@
 -- The tests of a part of the data.
 use Rattle.std.proofs.Common.{◌≡◌, Bool, true, false, Some, None, cond, nat_eq, ◌&&◌, ◌||◌, refl, ap, arith}
 use Rattle.std.proofs.lemmas.Bool.Decides.{nat_tests}
-use Rattle.shred_world.specs.declared.id.Kind.{Kind}
-use Rattle.shred_world.specs.declared.id.ResourceId.{ResourceId}
+use Rattle.shred_table.specs.declared.id.Kind.{Kind}
+use Rattle.shred_table.specs.declared.id.ResourceId.{ResourceId}
 use Rattle.shred_world.specs.declared.world.view.DataError.TheVariants.{Missing, Undeclared, Taken, WrongKind}
 use Rattle.shred_world.specs.declared.world.view.View.{View}
 use Rattle.shred_world.specs.Handing.{moved_value}
-use Rattle.shred_world.specs.Slots.{slot_at, slot_held, held, among}
+use Rattle.shred_table.specs.Slots.{slot_at, slot_held, held, among}
 use Rattle.shred_world.specs.Views.{view_held, lent_slot, is_alone, is_own, is_whole, may_write, refusal}
 
 -- what has passed the first three tests has the id's kind, is declared and is not out

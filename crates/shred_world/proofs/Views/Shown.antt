@@ -2,14 +2,15 @@
 use Rattle.std.proofs.Common.{◌≡◌, Bool, true, false, Option, Some, None, cond, nat_eq, ◌&&◌, ◌||◌, refl, sym, ◌∙◌, ap, arith}
 use Rattle.std.specs.Prelude.{is_some, length, ◌==◌}
 use Rattle.std.proofs.lemmas.Bool.Decides.{nat_tests}
-use Rattle.shred_world.specs.declared.id.Kind.{Kind}
-use Rattle.shred_world.specs.declared.id.ResourceId.{ResourceId}
-use Rattle.shred_world.specs.declared.table.Slot.{Slot}
+use Rattle.shred_table.specs.declared.id.Kind.{Kind}
+use Rattle.shred_table.specs.declared.id.ResourceId.{ResourceId}
+use Rattle.shred_table.specs.declared.table.Slot.{Slot}
 use Rattle.shred_world.specs.declared.world.view.View.{View}
-use Rattle.shred_world.specs.Id.{same_id}
-use Rattle.shred_world.specs.Slots.{slot_at, slot_held, with_at, among}
-use Rattle.shred_world.specs.Views.{lent_slot, is_own, view_slot, view_held, is_vacant, noted, IsSameView}
-use Rattle.shred_world.proofs.Tables.Slots.{same_id-true}
+use Rattle.shred_table.specs.Id.{same_id}
+use Rattle.shred_table.specs.Slots.{slot_at, slot_held, with_at, among}
+use Rattle.shred_world.specs.Views.{lent_slot, is_own, view_slot, view_held, noted, IsSameView}
+use Rattle.shred_table.specs.Slots.{is_vacant}
+use Rattle.shred_table.proofs.Tables.Slots.{same_id-true}
 
 module _ {V : Type 0} (kind : V → Kind) (s n : View V) (reads : n.reads ≡ s.reads) (writes : n.writes ≡ s.writes) (owned : n.owned ≡ s.owned)
     (whole : n.whole ≡ s.whole) (out : (q : ResourceId) → noted n q ≡ noted s q) (shelf : n.shelf ≡ s.shelf) (table : n.own.ghost_name ≡ s.own.ghost_name) where

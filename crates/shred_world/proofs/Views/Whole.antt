@@ -1,14 +1,15 @@
 -- Views of all that a table holds, and bundles that are taken of them.
 use Rattle.std.proofs.Common.{◌≡◌, Bool, true, false, ◌&&◌, ◌||◌, List, [], ◌∷◌, subst, refl, sym, ◌∙◌, ap}
 use Rattle.std.specs.Prelude.{Option, Some, None, Result, Ok, Err, OnErr}
-use Rattle.shred_world.specs.declared.id.Kind.{Kind}
-use Rattle.shred_world.specs.declared.id.ResourceId.{ResourceId}
+use Rattle.shred_table.specs.declared.id.Kind.{Kind}
+use Rattle.shred_table.specs.declared.id.ResourceId.{ResourceId}
 use Rattle.shred_world.specs.declared.world.view.View.{View}
 use Rattle.shred_world.specs.Bundles.{Part, moved_for, after_moved, after_part, after_parts, moved_at, moved_parts, bundle_refusal, ids_of, AreAllOut}
 use Rattle.shred_world.specs.Grants.{Grant, grant_of, map_grant, table_grant, Moved}
-use Rattle.shred_world.specs.Id.{same_id}
-use Rattle.shred_world.specs.Slots.{among, noted_in, slot_at}
-use Rattle.shred_world.specs.Views.{is_whole, is_vacant}
+use Rattle.shred_table.specs.Id.{same_id}
+use Rattle.shred_table.specs.Slots.{among, noted_in, slot_at}
+use Rattle.shred_world.specs.Views.{is_whole}
+use Rattle.shred_table.specs.Slots.{is_vacant}
 use Rattle.shred_world.proofs.Bundles.Parts.{moved_are_out}
 use Rattle.shred_world.proofs.Views.Refusals.{whole-alone, whole-held}
 

@@ -3,16 +3,16 @@ ghost use Rattle.std.specs.Prelude.{[], ◌∷◌, true, false};
 ghost use Rattle.std.specs.Option.{option_map};
 ghost use Rattle.shred_world.specs.Bundles.{NoSetup};
 ghost use Rattle.shred_world.specs.BundleParts.{read_value, written_value, moved_if_read, moved_if_written};
-ghost use Rattle.shred_world.specs.Id.{id_of};
+ghost use Rattle.shred_table.specs.Id.{id_of};
 
-use crate::accessor::OutOfMemory;
-use crate::id::ResourceId;
-use crate::resource::{Resource, ResourceValue};
 use crate::world::bundle::SystemData;
 use crate::world::read::Read;
 use crate::world::view::{DataError, View};
 use crate::world::write::Write;
 use crate::world::{World, WorldError};
+use shred_table::accessor::OutOfMemory;
+use shred_table::id::ResourceId;
+use shred_table::resource::{Resource, ResourceValue};
 use std::alloc::Global;
 use std::marker::PhantomData;
 

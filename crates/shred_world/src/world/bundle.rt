@@ -1,17 +1,17 @@
 //! Bundles: resources that are taken of a view together, and given back.
 ghost use Rattle.std.specs.Prelude.{◌≡◌, false, List, Option, IfOk, IfErr, OnOk, OnErr, None};
-ghost use Rattle.shred_world.specs.declared.id.ResourceId.{ResourceId};
+ghost use Rattle.shred_table.specs.declared.id.ResourceId.{ResourceId};
 ghost use Rattle.shred_world.specs.Bundles.{Part, IsRefused, bundle_refusal, shown_parts, moved_parts, after_parts, ids_of, AreOut, Setup};
 ghost use Rattle.shred_world.specs.Grants.{Moved, grant_of, given_back};
-ghost use Rattle.shred_world.specs.Slots.{among};
+ghost use Rattle.shred_table.specs.Slots.{among};
 ghost use Rattle.shred_world.specs.Views.{is_out, table_of, IsSameLoan};
 ghost use Rattle.shred_world.specs.Worlds.{world_held};
 
-use crate::accessor::OutOfMemory;
-use crate::id::ResourceId;
-use crate::resource::ResourceValue;
 use crate::world::view::{DataError, View};
 use crate::world::{World, WorldError};
+use shred_table::accessor::OutOfMemory;
+use shred_table::id::ResourceId;
+use shred_table::resource::ResourceValue;
 use std::alloc::Global;
 
 impl From<WorldError> for DataError {

@@ -5,11 +5,11 @@ ghost use Rattle.shred_world.specs.Grants.{Moved, grant_of, given_back};
 ghost use Rattle.shred_world.specs.Views.{is_out, table_of, IsSameLoan};
 ghost use Rattle.shred_world.specs.Worlds.{world_held};
 
-use crate::accessor::{Accessor, BatchAccessor};
-use crate::resource::ResourceValue;
 use crate::world::bundle::SystemData;
 use crate::world::view::{DataError, View};
 use crate::world::{World, WorldError};
+use shred_table::accessor::{Accessor, BatchAccessor};
+use shred_table::resource::ResourceValue;
 
 /// Resources that are taken of a view together, as an accessor says, and given back.
 pub trait DynamicSystemData<'s, V: ResourceValue> {

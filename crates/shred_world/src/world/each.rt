@@ -1,22 +1,22 @@
 //! Work over the views of the parts of a view, of which the library makes one for each pair of lists.
 ghost use Rattle.std.specs.Prelude.{◌≡◌, ◌<◌, IsTrue, OnErr, OnOk, false, is_some, length};
 ghost use Rattle.std.specs.List.{All, AllZip};
-ghost use Rattle.shred_world.specs.declared.id.ResourceId.{ResourceId};
+ghost use Rattle.shred_table.specs.declared.id.ResourceId.{ResourceId};
 ghost use Rattle.shred_world.specs.Beside.{lender_of, parted_of, pairs_of, pairs_behind, pair_behind, lent_behind};
 ghost use Rattle.shred_world.specs.Parted.{ShowsSame};
-ghost use Rattle.shred_world.specs.Parts.{DoNotConflict, reads_of, writes_of, HasNothingOut, HoldsSameIds, IsHandOf};
-ghost use Rattle.shred_world.specs.Shown.{IsSameSlots};
-ghost use Rattle.shred_world.specs.Slots.{among};
+ghost use Rattle.shred_table.specs.Parts.{DoNotConflict, reads_of, writes_of, HasNothingOut, HoldsSameIds, IsHandOf};
+ghost use Rattle.shred_table.specs.Shown.{IsSameSlots};
+ghost use Rattle.shred_table.specs.Slots.{among};
 ghost use Rattle.shred_world.specs.Views.{may_read, may_write, is_out, table_of, view_slot, view_held, IsSameView};
 ghost use Rattle.shred_world.specs.Worked.{part_held, KeepsUnwritten, IsWorkedEach, IsWorked, KeepsRest, KeepsHeldIds};
 
-use crate::accessor::OutOfMemory;
-use crate::id::ResourceId;
-use crate::resource::ResourceValue;
-use crate::table::Table;
 use crate::world::parted::Parts;
 use crate::world::parts::Behind;
 use crate::world::view::View;
+use shred_table::accessor::OutOfMemory;
+use shred_table::id::ResourceId;
+use shred_table::resource::ResourceValue;
+use shred_table::table::Table;
 use std::alloc::Global;
 
 /// What is done over the view of one part.

@@ -2,10 +2,10 @@
 ghost use Rattle.std.specs.Prelude.{◌≡◌, None, IfOk, IfErr};
 ghost use Rattle.std.specs.Borrow.{sem};
 
-use crate::id::ResourceId;
-use crate::resource::{Resource, ResourceValue};
 use crate::world::fetch::FetchMut;
 use crate::world::{World, WorldError};
+use shred_table::id::ResourceId;
+use shred_table::resource::{Resource, ResourceValue};
 use std::marker::PhantomData;
 
 /// The place of the resource of type `R` and number 0.
@@ -17,7 +17,7 @@ pub struct Entry<'a, V, R> {
 
 impl<'a, V: ResourceValue, R: Resource<V>> Entry<'a, V, R> {
     ghost use Rattle.shred_world.specs.Entries.{lent_world, entry_world, LendsEntry};
-    ghost use Rattle.shred_world.specs.Id.{id_of};
+    ghost use Rattle.shred_table.specs.Id.{id_of};
     ghost use Rattle.shred_world.specs.Worlds.{world_held, IsKeptOrMade};
 
     // The place in this world.

@@ -2,16 +2,16 @@
 ghost use Rattle.std.specs.Prelude.{◌≡◌, Option, Ok};
 ghost use Rattle.shred_world.specs.Executed.{IsCalled, IsHeldAfter, IsExecuted, MayCall, KeepsIds};
 ghost use Rattle.shred_world.specs.Grants.{grant_of, map_grant};
-ghost use Rattle.shred_world.specs.Slots.{held};
+ghost use Rattle.shred_table.specs.Slots.{held};
 ghost use Rattle.shred_world.specs.Views.{table_of, IsSameLoan};
 ghost use Rattle.shred_world.specs.Worlds.{world_held};
-ghost use Rattle.shred_world.specs.declared.id.ResourceId.{ResourceId};
+ghost use Rattle.shred_table.specs.declared.id.ResourceId.{ResourceId};
 
-use crate::resource::ResourceValue;
-use crate::table::Table;
 use crate::world::bundle::SystemData;
 use crate::world::view::{DataError, View};
 use crate::world::{World, WorldError};
+use shred_table::resource::ResourceValue;
+use shred_table::table::Table;
 
 impl<V: ResourceValue> World<V> {
     /// Sets the world up for the bundle. It is refused as the bundle's own setup is.

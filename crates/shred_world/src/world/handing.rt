@@ -1,19 +1,20 @@
 //! Resources that a view hands out, and that come back to it.
 ghost use Rattle.std.specs.Prelude.{◌≡◌, ◌||◌, IsTrue, IsSome, None, cond, OnOk, OnErr, IfOk};
 ghost use Rattle.std.specs.Option.{option_map, option_copied};
-ghost use Rattle.shred_world.specs.declared.id.ResourceId.{ResourceId};
+ghost use Rattle.shred_table.specs.declared.id.ResourceId.{ResourceId};
 ghost use Rattle.shred_world.specs.Bundles.{after_moved};
 ghost use Rattle.shred_world.specs.Grants.{grant_of, with_back};
 ghost use Rattle.shred_world.specs.Handing.{handed, moved_out, moved_value};
-ghost use Rattle.shred_world.specs.Id.{id_kind, same_id};
-ghost use Rattle.shred_world.specs.Parting.{emptied};
-ghost use Rattle.shred_world.specs.Slots.{slot_at, with_at, held};
+ghost use Rattle.shred_table.specs.Id.{id_kind, same_id};
+ghost use Rattle.shred_table.specs.Parting.{emptied};
+ghost use Rattle.shred_table.specs.Slots.{slot_at, with_at, held};
 ghost use Rattle.shred_world.specs.Views.{view_held, is_out, is_own, noted, table_in, table_of, HasSameLists, IsSameLoan};
 
-use crate::accessor::OutOfMemory;
-use crate::id::ResourceId;
-use crate::resource::{Resource, ResourceValue};
 use crate::world::view::View;
+use shred_table::accessor::OutOfMemory;
+use shred_table::id::ResourceId;
+use shred_table::resource::{Resource, ResourceValue};
+use shred_table::table;
 
 /// A resource that a view has handed out: lent shared, or moved out of its slot.
 pub(crate) enum Handed<'s, R> {
@@ -34,7 +35,7 @@ impl<'s, 'a, V: ResourceValue> View<'s, 'a, V> {
         ensures lists { HasSameLists self.old self.new }
         ensures noted { (q : ResourceId) → noted self.new q ≡ noted self.old q }
     {
-        let Some(value) = self.own.take(id) else {
+        let Some(value) = table::take(self.own, id) else {
             return None;
         };
         match R::unwrap(value) {
@@ -64,7 +65,7 @@ impl<'s, 'a, V: ResourceValue> View<'s, 'a, V> {
         if self.own.get(id).is_none() {
             return Ok(None);
         }
-        match self.own.note(id) {
+        match table::note(self.own, id) {
             Ok(()) => Ok(self.take_noted(id)),
             Err(error) => Err(error),
         }
@@ -79,7 +80,7 @@ impl<'s, 'a, V: ResourceValue> View<'s, 'a, V> {
         ensures after { grant_of V.kind_of self.new ≡ with_back (grant_of V.kind_of self.old) id (R.wrapped resource) }
         ensures loan { IsSameLoan self.old self.new }
     {
-        self.own.fill(id, resource.wrap());
+        table::fill(self.own, id, resource.wrap());
     }
 
     // What is lent shared under the id, where it is not the view's own.

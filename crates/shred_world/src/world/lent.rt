@@ -5,15 +5,15 @@ ghost use Rattle.shred_world.specs.Bundles.{AreOut, AreAllOut, IsRefused, after_
 ghost use Rattle.shred_world.specs.Executed.{IsTaken};
 ghost use Rattle.shred_world.specs.Grants.{is_out_in, map_grant, table_grant, given_back};
 ghost use Rattle.shred_world.specs.Lent.{EndsSame};
-ghost use Rattle.shred_world.specs.Slots.{held};
+ghost use Rattle.shred_table.specs.Slots.{held};
 ghost use Rattle.shred_world.specs.Worlds.{world_held};
 ghost use Rattle.shred_world.specs.contracts.world.World.{the_row as world_row};
 
-use crate::resource::ResourceValue;
-use crate::table::Table;
 use crate::world::World;
 use crate::world::bundle::SystemData;
 use crate::world::view::{DataError, View};
+use shred_table::resource::ResourceValue;
+use shred_table::table::Table;
 use std::ops::{Deref, DerefMut};
 
 /// A bundle that was taken on a world. It goes back by `give_back`.

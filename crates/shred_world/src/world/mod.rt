@@ -2,17 +2,17 @@
 ghost use Rattle.std.specs.Prelude.{◌≡◌, ◌≢◌, ◌↔◌, ◌⊎◌, ◌||◌, ⊤, false, None, Some, Err, OnOk, OnErr, IfOk, IfErr, is_some};
 ghost use Rattle.std.specs.Borrow.{sem};
 ghost use Rattle.std.specs.Option.{option_map};
-ghost use Rattle.shred_world.specs.declared.id.ResourceId.{ResourceId};
+ghost use Rattle.shred_table.specs.declared.id.ResourceId.{ResourceId};
 ghost use Rattle.shred_world.specs.Fetched.{fetched};
-ghost use Rattle.shred_world.specs.Id.{id_kind};
+ghost use Rattle.shred_table.specs.Id.{id_kind};
 
-use crate::accessor::OutOfMemory;
-use crate::id::{Kind, ResourceId};
-use crate::resource::{Resource, ResourceValue};
-use crate::table::Table;
 use crate::world::entry::Entry;
 use crate::world::fetch::{Fetch, FetchMut};
 use crate::world::view::View;
+use shred_table::accessor::OutOfMemory;
+use shred_table::id::{Kind, ResourceId};
+use shred_table::resource::{Resource, ResourceValue};
+use shred_table::table::{self, Table};
 use std::alloc::Global;
 use thiserror::Error;
 
@@ -83,8 +83,8 @@ fn test_kind<V: ResourceValue, R: Resource<V>>(id: ResourceId) -> Result<(), Wor
 
 impl<V: ResourceValue> World<V> {
     ghost use Rattle.shred_world.specs.Worlds.{world_held, IsFilled};
-    ghost use Rattle.shred_world.specs.Id.{id_of, id_kind};
-    ghost use Rattle.shred_world.specs.Slots.{with_at, without_at, among};
+    ghost use Rattle.shred_table.specs.Id.{id_of, id_kind};
+    ghost use Rattle.shred_table.specs.Slots.{with_at, without_at, among};
     ghost use Rattle.shred_world.specs.Entries.{lent_world, entry_world};
     ghost use Rattle.shred_world.specs.Views.{view_held, may_read, may_write, is_out};
     ghost use Rattle.shred_world.specs.Lending.{IsOverWorld};
@@ -149,7 +149,7 @@ impl<V: ResourceValue> World<V> {
         ensures out_of_memory { IfErr result (λ e. (R.KIND ≡ id_kind id) → (e ≡ WorldError.OutOfMemory) × (world_held V.kind_of self.old id ≡ None)) }
     {
         test_kind::<V, R>(id)?;
-        match self.table.put(id, resource.wrap()) {
+        match table::put(&mut self.table, id, resource.wrap()) {
             Ok(()) => Ok(()),
             Err(OutOfMemory) => Err(WorldError::OutOfMemory),
         }
@@ -174,10 +174,10 @@ impl<V: ResourceValue> World<V> {
         if self.has_value_raw(id) {
             return Ok(());
         }
-        if let Err(OutOfMemory) = self.table.open(id) {
+        if let Err(OutOfMemory) = table::open(&mut self.table, id) {
             return Err(WorldError::OutOfMemory);
         }
-        match self.table.put(id, make().wrap()) {
+        match table::put(&mut self.table, id, make().wrap()) {
             Ok(()) => Ok(()),
             Err(OutOfMemory) => Err(WorldError::OutOfMemory),
         }
@@ -215,7 +215,7 @@ impl<V: ResourceValue> World<V> {
         ensures removed { option_map R.wrapped result ≡ world_held V.kind_of self.old id }
         ensures after { (q : ResourceId) → world_held V.kind_of self.new q ≡ without_at (world_held V.kind_of self.old) id q }
     {
-        let Some(slot) = self.table.remove(id) else {
+        let Some(slot) = table::remove(&mut self.table, id) else {
             return None;
         };
         slot.into_resource()
@@ -241,7 +241,7 @@ impl<V: ResourceValue> World<V> {
         if !self.has_value_raw(id) {
             return Err(ReplaceError::Missing { id, value });
         }
-        match self.table.replace(id, value) {
+        match table::replace(&mut self.table, id, value) {
             Ok(old) => Ok(old),
             Err(value) => Err(ReplaceError::Missing { id, value }),
         }
@@ -300,7 +300,7 @@ impl<V: ResourceValue> World<V> {
         ensures shown { option_map (λ r. R.wrapped r.now) result ≡ world_held V.kind_of self.old id }
         ensures* written { sem 𝓛 (LendsGot V.row R.row V.kind_of R.wrapped self.entry id result) }
     {
-        self.table.resource_mut(id)
+        table::resource_mut(&mut self.table, id)
     }
 
     /// The resource that is held, if one is, to write.

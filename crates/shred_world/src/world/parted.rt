@@ -1,8 +1,8 @@
 //! The parts of a view, which must be joined.
-ghost use Rattle.shred_world.specs.Parts.{DoNotConflict};
+ghost use Rattle.shred_table.specs.Parts.{DoNotConflict};
 
-use crate::id::ResourceId;
-use crate::table::Table;
+use shred_table::id::ResourceId;
+use shred_table::table::Table;
 use std::snapshot::Snapshot;
 
 /// The parts of a view: for each pair of lists a hand, with the values that the pair writes. They cannot be dropped, and

@@ -1,23 +1,23 @@
 //! Parting a view into views that may be used beside each other.
 ghost use Rattle.std.specs.Prelude.{◌≡◌, ◌<◌, ◌&&◌, IsTrue, false, cond, is_some, IfOk, OnOk, OnErr, length};
 ghost use Rattle.std.specs.List.{All, AllZip};
-ghost use Rattle.shred_world.specs.declared.id.ResourceId.{ResourceId};
+ghost use Rattle.shred_table.specs.declared.id.ResourceId.{ResourceId};
 ghost use Rattle.shred_world.specs.Beside.{pairs_of, lender_of, pairs_behind, pair_behind, lent_behind, shelf_behind};
 ghost use Rattle.shred_world.specs.OwnViews.{IsLent};
 ghost use Rattle.shred_world.specs.Parted.{has_place, IsJoinedWith, IsParted, IsViewOfPair, MayBeJoined, ShowsSame};
-ghost use Rattle.shred_world.specs.Parting.{emptied};
-ghost use Rattle.shred_world.specs.Parts.{DoNotConflict, reads_of, writes_of, written_by, HasNothingOut, HasRoom, HoldsWritten, Fits, IsHandOf, IsJoined};
-ghost use Rattle.shred_world.specs.Slots.{slot_at, noted_in, among};
+ghost use Rattle.shred_table.specs.Parting.{emptied};
+ghost use Rattle.shred_table.specs.Parts.{DoNotConflict, reads_of, writes_of, written_by, HasNothingOut, HasRoom, HoldsWritten, Fits, IsHandOf, IsJoined};
+ghost use Rattle.shred_table.specs.Slots.{slot_at, noted_in, among};
 ghost use Rattle.shred_world.specs.Views.{may_read, may_write, is_out, is_own, table_of, view_slot, IsSameLoan};
 
-use crate::accessor::OutOfMemory;
-use crate::id::ResourceId;
-use crate::parting::{move_back, move_out};
-use crate::resource::ResourceValue;
-use crate::table::Table;
 use crate::world::parted::Parts;
 use crate::world::tuples::joined;
 use crate::world::view::{Shelf, View};
+use shred_table::accessor::OutOfMemory;
+use shred_table::hands::{make_hands, move_all_back, move_all_out};
+use shred_table::id::ResourceId;
+use shred_table::resource::ResourceValue;
+use shred_table::table::{self, Table};
 use std::alloc::Global;
 use std::snapshot::Snapshot;
 
@@ -36,61 +36,6 @@ fn written_ids(
         };
     }
     Ok(ids)
-}
-
-impl<V: Drop> Table<V> {
-    // A hand for each pair, with room for what the pair writes.
-    fn make_hands(
-        &self,
-        alloc: Global,
-        pairs: &[(&[ResourceId], &[ResourceId])],
-    ) -> Result<Vec<Table<V>>, OutOfMemory>
-        ensures { IfOk result (λ hands. AllZip (HasRoom self.now) pairs.now hands.items) }
-    {
-        let mut hands = Vec::new(alloc);
-        for pair in pairs {
-            let mut hand = Table::hand(alloc);
-            if let Err(error) = self.make_room(pair.1, &mut hand) {
-                return Err(error);
-            }
-            match hands.push(hand) {
-                Ok(()) => {}
-                Err(_) => return Err(OutOfMemory),
-            }
-        }
-        Ok(hands)
-    }
-
-    // Moves what each pair writes into its hand.
-    fn move_all_out(&mut self, pairs: &[(&[ResourceId], &[ResourceId])], hands: &mut [Table<V>])
-        requires apart { DoNotConflict pairs.now }
-        requires room { AllZip (HasRoom self.old) pairs.now hands.old }
-        ensures hands { AllZip (HoldsWritten self.old) pairs.now hands.new }
-        ensures nothing_out { All HasNothingOut hands.new }
-        ensures left { (q : ResourceId) → slot_at self.new q ≡ cond (written_by pairs.now q) (emptied (slot_at self.old q)) (slot_at self.old q) }
-    {
-        for i in 0..pairs.len() {
-            let hand = &mut hands[i];
-            move_out(self, pairs[i].1, hand);
-            hand.forget_notes();
-        }
-    }
-
-    // Moves what is in the hands back. Then no value is handed out.
-    fn move_all_back(&mut self, pairs: &[(&[ResourceId], &[ResourceId])], hands: &mut [Table<V>])
-        requires apart { DoNotConflict pairs.now }
-        requires fit { AllZip (Fits self.old) pairs.now hands.old }
-        requires empty { (q : ResourceId) → IsTrue (written_by pairs.now q) → slot_at self.old q ≡ emptied (slot_at self.old q) }
-        ensures joined { AllZip (IsJoined self.new) pairs.now hands.old }
-        ensures rest { (q : ResourceId) → written_by pairs.now q ≡ false → slot_at self.new q ≡ slot_at self.old q }
-        ensures slots { (q : ResourceId) → is_some (slot_at self.new q) ≡ is_some (slot_at self.old q) }
-        ensures noted { (q : ResourceId) → noted_in self.new q ≡ false }
-    {
-        for i in 0..pairs.len() {
-            move_back(self, pairs[i].1, &mut hands[i]);
-        }
-        self.forget_notes();
-    }
 }
 
 /// The pairs of lists by which a view is parted, and what lies behind the hands of the parts.
@@ -141,7 +86,7 @@ impl<'s, 'a, V: ResourceValue + Drop> View<'s, 'a, V> {
         ensures refused { OnErr result (ShowsSame self.old self.new) }
         ensures nothing_begun { OnErr result ((q : ResourceId) → is_out self.new q ≡ false) }
     {
-        let mut hands = match self.own.make_hands(alloc, pairs) {
+        let mut hands = match make_hands(self.own, alloc, pairs) {
             Ok(hands) => hands,
             Err(error) => return Err(error),
         };
@@ -149,8 +94,8 @@ impl<'s, 'a, V: ResourceValue + Drop> View<'s, 'a, V> {
             Ok(ids) => ids,
             Err(error) => return Err(error),
         };
-        self.own.move_all_out(pairs, hands.as_mut_slice());
-        self.own.note_all(written);
+        move_all_out(self.own, pairs, hands.as_mut_slice());
+        table::note_all(self.own, written);
         Ok(Parts {
             pairs,
             lender: Snapshot::of(&self.own),
@@ -186,6 +131,6 @@ impl<'p, 'a, V: ResourceValue + Drop> Parts<'p, 'a, V> {
             parted: _,
             mut hands,
         } = self;
-        lender.own.move_all_back(pairs, hands.as_mut_slice());
+        move_all_back(lender.own, pairs, hands.as_mut_slice());
     }
 }

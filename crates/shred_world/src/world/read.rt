@@ -2,20 +2,20 @@
 ghost use Rattle.std.specs.Prelude.{◌≡◌, [], ◌∷◌, Some, None, true, false};
 ghost use Rattle.shred_world.specs.Bundles.{ids_of, AreOut};
 ghost use Rattle.shred_world.specs.Grants.{grant_of, given_back};
-ghost use Rattle.shred_world.specs.Id.{id_of};
+ghost use Rattle.shred_table.specs.Id.{id_of};
 ghost use Rattle.shred_world.specs.Views.{is_out, IsSameLoan};
 ghost use Rattle.shred_world.specs.BundleParts.{read_value, moved_of_read, moved_to_read};
 ghost use Rattle.shred_world.specs.Fetched.{fetched};
 
-use crate::accessor::OutOfMemory;
-use crate::id::ResourceId;
-use crate::resource::{Resource, ResourceValue};
 use crate::world::bundle::SystemData;
 use crate::world::fetch::Fetch;
 use crate::world::handing::Handed;
 use crate::world::setup::{DefaultProvider, PanicHandler, SetupHandler};
 use crate::world::view::{DataError, View};
 use crate::world::{World, WorldError};
+use shred_table::accessor::OutOfMemory;
+use shred_table::id::ResourceId;
+use shred_table::resource::{Resource, ResourceValue};
 use std::alloc::Global;
 use std::marker::PhantomData;
 use std::ops::Deref;

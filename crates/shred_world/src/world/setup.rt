@@ -1,13 +1,13 @@
 //! What sets up a world for a resource.
 ghost use Rattle.std.specs.Prelude.{◌≡◌, Option, Result, Ok};
 ghost use Rattle.shred_world.specs.declared.world.WorldError.{WorldError};
-ghost use Rattle.shred_world.specs.declared.id.ResourceId.{ResourceId};
-ghost use Rattle.shred_world.specs.Id.{id_of};
+ghost use Rattle.shred_table.specs.declared.id.ResourceId.{ResourceId};
+ghost use Rattle.shred_table.specs.Id.{id_of};
 ghost use Rattle.shred_world.specs.Worlds.{world_held, IsProvided};
 
-use crate::id::ResourceId;
-use crate::resource::{Resource, ResourceValue};
 use crate::world::{World, WorldError};
+use shred_table::id::ResourceId;
+use shred_table::resource::{Resource, ResourceValue};
 
 /// Sets up a world for a resource of type `R`.
 pub trait SetupHandler<V: ResourceValue, R: Resource<V>> {

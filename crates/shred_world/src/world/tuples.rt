@@ -2,12 +2,12 @@
 ghost use Rattle.std.specs.Prelude.{◌≡◌, ◌++◌, IfOk};
 ghost use Rattle.shred_world.specs.Bundles.{SetupBoth};
 
-use crate::accessor::OutOfMemory;
-use crate::id::ResourceId;
-use crate::resource::ResourceValue;
 use crate::world::bundle::SystemData;
 use crate::world::view::{DataError, View};
 use crate::world::{World, WorldError};
+use shred_table::accessor::OutOfMemory;
+use shred_table::id::ResourceId;
+use shred_table::resource::ResourceValue;
 use std::alloc::Global;
 
 // The ids of the second list behind those of the first.

@@ -1,18 +1,19 @@
 //! Views: what a system is lent of a world.
 ghost use Rattle.std.specs.Prelude.{◌≡◌, ◌==◌, ◌&&◌, ◌||◌, Bool, None, Some, IfOk, IsTrue, true, false, cond, is_some, length};
 ghost use Rattle.std.specs.Borrow.{sem};
-ghost use Rattle.shred_world.specs.declared.id.ResourceId.{ResourceId};
+ghost use Rattle.shred_table.specs.declared.id.ResourceId.{ResourceId};
 ghost use Rattle.shred_world.specs.Lending.{IsNarrowed};
 ghost use Rattle.shred_world.specs.Lent.{LendsWritten, LendsNarrow};
 ghost use Rattle.std.specs.Option.{option_copied};
 ghost use Rattle.std.specs.Result.{result_err};
 ghost use Rattle.shred_world.specs.Grants.{grant_of, map_grant, table_grant};
-ghost use Rattle.shred_world.specs.Slots.{among, slot_at, held};
-ghost use Rattle.shred_world.specs.Views.{shelf_slot, lent_slot, view_slot, view_held, is_whole, is_own, may_read, may_write, is_vacant, is_out, refusal};
+ghost use Rattle.shred_table.specs.Slots.{among, slots_of, slot_at, held};
+ghost use Rattle.shred_world.specs.Views.{shelf_slot, lent_slot, view_slot, view_held, is_whole, is_own, may_read, may_write, is_out, refusal};
+ghost use Rattle.shred_table.specs.Slots.{is_vacant};
 
-use crate::id::{Kind, ResourceId};
-use crate::resource::{Resource, ResourceValue};
-use crate::table::{Slot, Table};
+use shred_table::id::{Kind, ResourceId};
+use shred_table::resource::{Resource, ResourceValue};
+use shred_table::table::{self, Slot, Table};
 use thiserror::Error;
 
 /// Why a part of the data is not handed out.
@@ -206,7 +207,7 @@ impl<'s, 'a, V: ResourceValue> View<'s, 'a, V> {
         if let Err(error) = self.test::<R>(id, self.may_write(id)) {
             return Err(error);
         }
-        let Some(resource) = self.own.resource_mut::<R>(id) else {
+        let Some(resource) = table::resource_mut::<V, R>(self.own, id) else {
             return Err(DataError::Missing(id));
         };
         Ok(resource)
@@ -243,11 +244,11 @@ impl<'s, 'a, V: ResourceValue> View<'s, 'a, V> {
     // The view of all that a table holds, to read and to write.
     pub(crate) fn whole(own: &'a mut Table<V>) -> Self
         ensures name { result.own.ghost_name ≡ own.entry.ghost_name }
-        ensures slots { result.own.now.slots ≡ own.old.slots }
+        ensures slots { slots_of result.own.now ≡ slots_of own.old }
         ensures whole { is_whole result ≡ true }
         ensures grant { grant_of V.kind_of result ≡ map_grant (held V.kind_of own.old) }
     {
-        own.forget_notes();
+        table::forget_notes(own);
         Self::whole_as_left(own)
     }
 
@@ -281,7 +282,7 @@ impl<'s, 'a, V> View<'s, 'a, V> {
         own: &'a mut Table<V>,
     ) -> Self
         ensures name { result.own.ghost_name ≡ own.entry.ghost_name }
-        ensures slots { result.own.now.slots ≡ own.old.slots }
+        ensures slots { slots_of result.own.now ≡ slots_of own.old }
         ensures reads { result.reads.now ≡ reads.now }
         ensures writes { result.writes.now ≡ writes.now }
         ensures owned { result.owned.now ≡ writes.now }
@@ -289,7 +290,7 @@ impl<'s, 'a, V> View<'s, 'a, V> {
         ensures nothing_out { (id : ResourceId) → is_out result id ≡ false }
         ensures shelf { result.shelf.now ≡ shelf.now }
     {
-        own.forget_notes();
+        table::forget_notes(own);
         View {
             reads,
             writes,

@@ -1,17 +1,17 @@
 //! Resources that are taken of a view to be written.
 ghost use Rattle.std.specs.Prelude.{◌≡◌, [], ◌∷◌, Some, true, false};
-ghost use Rattle.shred_world.specs.Id.{id_of};
+ghost use Rattle.shred_table.specs.Id.{id_of};
 ghost use Rattle.shred_world.specs.BundleParts.{written_value, with_written};
 ghost use Rattle.shred_world.specs.contracts.world.write.Write.{the_row};
 ghost use Rattle.std.specs.Borrow.{Lends, sem};
 
-use crate::accessor::OutOfMemory;
-use crate::id::ResourceId;
-use crate::resource::{Resource, ResourceValue};
 use crate::world::bundle::SystemData;
 use crate::world::setup::{DefaultProvider, PanicHandler, SetupHandler};
 use crate::world::view::{DataError, View};
 use crate::world::{World, WorldError};
+use shred_table::accessor::OutOfMemory;
+use shred_table::id::ResourceId;
+use shred_table::resource::{Resource, ResourceValue};
 use std::alloc::Global;
 use std::marker::PhantomData;
 use std::ops::{Deref, DerefMut};

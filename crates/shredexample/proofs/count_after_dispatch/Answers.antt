@@ -1,10 +1,10 @@
 use Rattle.std.proofs.Common.{◌≡◌, Option, Some, None, Result, IfOk, pos, ℤ, w64, to_z, of_z, List, Contains, sym, ap, subst, ◌∙◌, arith}
 use Rattle.shred_model.specs.Serializable.{IsSerializable}
 use Rattle.shred_model.specs.States.{configuration_of}
-use Rattle.shred_world.specs.declared.id.Kind.{Kind}
-use Rattle.shred_world.specs.declared.id.ResourceId.{ResourceId}
+use Rattle.shred_table.specs.declared.id.Kind.{Kind}
+use Rattle.shred_table.specs.declared.id.ResourceId.{ResourceId}
 use Rattle.shred_world.specs.declared.world.view.DataError.{DataError}
-use Rattle.shred_world.specs.Id.{id_of}
+use Rattle.shred_table.specs.Id.{id_of}
 use Rattle.shred_world.specs.Worlds.{world_held}
 use Rattle.shred.specs.declared.dispatch.dispatcher.DispatchError.{DispatchError}
 use Rattle.shred.specs.Dispatchers.{dispatcher_plan, dispatcher_states}

@@ -1,5 +1,5 @@
 use Rattle.std.proofs.Common.{◌≡◌, ◌≤◌}
-use Rattle.shred_world.specs.declared.id.ResourceId.{ResourceId}
+use Rattle.shred_table.specs.declared.id.ResourceId.{ResourceId}
 use Rattle.shred_world.specs.Worlds.{world_held}
 use Rattle.shredmeasure.specs.Counts.{kind_of, zeros_to}
 use Rattle.shredmeasure.proofs.world_of.Given as goal

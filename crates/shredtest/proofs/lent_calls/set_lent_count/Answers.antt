@@ -1,7 +1,7 @@
 use Rattle.std.proofs.Common.{sym, ap, ◌∙◌}
-use Rattle.shred_world.specs.Id.{id_of}
+use Rattle.shred_table.specs.Id.{id_of}
 use Rattle.shred_world.specs.Grants.{Grant}
-use Rattle.shred_world.specs.Slots.{with_at}
+use Rattle.shred_table.specs.Slots.{with_at}
 use Rattle.shred_world.specs.Worlds.{world_held}
 use Rattle.shredtest.specs.Values.{kind_of, count_kind}
 use Rattle.shredtest.specs.declared.values.Value.{Value}

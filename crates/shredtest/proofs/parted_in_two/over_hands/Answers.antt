@@ -1,9 +1,9 @@
 use Rattle.std.proofs.Common.{[], List, ◌++◌, set, subst, sym}
 use Rattle.std.specs.List.{AllZip}
-use Rattle.shred_world.specs.declared.table.Table.{Table}
+use Rattle.shred_table.specs.declared.table.Table.{Table}
 use Rattle.shred_world.specs.Beside.{lent_behind}
-use Rattle.shred_world.specs.Parts.{Pair, HasNothingOut, HoldsSameIds, IsHandOf}
-use Rattle.shred_world.specs.Shown.{IsSameSlots}
+use Rattle.shred_table.specs.Parts.{Pair, HasNothingOut, HoldsSameIds, IsHandOf}
+use Rattle.shred_table.specs.Shown.{IsSameSlots}
 use Rattle.shredtest.specs.Values.{kind_of}
 use Rattle.shredtest.specs.declared.values.Value.{Value}
 use Rattle.shredtest.proofs.BothHands.{both-given, both-related, both-hold}

@@ -1,13 +1,13 @@
 use Rattle.std.proofs.Common.{List, length, subst, sym, ◌∙◌, ◌&&◌, ap, arith}
 use Rattle.std.specs.Prelude.{is_some}
 use Rattle.std.specs.List.{All, AllZip}
-use Rattle.shred_world.specs.declared.table.Table.{Table}
+use Rattle.shred_table.specs.declared.table.Table.{Table}
 use Rattle.shred_world.specs.Beside.{lent_behind, parted_of}
-use Rattle.shred_world.specs.Parts.{Pair, HasNothingOut, HoldsSameIds, HoldsIdsOf, HoldsWritten, Fits, IsHandOf, written_by}
-use Rattle.shred_world.specs.Shown.{Lent, IsSameSlots}
-use Rattle.shred_world.specs.Slots.{slot_at}
+use Rattle.shred_table.specs.Parts.{Pair, HasNothingOut, HoldsSameIds, HoldsIdsOf, HoldsWritten, Fits, IsHandOf, written_by}
+use Rattle.shred_table.specs.Shown.{Lent, IsSameSlots}
+use Rattle.shred_table.specs.Slots.{slot_at}
 use Rattle.shred_world.proofs.Parted.Beside.{held-kept, same-again}
-use Rattle.shred_world.proofs.Parted.Pairs.{zip-length, written-over}
+use Rattle.shred_table.proofs.Parted.Pairs.{zip-length, written-over}
 use Rattle.shred_world.proofs.Parted.Hands.{fit-again}
 use Rattle.shredtest.specs.Values.{kind_of}
 use Rattle.shredtest.specs.declared.values.Value.{Value}

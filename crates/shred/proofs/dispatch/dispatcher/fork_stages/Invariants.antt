@@ -2,7 +2,7 @@ use Rattle.std.proofs.Common.{◌≡◌, map}
 use Rattle.std.specs.Option.{option_map}
 use Rattle.shred_model.specs.States.{configuration_of, listed_states}
 use Rattle.shred_model.proofs.Joined.UpToFault.{SoFar}
-use Rattle.shred_world.specs.declared.id.ResourceId.{ResourceId}
+use Rattle.shred_table.specs.declared.id.ResourceId.{ResourceId}
 use Rattle.shred_world.specs.Worlds.{world_held}
 use Rattle.shred_stage.specs.Plans.{stage_states}
 use Rattle.shred.specs.PlanRuns.{PlanTurn}

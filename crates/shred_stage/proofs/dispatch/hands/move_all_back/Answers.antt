@@ -1,10 +1,10 @@
 use Rattle.std.proofs.Common.{◌≡◌, Option, cond, get_or, take, refl, sym, ◌∙◌, ap, subst, arith}
 use Rattle.std.proofs.lemmas.List.{take_all}
-use Rattle.shred_world.specs.declared.id.ResourceId.{ResourceId}
-use Rattle.shred_world.specs.declared.table.Slot.{Slot}
-use Rattle.shred_world.specs.Parting.{given, slot_value}
-use Rattle.shred_world.specs.Slots.{slot_at, among}
-use Rattle.shred_world.proofs.Parted.Pairs.{zip-at, zip-more, zip-end}
+use Rattle.shred_table.specs.declared.id.ResourceId.{ResourceId}
+use Rattle.shred_table.specs.declared.table.Slot.{Slot}
+use Rattle.shred_table.specs.Parting.{given, slot_value}
+use Rattle.shred_table.specs.Slots.{slot_at, among}
+use Rattle.shred_table.proofs.Parted.Pairs.{zip-at, zip-more, zip-end}
 use Rattle.shred_stage.specs.Hands.{FitsGroup, IsLeftEmpty, some_writes}
 use Rattle.shred_stage.specs.declared.dispatch.entry.Group.{Group}
 use Rattle.shred_stage.proofs.Runs.Sweeps.{Untouched, untouched-start, untouched-length, joined-more, joined-rest, joined-all}

@@ -1,7 +1,7 @@
 use Rattle.std.proofs.Common.{◌≡◌}
-use Rattle.shred_world.specs.declared.id.ResourceId.{ResourceId}
-use Rattle.shred_world.specs.Slots.{slot_at}
-use Rattle.shred_world.proofs.Parted.Pairs.{ZipTo}
+use Rattle.shred_table.specs.declared.id.ResourceId.{ResourceId}
+use Rattle.shred_table.specs.Slots.{slot_at}
+use Rattle.shred_table.proofs.Parted.Pairs.{ZipTo}
 use Rattle.shred_stage.specs.Hands.{FitsGroup, IsLeftEmpty}
 use Rattle.shred_stage.proofs.Runs.Sweeps.{Untouched, joined}
 use Rattle.shred_stage.proofs.dispatch.hands.move_all_back.Given as goal

@@ -1,10 +1,10 @@
 use Rattle.std.proofs.Common.{◌≡◌, Bool, cond, get_or, take, refl, sym, ◌∙◌, ap, subst, arith}
 use Rattle.std.proofs.lemmas.List.{take_all}
 use Rattle.std.proofs.lemmas.List.Folds.{list_any_more}
-use Rattle.shred_world.specs.declared.id.ResourceId.{ResourceId}
-use Rattle.shred_world.specs.Parting.{emptied}
-use Rattle.shred_world.specs.Slots.{slot_at, among}
-use Rattle.shred_world.proofs.Parted.Pairs.{zip-at, zip-more, zip-end, left-or}
+use Rattle.shred_table.specs.declared.id.ResourceId.{ResourceId}
+use Rattle.shred_table.specs.Parting.{emptied}
+use Rattle.shred_table.specs.Slots.{slot_at, among}
+use Rattle.shred_table.proofs.Parted.Pairs.{zip-at, zip-more, zip-end, left-or}
 use Rattle.shred_stage.specs.Hands.{HasEmptyHand, IsMovedOut, some_writes}
 use Rattle.shred_stage.specs.declared.dispatch.entry.Group.{Group}
 use Rattle.shred_stage.proofs.Runs.Sweeps.{carried-now, Untouched, untouched-start, untouched-length, written-before}

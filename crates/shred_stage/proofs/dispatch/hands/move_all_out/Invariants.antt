@@ -1,8 +1,8 @@
 use Rattle.std.proofs.Common.{◌≡◌, cond, take}
-use Rattle.shred_world.specs.declared.id.ResourceId.{ResourceId}
-use Rattle.shred_world.specs.Parting.{emptied}
-use Rattle.shred_world.specs.Slots.{slot_at}
-use Rattle.shred_world.proofs.Parted.Pairs.{ZipTo}
+use Rattle.shred_table.specs.declared.id.ResourceId.{ResourceId}
+use Rattle.shred_table.specs.Parting.{emptied}
+use Rattle.shred_table.specs.Slots.{slot_at}
+use Rattle.shred_table.proofs.Parted.Pairs.{ZipTo}
 use Rattle.shred_stage.specs.Hands.{HasEmptyHand, IsMovedOut, some_writes}
 use Rattle.shred_stage.proofs.Runs.Sweeps.{Untouched}
 use Rattle.shred_stage.proofs.dispatch.hands.move_all_out.Given as goal

@@ -2,7 +2,7 @@ use Rattle.std.proofs.Common.{◌∙◌, arith}
 use Rattle.std.proofs.Math.Seq.{map-set_same}
 use Rattle.std.proofs.lemmas.List.Elements.{All-set}
 use Rattle.shred_model.proofs.Joined.UpToFault.{SoFar-more, SoFar-fault, SoFar-end}
-use Rattle.shred_world.specs.Shown.{shown}
+use Rattle.shred_table.specs.Shown.{shown}
 use Rattle.shred_world.specs.Views.{lent_slot}
 use Rattle.shred_stage.specs.Entries.{EntryRun, entry_states}
 use Rattle.shred_stage.specs.OwnLists.{IsOwnEntry}

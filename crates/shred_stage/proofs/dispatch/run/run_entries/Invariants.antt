@@ -3,8 +3,8 @@ use Rattle.shred_model.specs.States.{configuration_of, listed_states}
 use Rattle.shred_model.proofs.Joined.UpToFault.{SoFar}
 use Rattle.std.specs.List.{All}
 use Rattle.std.specs.Option.{option_map}
-use Rattle.shred_world.specs.declared.id.ResourceId.{ResourceId}
-use Rattle.shred_world.specs.Shown.{shown, IsSameSlots}
+use Rattle.shred_table.specs.declared.id.ResourceId.{ResourceId}
+use Rattle.shred_table.specs.Shown.{shown, IsSameSlots}
 use Rattle.shred_world.specs.Views.{lent_slot}
 use Rattle.shred_stage.specs.Entries.{EntryRun, entry_states}
 use Rattle.shred_stage.specs.Hands.{HasPlace}

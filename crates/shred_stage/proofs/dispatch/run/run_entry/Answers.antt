@@ -1,5 +1,5 @@
 use Rattle.std.proofs.Common.{refl, Ok, Err}
-use Rattle.shred_world.specs.Shown.{shown}
+use Rattle.shred_table.specs.Shown.{shown}
 use Rattle.shred_world.specs.Views.{lent_slot}
 use Rattle.shred_stage.specs.declared.dispatch.run.StageFault.TheVariants.{System}
 use Rattle.shred_stage.specs.PlanOf.{entry_plan}

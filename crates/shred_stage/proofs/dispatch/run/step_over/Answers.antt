@@ -3,8 +3,8 @@ use Rattle.std.specs.Prelude.{is_some, ◌==◌}
 use Rattle.std.proofs.lemmas.Bool.Decides.{nat_tests}
 use Rattle.shred_stage.specs.Steps.{declared_of}
 use Rattle.shred_stage.proofs.Runs.Viewed.{declared_shown, still_has_slots, still_only_slots}
-use Rattle.shred_world.specs.Shown.{shown}
-use Rattle.shred_world.specs.Slots.{among, kept_at, slot_at}
+use Rattle.shred_table.specs.Shown.{shown}
+use Rattle.shred_table.specs.Slots.{among, kept_at, slot_at}
 use Rattle.shred_world.specs.Views.{lent_slot, is_own, declared_held}
 use Rattle.shred_stage.proofs.dispatch.run.step_over.Goals as goal
 

@@ -1,5 +1,5 @@
 use Rattle.std.proofs.Common.{refl, sym}
-use Rattle.shred_world.proofs.Tables.Slots.{OnSome-here}
+use Rattle.shred_table.proofs.Tables.Slots.{OnSome-here}
 use Rattle.shred_world.proofs.world.World.fetch_mut.Goals as goal
 
 pub returns : goal.returns

@@ -1,7 +1,7 @@
 use Rattle.std.proofs.Common.{◌≡◌, ◌∙◌, refl, ap}
-use Rattle.shred_world.specs.Slots.{slot_held, held}
+use Rattle.shred_table.specs.Slots.{slot_held, held}
 use Rattle.shred_world.proofs.Views.Refusals.{slot-held}
-use Rattle.shred_world.proofs.Tables.Held.{OnSome-map, IfSome-map, option_map-shown, held-written}
+use Rattle.shred_table.proofs.Tables.Held.{OnSome-map, IfSome-map, option_map-shown, held-written}
 use Rattle.shred_world.proofs.world.World.resource_mut.Goals as goal
 
 pub returns : goal.returns

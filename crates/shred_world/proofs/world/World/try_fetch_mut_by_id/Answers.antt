@@ -1,6 +1,6 @@
 use Rattle.std.proofs.Common.{rules, ◌≡◌, refl, sym}
-use Rattle.shred_world.specs.Id.{id_kind}
-use Rattle.shred_world.proofs.Tables.Slots.{OnSome-here}
+use Rattle.shred_table.specs.Id.{id_kind}
+use Rattle.shred_table.proofs.Tables.Slots.{OnSome-here}
 use Rattle.shred_world.proofs.world.World.try_fetch_mut_by_id.Goals as goal
 
 pub returns : goal.returns

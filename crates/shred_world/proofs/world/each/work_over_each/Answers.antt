@@ -1,11 +1,11 @@
 use Rattle.std.proofs.Common.{◌≡◌, ◌<◌, [], length, sym, subst, ◌∙◌, arith, slice_index_or}
 use Rattle.std.proofs.Math.ListN.{length-set}
-use Rattle.shred_world.specs.declared.table.Table.{Table}
-use Rattle.shred_world.specs.Parts.{Pair, IsHandOf}
-use Rattle.shred_world.specs.Shown.{Lent}
+use Rattle.shred_table.specs.declared.table.Table.{Table}
+use Rattle.shred_table.specs.Parts.{Pair, IsHandOf}
+use Rattle.shred_table.specs.Shown.{Lent}
 use Rattle.shred_world.specs.Beside.{lent_behind}
 use Rattle.shred_world.specs.Worked.{IsWorkedOver}
-use Rattle.shred_world.proofs.Parted.Pairs.{zip-length, zip-get}
+use Rattle.shred_table.proofs.Parted.Pairs.{zip-length, zip-get}
 use Rattle.shred_world.proofs.Bundles.Worked.{worked-start, worked-at, worked-more, worked-end}
 use Rattle.shred_world.proofs.world.each.work_over_each.Goals as goal
 

@@ -1,7 +1,7 @@
 use Rattle.std.proofs.Common.{refl, sym, subst, ap, ◌∙◌}
 use Rattle.shred_world.specs.Executed.{IsCalled, MayCall, KeepsIds}
 use Rattle.shred_world.specs.Grants.{Grant, grant_of}
-use Rattle.shred_world.specs.Slots.{held}
+use Rattle.shred_table.specs.Slots.{held}
 use Rattle.shred_world.proofs.Views.Refusals.{whole-held}
 use Rattle.shred_world.proofs.world.exec.call_with.Goals as goal
 

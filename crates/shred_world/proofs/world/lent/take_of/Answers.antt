@@ -1,6 +1,6 @@
 use Rattle.std.proofs.Common.{sym, ◌∙◌, ap}
 use Rattle.shred_world.specs.Grants.{Grant}
-use Rattle.shred_world.specs.Slots.{held}
+use Rattle.shred_table.specs.Slots.{held}
 use Rattle.shred_world.proofs.Views.Refusals.{whole-held}
 use Rattle.shred_world.proofs.Views.Whole.{OnErr-map}
 use Rattle.shred_world.proofs.world.lent.take_of.Goals as goal

@@ -1,7 +1,7 @@
 use Rattle.std.proofs.Common.{◌≡◌, take}
-use Rattle.shred_world.specs.declared.id.ResourceId.{ResourceId}
-use Rattle.shred_world.specs.Parts.{written_by}
-use Rattle.shred_world.specs.Slots.{among}
+use Rattle.shred_table.specs.declared.id.ResourceId.{ResourceId}
+use Rattle.shred_table.specs.Parts.{written_by}
+use Rattle.shred_table.specs.Slots.{among}
 use Rattle.shred_world.proofs.world.parts.written_ids.Given as goal
 
 abbrev pub invariant-loop-pair : goal.invariant-loop-pair

@@ -1,5 +1,5 @@
 use Rattle.std.proofs.Common.{sym, rules, ◌<◌, length}
-use Rattle.shred_world.specs.Id.{same_id}
+use Rattle.shred_table.specs.Id.{same_id}
 use Rattle.shred_stage.specs.PlanOf.{access_of, entry_plan}
 use Rattle.shred_stage.specs.Search.{accesses_conflict}
 use Rattle.shred_stage.proofs.Planner.Membership.{list_any-map_at}

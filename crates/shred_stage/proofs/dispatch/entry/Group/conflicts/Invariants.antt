@@ -1,5 +1,5 @@
 use Rattle.std.proofs.Common.{◌≡◌, false, take, map}
-use Rattle.shred_world.specs.Id.{same_id}
+use Rattle.shred_table.specs.Id.{same_id}
 use Rattle.shred_stage.specs.PlanOf.{access_of, entry_plan}
 use Rattle.shred_stage.specs.Search.{group_conflicts}
 use Rattle.shred_stage.proofs.dispatch.entry.Group.conflicts.Given as goal

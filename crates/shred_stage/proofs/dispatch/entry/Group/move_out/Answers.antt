@@ -1,7 +1,7 @@
 use Rattle.std.proofs.Common.{◌≡◌, cond, List, refl, ◌∙◌, ap, rules}
-use Rattle.shred_world.specs.declared.id.ResourceId.{ResourceId}
-use Rattle.shred_world.specs.Parting.{given, slot_value}
-use Rattle.shred_world.specs.Slots.{slot_at, among}
+use Rattle.shred_table.specs.declared.id.ResourceId.{ResourceId}
+use Rattle.shred_table.specs.Parting.{given, slot_value}
+use Rattle.shred_table.specs.Slots.{slot_at, among}
 use Rattle.shred_stage.proofs.Runs.HandSlots.{moved-in}
 use Rattle.shred_stage.proofs.dispatch.entry.Group.move_out.Goals as goal
 

@@ -1,6 +1,6 @@
 use Rattle.std.proofs.Common.{◌≡◌, List, subst, rules}
-use Rattle.shred_world.specs.declared.id.ResourceId.{ResourceId}
-use Rattle.shred_world.specs.Parting.{IsEmptyHand}
+use Rattle.shred_table.specs.declared.id.ResourceId.{ResourceId}
+use Rattle.shred_table.specs.Parting.{IsEmptyHand}
 use Rattle.shred_stage.proofs.dispatch.entry.Group.new.Goals as goal
 
 pub returns-in-Ok-push-clause-room : goal.returns-in-Ok-push-clause-room

@@ -2,7 +2,7 @@ use Rattle.std.proofs.Common.{◌≡◌, List, length, sym, subst, rules}
 use Rattle.std.proofs.lemmas.List.{with_items_is}
 use Rattle.shred_model.specs.Beside.{AreApart}
 use Rattle.shred_model.specs.Plan.{group_access}
-use Rattle.shred_world.specs.Slots.{held}
+use Rattle.shred_table.specs.Slots.{held}
 use Rattle.shred_stage.specs.PlanOf.{groups_plan}
 use Rattle.shred_stage.specs.declared.dispatch.entry.Group.{Group}
 use Rattle.shred_stage.specs.Turns.{TookTurn}

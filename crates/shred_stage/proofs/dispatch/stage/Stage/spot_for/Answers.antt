@@ -1,5 +1,5 @@
 use Rattle.std.proofs.Common.{◌∙◌}
-use Rattle.shred_world.specs.Id.{same_id}
+use Rattle.shred_table.specs.Id.{same_id}
 use Rattle.shred_stage.specs.PlanOf.{entry_plan, numbers_of}
 use Rattle.shred_stage.specs.StagePlan.{stage_plan}
 use Rattle.shred_stage.proofs.Planner.Ids.{same_id-Agrees, length-numbers_of}

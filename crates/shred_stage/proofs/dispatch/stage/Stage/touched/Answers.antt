@@ -1,5 +1,5 @@
 use Rattle.std.proofs.Common.{◌≡◌, ◌<◌, ◌≤◌, length, get_or, rules, sym, ◌∙◌}
-use Rattle.shred_world.specs.Id.{same_id}
+use Rattle.shred_table.specs.Id.{same_id}
 use Rattle.shred_stage.specs.PlanOf.{access_of, group_plan, numbers_of}
 use Rattle.shred_stage.specs.Search.{is_touched}
 use Rattle.shred_stage.proofs.Planner.Touching.{touched_stays, touched_first, touched_second, touched_all}

@@ -1,5 +1,5 @@
 use Rattle.std.proofs.Common.{◌≡◌, true, sym, ◌∙◌}
-use Rattle.shred_world.specs.Slots.{among}
+use Rattle.shred_table.specs.Slots.{among}
 use Rattle.shred_world.proofs.world.view.Shelf.+slot.Goals as goal
 
 pub returns-then-contains : goal.returns-then-contains

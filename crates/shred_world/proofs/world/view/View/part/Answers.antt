@@ -1,9 +1,9 @@
 use Rattle.std.proofs.Common.{rules, length, refl, sym, subst, ◌∙◌, ap}
 use Rattle.std.specs.List.{All, AllZip}
-use Rattle.shred_world.specs.declared.id.ResourceId.{ResourceId}
-use Rattle.shred_world.specs.Slots.{kept_at, slot_at}
-use Rattle.shred_world.specs.Parts.{written_by, HasNothingOut, HasRoom, HoldsWritten}
-use Rattle.shred_world.proofs.Parted.Pairs.{zip-length, written-over}
+use Rattle.shred_table.specs.declared.id.ResourceId.{ResourceId}
+use Rattle.shred_table.specs.Slots.{kept_at, slot_at}
+use Rattle.shred_table.specs.Parts.{written_by, HasNothingOut, HasRoom, HoldsWritten}
+use Rattle.shred_table.proofs.Parted.Pairs.{zip-length, written-over}
 use Rattle.shred_world.proofs.Bundles.Grants.{same_loan}
 use Rattle.shred_world.proofs.Parted.Beside.{left-slots}
 use Rattle.shred_world.proofs.Parted.Hands.{parted-hands, parted-fit, parted-shown, parted-others, parted-out}
@@ -24,9 +24,9 @@ returns-clause-parted g c =
       hands = hold;
       parted = search rules;
       nothing_out = subst (All HasNothingOut) (sym same) c.move_all_out.ensures.nothing_out;
-      of_pairs = parted-hands pairs c.args.self.now c.note_all.new.self _ left c.requires.writes_within hold;
-      fit = parted-fit pairs was c.note_all.new.self _ left hold;
-      shown = parted-shown pairs c.args.self.now c.note_all.new.self _ left c.requires.apart c.requires.writes_within hold;
+      of_pairs = parted-hands pairs c.args.self.now c.note_all.new.table _ left c.requires.writes_within hold;
+      fit = parted-fit pairs was c.note_all.new.table _ left hold;
+      shown = parted-shown pairs c.args.self.now c.note_all.new.table _ left c.requires.apart c.requires.writes_within hold;
       left = left;
     }
 
@@ -34,12 +34,12 @@ pub returns-clause-out : goal.returns-clause-out
 returns-clause-out g c =
     let left = λ (q : ResourceId). ap (λ slots. kept_at slots q) c.note_all.ensures.slots ∙ c.move_all_out.ensures.left q in
     let noted = λ (q : ResourceId). c.note_all.ensures.noted q ∙ c.in-Ok-written_ids.ensures q in
-    parted-out c.args.pairs.now c.args.self.now c.note_all.new.self left noted c.requires.writes_within
+    parted-out c.args.pairs.now c.args.self.now c.note_all.new.table left noted c.requires.writes_within
 
 pub returns-clause-loan : goal.returns-clause-loan
 returns-clause-loan g c =
     let s = c.args.self.now in
     let left = λ (q : ResourceId). ap (λ slots. kept_at slots q) c.note_all.ensures.slots ∙ c.move_all_out.ensures.left q in
     same_loan g.V.ResourceValue.kind_of s _ refl refl refl refl refl refl
-    (λ q. left-slots (written_by c.args.pairs.now q) (slot_at s.own.now q) (slot_at c.note_all.new.self q) (left q))
-    (parted-others c.args.pairs.now s c.note_all.new.self left c.requires.writes_within)
+    (λ q. left-slots (written_by c.args.pairs.now q) (slot_at s.own.now q) (slot_at c.note_all.new.table q) (left q))
+    (parted-others c.args.pairs.now s c.note_all.new.table left c.requires.writes_within)

@@ -1,9 +1,9 @@
 use Rattle.std.proofs.Common.{◌&&◌, Bool, cond, List, sym, subst, ◌∙◌, ap}
 use Rattle.std.specs.Prelude.{is_some}
 use Rattle.std.specs.List.{AllZip}
-use Rattle.shred_world.specs.declared.table.Table.{Table}
-use Rattle.shred_world.specs.Parts.{Pair, written_by, HoldsSameIds, HoldsIdsOf, Fits, IsHandOf, IsJoined}
-use Rattle.shred_world.specs.Slots.{slot_at}
+use Rattle.shred_table.specs.declared.table.Table.{Table}
+use Rattle.shred_table.specs.Parts.{Pair, written_by, HoldsSameIds, HoldsIdsOf, Fits, IsHandOf, IsJoined}
+use Rattle.shred_table.specs.Slots.{slot_at}
 use Rattle.shred_world.specs.Views.{lent_slot, view_slot}
 use Rattle.shred_world.specs.Worked.{IsWorkedEach}
 use Rattle.shred_world.proofs.Parted.Beside.{held-kept, same-again}

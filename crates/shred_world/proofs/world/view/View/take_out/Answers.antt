@@ -1,9 +1,9 @@
 use Rattle.std.proofs.Common.{◌≡◌, ◌||◌, true, not, sym, ap, ◌∙◌}
 use Rattle.std.specs.Prelude.{is_some}
 use Rattle.shred_world.specs.Handing.{moved_value}
-use Rattle.shred_world.specs.Id.{same_id}
-use Rattle.shred_world.specs.Parting.{emptied}
-use Rattle.shred_world.specs.Slots.{slot_at, with_at}
+use Rattle.shred_table.specs.Id.{same_id}
+use Rattle.shred_table.specs.Parting.{emptied}
+use Rattle.shred_table.specs.Slots.{slot_at, with_at}
 use Rattle.shred_world.specs.Views.{is_own, noted}
 use Rattle.shred_world.proofs.Bundles.Grants.{slots_with, others_with, emptied-some, some-found, same_loan, grant_after}
 use Rattle.shred_world.proofs.Views.Refusals.{own_held}

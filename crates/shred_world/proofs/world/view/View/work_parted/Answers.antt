@@ -1,12 +1,12 @@
 use Rattle.std.proofs.Common.{◌≡◌, List, length, sym, subst, ◌∙◌, ap, arith}
 use Rattle.std.specs.List.{AllZip}
-use Rattle.shred_world.specs.declared.table.Table.{Table}
+use Rattle.shred_table.specs.declared.table.Table.{Table}
 use Rattle.shred_world.specs.Beside.{lent_behind}
-use Rattle.shred_world.specs.Parts.{Pair, IsHandOf}
-use Rattle.shred_world.specs.Shown.{Lent, IsSameSlots}
+use Rattle.shred_table.specs.Parts.{Pair, IsHandOf}
+use Rattle.shred_table.specs.Shown.{Lent, IsSameSlots}
 use Rattle.shred_world.specs.Views.{view_slot}
 use Rattle.shred_world.specs.Worked.{IsWorkedEach}
-use Rattle.shred_world.proofs.Parted.Pairs.{zip-length, written-over}
+use Rattle.shred_table.proofs.Parted.Pairs.{zip-length, written-over}
 use Rattle.shred_world.proofs.Bundles.Worked.{each-slots}
 use Rattle.shred_world.proofs.world.view.View.work_parted.Goals as goal
 

@@ -1,10 +1,10 @@
 use Rattle.std.proofs.Common.{◌≡◌, Option, Some, None, true, cond, refl, sym, ap, ◌∙◌}
 use Rattle.std.specs.Prelude.{is_some}
 use Rattle.shred_world.specs.declared.world.view.DataError.TheVariants.{Missing}
-use Rattle.shred_world.specs.Slots.{slot_held}
+use Rattle.shred_table.specs.Slots.{slot_held}
 use Rattle.shred_world.specs.Views.{view_held, may_write, is_out}
 use Rattle.shred_world.proofs.Views.Refusals.{refusal-passed, refusal-rest, written-own, written-held, slot-held}
-use Rattle.shred_world.proofs.Tables.Slots.{OnSome-here}
+use Rattle.shred_table.proofs.Tables.Slots.{OnSome-here}
 use Rattle.shred_world.proofs.Views.Shown.{view_kept, view_written}
 use Rattle.shred_world.proofs.world.view.View.write.Goals as goal
 

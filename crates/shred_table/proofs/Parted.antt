@@ -1,0 +1,2 @@
+-- Lists of pairs, and their hands.
+pub mod Pairs

@@ -1,0 +1,8 @@
+-- Slots of tables, and values that move between them.
+pub mod Finite
+mod IdOrder
+pub mod InOrder
+pub mod Ids
+pub mod Slots
+pub mod Held
+pub mod Moves

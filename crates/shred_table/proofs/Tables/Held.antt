@@ -1,0 +1,51 @@
+-- What a table holds after a slot of it was written or taken away.
+use Rattle.std.proofs.Common.{◌≡◌, Bool, true, false, Option, Some, None, cond, nat_eq, refl, sym, ◌∙◌, ap, arith}
+use Rattle.std.specs.Prelude.{OnSome, IfSome, IfNone}
+use Rattle.std.specs.Option.{option_map}
+use Rattle.std.proofs.lemmas.Bool.Decides.{nat_tests}
+use Rattle.shred_table.specs.declared.id.Kind.{Kind}
+use Rattle.shred_table.specs.declared.id.ResourceId.{ResourceId}
+use Rattle.shred_table.specs.declared.table.Table.{Table}
+use Rattle.shred_table.specs.Id.{same_id}
+use Rattle.shred_table.specs.Slots.{slot_at, slot_held, held, with_at, without_at}
+use Rattle.shred_table.proofs.Tables.Slots.{same_id-true}
+
+-- what follows from a fact, where there is a value
+pub OnSome-map : {X P Q : Type 0} (o : Option X) → (P → Q) → OnSome o P → OnSome o Q
+OnSome-map (Some x) f h = f h
+OnSome-map None f h = tt
+
+-- what follows from a fact on the value, where there is one
+pub IfSome-map : {X : Type 0} {P Q : X → Type 0} (o : Option X) → ((x : X) → P x → Q x) → IfSome o P → IfSome o Q
+IfSome-map (Some x) f h = f x h
+IfSome-map None f h = tt
+
+-- what is shown of each value, and of none
+pub option_map-shown : {X V : Type 0} (f : X → V) (o : Option X) (h : Option V) → IfSome o (λ x. h ≡ Some (f x)) → IfNone o (h ≡ None) → option_map f o ≡ h
+option_map-shown f (Some x) h some none = sym some
+option_map-shown f None h some none = sym none
+
+module _ {V : Type 0} (kind : V → Kind) (t n : Table V) (id : ResourceId) where
+  -- the value v of the id's kind was written
+  pub held-written : (v : V) → kind v ≡ id.kind → ((q : ResourceId) → slot_at n q ≡ with_at (slot_at t) id (Some (record { value = Some v })) q) → (q : ResourceId) → held kind n q ≡ with_at (held kind t) id (Some v) q
+  held-written v of is q = ap (slot_held kind q) (is q) ∙ told (same_id id q) refl where
+    right : same_id id q ≡ true → nat_eq (kind v).0 q.kind.0 ≡ true
+    right e = let k : (kind v).0 ≡ q.kind.0 = (λ i. (of i).0) ∙ (λ i. (same_id-true id q e i).kind.0) in grind (arith, nat_tests)
+
+    told : (b : Bool) → same_id id q ≡ b → slot_held kind q (cond b (Some (record { value = Some v })) (slot_at t q)) ≡ cond b (Some v) (held kind t q)
+    told true e = rw (right e) refl
+    told false e = refl
+
+  -- the slot was taken away
+  pub held-removed : ((q : ResourceId) → slot_at n q ≡ with_at (slot_at t) id None q) → (q : ResourceId) → held kind n q ≡ without_at (held kind t) id q
+  held-removed is q = ap (slot_held kind q) (is q) ∙ told (same_id id q) where
+    told : (b : Bool) → slot_held kind q (cond b None (slot_at t q)) ≡ cond b None (held kind t q)
+    told true = refl
+    told false = refl
+
+  -- the slot was emptied
+  pub held-emptied : ((q : ResourceId) → slot_at n q ≡ with_at (slot_at t) id (Some (record { value = None })) q) → (q : ResourceId) → held kind n q ≡ without_at (held kind t) id q
+  held-emptied is q = ap (slot_held kind q) (is q) ∙ told (same_id id q) where
+    told : (b : Bool) → slot_held kind q (cond b (Some (record { value = None })) (slot_at t q)) ≡ cond b None (held kind t q)
+    told true = refl
+    told false = refl

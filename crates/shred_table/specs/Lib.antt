@@ -1,0 +1,9 @@
+pub mod Id
+pub mod InOrder
+pub mod Listed
+pub mod Slots
+pub mod Lent
+pub mod Parting
+pub mod Shown
+pub mod Parts
+pub mod Accessors

@@ -1,0 +1,74 @@
+//! Hands for several pairs of lists of ids: what each pair writes is moved into its hand, and back.
+ghost use Rattle.std.specs.Prelude.{◌≡◌, IsTrue, false, cond, is_some, IfOk};
+ghost use Rattle.std.specs.List.{All, AllZip};
+ghost use Rattle.shred_table.specs.declared.id.ResourceId.{ResourceId};
+ghost use Rattle.shred_table.specs.Parting.{emptied};
+ghost use Rattle.shred_table.specs.Parts.{DoNotConflict, written_by, HasNothingOut, HasRoom, HoldsWritten, Fits, IsJoined};
+ghost use Rattle.shred_table.specs.Slots.{slot_at, noted_in};
+
+use crate::accessor::OutOfMemory;
+use crate::id::ResourceId;
+use crate::parting::{move_back, move_out};
+use crate::table::{Table, forget_notes};
+use std::alloc::Global;
+
+/// A hand for each pair, with room for what the pair writes.
+pub fn make_hands<V: Drop>(
+    table: &Table<V>,
+    alloc: Global,
+    pairs: &[(&[ResourceId], &[ResourceId])],
+) -> Result<Vec<Table<V>>, OutOfMemory>
+    ensures { IfOk result (λ hands. AllZip (HasRoom table.now) pairs.now hands.items) }
+{
+    let mut hands = Vec::new(alloc);
+    for pair in pairs {
+        let mut hand = Table::hand(alloc);
+        if let Err(error) = table.make_room(pair.1, &mut hand) {
+            return Err(error);
+        }
+        match hands.push(hand) {
+            Ok(()) => {}
+            Err(_) => return Err(OutOfMemory),
+        }
+    }
+    Ok(hands)
+}
+
+/// Moves what each pair writes into its hand.
+pub fn move_all_out<V: Drop>(
+    table: &mut Table<V>,
+    pairs: &[(&[ResourceId], &[ResourceId])],
+    hands: &mut [Table<V>],
+)
+    requires apart { DoNotConflict pairs.now }
+    requires room { AllZip (HasRoom table.old) pairs.now hands.old }
+    ensures hands { AllZip (HoldsWritten table.old) pairs.now hands.new }
+    ensures nothing_out { All HasNothingOut hands.new }
+    ensures left { (q : ResourceId) → slot_at table.new q ≡ cond (written_by pairs.now q) (emptied (slot_at table.old q)) (slot_at table.old q) }
+{
+    for i in 0..pairs.len() {
+        let hand = &mut hands[i];
+        move_out(table, pairs[i].1, hand);
+        forget_notes(hand);
+    }
+}
+
+/// Moves what is in the hands back. Then no value is handed out.
+pub fn move_all_back<V: Drop>(
+    table: &mut Table<V>,
+    pairs: &[(&[ResourceId], &[ResourceId])],
+    hands: &mut [Table<V>],
+)
+    requires apart { DoNotConflict pairs.now }
+    requires fit { AllZip (Fits table.old) pairs.now hands.old }
+    requires empty { (q : ResourceId) → IsTrue (written_by pairs.now q) → slot_at table.old q ≡ emptied (slot_at table.old q) }
+    ensures joined { AllZip (IsJoined table.new) pairs.now hands.old }
+    ensures rest { (q : ResourceId) → written_by pairs.now q ≡ false → slot_at table.new q ≡ slot_at table.old q }
+    ensures slots { (q : ResourceId) → is_some (slot_at table.new q) ≡ is_some (slot_at table.old q) }
+    ensures noted { (q : ResourceId) → noted_in table.new q ≡ false }
+{
+    for i in 0..pairs.len() {
+        move_back(table, pairs[i].1, &mut hands[i]);
+    }
+    forget_notes(table);
+}

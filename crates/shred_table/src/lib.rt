@@ -1,0 +1,18 @@
+//! Resources, their ids, and tables of slots for them, between which values move.
+#![tactic(auto)]
+
+pub mod accessor;
+pub mod hands;
+pub mod id;
+mod listed;
+pub mod parting;
+pub mod resource;
+mod store;
+pub mod table;
+pub mod util;
+
+pub use accessor::{Accessor, BatchAccessor, OutOfMemory};
+pub use id::{Kind, ResourceId};
+pub use resource::{Resource, ResourceValue};
+pub use table::{Slot, Table};
+pub use util::check_intersection;

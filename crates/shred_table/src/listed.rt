@@ -1,0 +1,94 @@
+//! A list of a few slots, in the order of their ids.
+ghost use Rattle.std.specs.Prelude.{◌≡◌, ℕ, ◌<◌, ◌≤◌, length, AllPairs, None, Some, Option, IfOk, IfErr, OnOk, OnErr};
+ghost use Rattle.std.specs.Borrow.{sem};
+ghost use Rattle.std.specs.Option.{option_copied, option_copied_mut};
+ghost use Rattle.std.proofs.Props.{props};
+ghost use Rattle.shred_table.specs.InOrder.{ComesBefore};
+ghost use Rattle.shred_table.specs.declared.id.ResourceId.{ResourceId};
+
+use crate::accessor::OutOfMemory;
+use crate::id::ResourceId;
+use crate::table::Slot;
+use std::alloc::Global;
+
+/// Slots in the order of their ids. A slot is found by halving the list.
+#[derive(Drop)]
+pub(crate) struct Listed<V> {
+    slots: Vec<(ResourceId, Slot<V>)>,
+    ghost sorted: { AllPairs ComesBefore slots.items } by { Prim.hlevel props },
+}
+
+impl<V> Listed<V> {
+    ghost use Rattle.shred_table.specs.Lent.{LendsListed};
+    ghost use Rattle.shred_table.specs.Listed.{listed_at, IsPlaceOf, IsGapFor};
+    ghost use Rattle.shred_table.specs.Slots.{with_at};
+
+    // No slots. It takes no memory.
+    pub(crate) fn new(alloc: Global) -> Self
+        ensures { (id : ResourceId) → listed_at result id ≡ None }
+    {
+        Listed {
+            slots: Vec::new(alloc),
+        }
+    }
+
+    // Where the slot of the id is, or where it would go.
+    fn place(&self, id: ResourceId) -> Result<usize, usize>
+        ensures found { IfOk result (IsPlaceOf id self.now.slots.items) }
+        ensures gap { IfErr result (IsGapFor id self.now.slots.items) }
+    {
+        self.slots.binary_search_by_key(&id, |slot| slot.0)
+    }
+
+    // The slot of an id.
+    pub(crate) fn get(&self, id: ResourceId) -> Option<&Slot<V>>
+        ensures { option_copied result ≡ listed_at self.now id }
+    {
+        match self.place(id) {
+            Ok(place) => Some(&self.slots[place].1),
+            Err(_) => None,
+        }
+    }
+
+    // The slot of an id, to write.
+    pub(crate) fn get_mut(&mut self, id: ResourceId) -> Option<&mut Slot<V>>
+        ensures shown { option_copied_mut result ≡ listed_at self.old id }
+        ensures* written { sem 𝓛 (LendsListed V.row self.entry id result) }
+    {
+        match self.place(id) {
+            Ok(place) => Some(&mut self.slots[place].1),
+            Err(_) => None,
+        }
+    }
+
+    // Gives the id this slot, in the place of the one that it has. If memory is refused, it had none and has none.
+    pub(crate) fn insert(&mut self, id: ResourceId, slot: Slot<V>) -> Result<(), OutOfMemory>
+    where
+        V: Drop,
+        ensures ok { OnOk result ((q : ResourceId) → listed_at self.new q ≡ with_at (listed_at self.old) id (Some slot) q) }
+        ensures err { OnErr result ((q : ResourceId) → listed_at self.new q ≡ listed_at self.old q) }
+        ensures no_room { OnErr result (listed_at self.old id ≡ None) }
+    {
+        match self.place(id) {
+            Ok(place) => {
+                self.slots[place].1 = slot;
+                Ok(())
+            }
+            Err(place) => match self.slots.insert(place, (id, slot)) {
+                Ok(()) => Ok(()),
+                Err(_) => Err(OutOfMemory),
+            },
+        }
+    }
+
+    // Takes the slot of an id away.
+    pub(crate) fn remove(&mut self, id: ResourceId) -> Option<Slot<V>>
+        ensures value { result ≡ listed_at self.old id }
+        ensures after { (q : ResourceId) → listed_at self.new q ≡ with_at (listed_at self.old) id None q }
+    {
+        match self.place(id) {
+            Ok(place) => Some(self.slots.remove(place).1),
+            Err(_) => None,
+        }
+    }
+}

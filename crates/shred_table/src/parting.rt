@@ -1,0 +1,103 @@
+//! Moving the values of some ids from a table into another one, and back.
+ghost use Rattle.std.specs.Prelude.{◌≡◌, ◌&&◌, IsTrue, IfOk, None, OnOk, OnErr, cond, is_some, Some};
+ghost use Rattle.shred_table.specs.declared.id.ResourceId.{ResourceId};
+ghost use Rattle.shred_table.specs.Parting.{IsEmptyHand, IsRoom, IsSpare, emptied, slot_value, given};
+ghost use Rattle.shred_table.specs.Slots.{slot_at, with_at, among};
+
+use crate::accessor::OutOfMemory;
+use crate::id::ResourceId;
+use crate::table::{Table, fill, open, take};
+use std::alloc::Global;
+
+/// A hand with an empty slot for each of these ids, and with no other slot. The dispatcher makes such hands; `View::part`
+/// makes its own.
+pub fn empty_hand<V: Drop>(alloc: Global, ids: &[ResourceId]) -> Result<Table<V>, OutOfMemory>
+    ensures { IfOk result (IsEmptyHand ids.now) }
+{
+    let mut hand = Table::hand(alloc);
+    for id in ids {
+        match open(&mut hand, *id) {
+            Ok(()) => {}
+            Err(error) => return Err(error),
+        }
+    }
+    Ok(hand)
+}
+
+impl<V: Drop> Table<V> {
+    // Gives the hand an empty slot for the id where this table has a slot, and no slot where it has none.
+    fn fit(&self, id: ResourceId, hand: &mut Table<V>) -> Result<(), OutOfMemory>
+        requires { slot_at hand.old id ≡ emptied (slot_at hand.old id) }
+        ensures ok { OnOk result ((q : ResourceId) → slot_at hand.new q ≡ with_at (slot_at hand.old) id (emptied (slot_at self.now id)) q) }
+        ensures err { OnErr result ((q : ResourceId) → slot_at hand.new q ≡ slot_at hand.old q) }
+    {
+        if self.slot(id).is_none() {
+            hand.close(id);
+            return Ok(());
+        }
+        if hand.slot(id).is_some() {
+            return Ok(());
+        }
+        open(hand, id)
+    }
+
+    // Makes the empty slots into which the values of these ids can be moved out. A hand that has them already takes
+    // no memory; if memory is refused, the hand has empty slots for some of the ids.
+    pub(crate) fn make_room(
+        &self,
+        ids: &[ResourceId],
+        hand: &mut Table<V>,
+    ) -> Result<(), OutOfMemory>
+        requires { IsSpare ids.now hand.old }
+        ensures room { OnOk result (IsRoom self.now ids.now hand.new) }
+        ensures spare { OnErr result (IsSpare ids.now hand.new) }
+    {
+        for id in ids {
+            match self.fit(*id, hand) {
+                Ok(()) => {}
+                Err(error) => return Err(error),
+            }
+        }
+        Ok(())
+    }
+
+    // Moves the value of an id, where there is one, into the slot of another table.
+    fn move_one(&mut self, id: ResourceId, to: &mut Table<V>)
+        ensures from { (q : ResourceId) → slot_at self.new q ≡ with_at (slot_at self.old) id (emptied (slot_at self.old id)) q }
+        ensures to { (q : ResourceId) → slot_at to.new q ≡ with_at (slot_at to.old) id (given (slot_value (slot_at self.old id)) (slot_at to.old id)) q }
+    {
+        if let Some(value) = take(self, id) {
+            fill(to, id, value);
+        }
+    }
+}
+
+/// Moves the values of these ids into the slots that another table has for them; their own slots stay, empty. A value for
+/// which the other table has no slot is dropped.
+pub fn move_each<V: Drop>(from: &mut Table<V>, ids: &[ResourceId], to: &mut Table<V>)
+    ensures from { (q : ResourceId) → slot_at from.new q ≡ cond (among ids.now q) (emptied (slot_at from.old q)) (slot_at from.old q) }
+    ensures to { (q : ResourceId) → slot_at to.new q ≡ cond (among ids.now q) (given (slot_value (slot_at from.old q)) (slot_at to.old q)) (slot_at to.old q) }
+{
+    for id in ids {
+        from.move_one(*id, to);
+    }
+}
+
+/// Moves the values of these ids into the hand; their slots stay, empty.
+pub fn move_out<V: Drop>(table: &mut Table<V>, ids: &[ResourceId], hand: &mut Table<V>)
+    requires { IsRoom table.old ids.now hand.old }
+    ensures hand { (q : ResourceId) → slot_at hand.new q ≡ cond (among ids.now q) (slot_at table.old q) None }
+    ensures left { (q : ResourceId) → slot_at table.new q ≡ cond (among ids.now q) (emptied (slot_at table.old q)) (slot_at table.old q) }
+{
+    move_each(table, ids, hand);
+}
+
+/// Moves the values of these ids back from the hand into their slots; the hand's slots stay, empty.
+pub fn move_back<V: Drop>(table: &mut Table<V>, ids: &[ResourceId], hand: &mut Table<V>)
+    requires slots { (q : ResourceId) → is_some (slot_at hand.old q) ≡ (among ids.now q && is_some (slot_at table.old q)) }
+    requires empty { (q : ResourceId) → IsTrue (among ids.now q) → slot_at table.old q ≡ emptied (slot_at table.old q) }
+    ensures back { (q : ResourceId) → slot_at table.new q ≡ cond (among ids.now q) (slot_at hand.old q) (slot_at table.old q) }
+    ensures hand { (q : ResourceId) → slot_at hand.new q ≡ emptied (slot_at hand.old q) }
+{
+    move_each(hand, ids, table);
+}

@@ -1,0 +1,260 @@
+//! A table of slots, each of one id; the value of a slot may be moved out of it and back.
+ghost use Rattle.std.specs.Prelude.{◌≡◌, ◌≢◌, ◌||◌, false, IfNone, IfSome, None, Some, MatchOption, OnOk, OnErr, IfOk, IfErr};
+ghost use Rattle.std.specs.Option.{option_copied, option_copied_mut};
+ghost use Rattle.std.specs.Borrow.{sem};
+ghost use Rattle.shred_table.specs.Slots.{slots_of, slot_at, noted_in, among, of_kind, held, slot_held, with_at};
+ghost use Rattle.shred_table.specs.Id.{id_kind, same_id};
+ghost use Rattle.shred_table.specs.Parting.{emptied, slot_value, filled};
+ghost use Rattle.shred_table.specs.Lent.{LendsSlot, LendsValue, LendsResource, LendsHeld};
+ghost use Rattle.shred_table.specs.declared.id.ResourceId.{ResourceId};
+
+use crate::accessor::OutOfMemory;
+use crate::id::ResourceId;
+use crate::listed::Listed;
+use crate::resource::{Resource, ResourceValue};
+use crate::store::Slots;
+use std::alloc::Global;
+use std::collections::HashMap;
+use std::mem;
+
+/// The place of a value; it stays while the value is moved out.
+#[derive(Drop)]
+pub struct Slot<V> {
+    /// The value, where it was not moved out.
+    pub value: Option<V>,
+}
+
+impl<V> Slot<V> {
+    /// The value, where it is of the id's kind.
+    pub fn held(&self, id: ResourceId) -> Option<&V>
+    where
+        V: ResourceValue,
+        ensures { option_copied result ≡ of_kind V.kind_of id self.now.value }
+    {
+        match &self.value {
+            Some(value) => {
+                if value.kind() == id.kind() {
+                    Some(value)
+                } else {
+                    None
+                }
+            }
+            None => None,
+        }
+    }
+
+    fn value_mut(&mut self) -> Option<&mut V>
+        ensures shown { MatchOption result (self.old.value ≡ None) (λ r. self.old.value ≡ Some r.now) }
+        ensures* written { sem 𝓛 (LendsValue V.row self.entry result) }
+    {
+        self.value.as_mut()
+    }
+
+    fn resource_mut<R: Resource<V>>(&mut self) -> Option<&mut R>
+    where
+        V: ResourceValue,
+        ensures shown { MatchOption result (IfSome self.old.value (λ v. V.kind_of v ≢ R.KIND)) (λ r. self.old.value ≡ Some (R.wrapped r.now)) }
+        ensures* written { sem 𝓛 (LendsResource V.row R.row R.wrapped self.entry result) }
+    {
+        let value = self.value_mut()?;
+        R::view_mut(value)
+    }
+
+    /// The resource that the slot has, out of it.
+    pub fn into_resource<R: Resource<V>>(self) -> Option<R>
+    where
+        V: ResourceValue + Drop,
+        ensures { MatchOption result (IfSome self.value (λ v. V.kind_of v ≢ R.KIND)) (λ r. self.value ≡ Some (R.wrapped r)) }
+    {
+        let Some(value) = self.value else {
+            return None;
+        };
+        match R::unwrap(value) {
+            Ok(resource) => Some(resource),
+            Err(_) => None,
+        }
+    }
+}
+
+/// Slots by id, and the ids whose values are noted as handed out.
+#[derive(Drop)]
+pub struct Table<V> {
+    slots: Slots<V>,
+    out: Vec<ResourceId>,
+}
+
+impl<V> Table<V> {
+    /// A world's table, without slots. It takes no memory.
+    pub fn new(alloc: Global) -> Self
+        ensures { (id : ResourceId) → slot_at result id ≡ None }
+    {
+        Table {
+            slots: Slots::Hashed(HashMap::new(alloc)),
+            out: Vec::new(alloc),
+        }
+    }
+
+    // A hand, without slots. It takes no memory.
+    pub(crate) fn hand(alloc: Global) -> Self
+        ensures { (id : ResourceId) → slot_at result id ≡ None }
+    {
+        Table {
+            slots: Slots::Listed(Listed::new(alloc)),
+            out: Vec::new(alloc),
+        }
+    }
+
+    /// Whether the id's value was noted as handed out.
+    pub fn has_note(&self, id: ResourceId) -> bool
+        ensures { result ≡ noted_in self.now id }
+    {
+        self.out.contains(&id)
+    }
+
+    /// The slot of an id.
+    pub fn slot(&self, id: ResourceId) -> Option<&Slot<V>>
+        ensures { option_copied result ≡ slot_at self.now id }
+    {
+        self.slots.get(id)
+    }
+
+    /// The value that is held under an id.
+    pub fn get(&self, id: ResourceId) -> Option<&V>
+    where
+        V: ResourceValue,
+        ensures { option_copied result ≡ held V.kind_of self.now id }
+    {
+        match self.slot(id) {
+            Some(slot) => slot.held(id),
+            None => None,
+        }
+    }
+
+    // Takes the slot of an id away, with its value.
+    pub(crate) fn close(&mut self, id: ResourceId)
+    where
+        V: Drop,
+        ensures { (q : ResourceId) → slot_at self.new q ≡ with_at (slot_at self.old) id None q }
+    {
+        let _ = self.slots.remove(id);
+    }
+
+    // The slot of an id, to write.
+    pub(crate) fn slot_mut(&mut self, id: ResourceId) -> Option<&mut Slot<V>>
+        ensures shown { option_copied_mut result ≡ slot_at self.old id }
+        ensures* written { sem 𝓛 (LendsSlot V.row self.entry id result) }
+    {
+        self.slots.get_mut(id)
+    }
+}
+
+/// Forgets which values were noted as handed out; the room for notes stays.
+pub fn forget_notes<V>(table: &mut Table<V>)
+    ensures slots { slots_of table.new ≡ slots_of table.old }
+    ensures noted { (q : ResourceId) → noted_in table.new q ≡ false }
+{
+    table.out.clear();
+}
+
+/// Notes just these ids.
+pub fn note_all<V>(table: &mut Table<V>, ids: Vec<ResourceId>)
+    ensures slots { slots_of table.new ≡ slots_of table.old }
+    ensures noted { (q : ResourceId) → noted_in table.new q ≡ among ids.items q }
+{
+    table.out = ids;
+}
+
+/// Notes that the id's value is handed out.
+pub fn note<V>(table: &mut Table<V>, id: ResourceId) -> Result<(), OutOfMemory>
+    ensures ok { OnOk result ((q : ResourceId) → noted_in table.new q ≡ (same_id id q || noted_in table.old q)) }
+    ensures err { OnErr result ((q : ResourceId) → noted_in table.new q ≡ noted_in table.old q) }
+    ensures slots { (q : ResourceId) → slot_at table.new q ≡ slot_at table.old q }
+{
+    if table.has_note(id) {
+        return Ok(());
+    }
+    match table.out.push(id) {
+        Ok(()) => Ok(()),
+        Err(_) => Err(OutOfMemory),
+    }
+}
+
+/// Puts a value into the slot of an id, which is made where there is none.
+pub fn put<V: Drop>(table: &mut Table<V>, id: ResourceId, value: V) -> Result<(), OutOfMemory>
+    ensures ok { OnOk result ((q : ResourceId) → slot_at table.new q ≡ with_at (slot_at table.old) id (Some (record { value = Some value })) q) }
+    ensures err { OnErr result ((q : ResourceId) → slot_at table.new q ≡ slot_at table.old q) }
+    ensures no_room { OnErr result (slot_at table.old id ≡ None) }
+{
+    let slot = Slot { value: Some(value) };
+    table.slots.insert(id, slot)
+}
+
+/// Makes the slot of an id empty; the slot is made where there is none.
+pub fn open<V: Drop>(table: &mut Table<V>, id: ResourceId) -> Result<(), OutOfMemory>
+    ensures ok { OnOk result ((q : ResourceId) → slot_at table.new q ≡ with_at (slot_at table.old) id (Some (record { value = None })) q) }
+    ensures err { OnErr result ((q : ResourceId) → slot_at table.new q ≡ slot_at table.old q) }
+    ensures no_room { OnErr result (slot_at table.old id ≡ None) }
+{
+    table.slots.insert(id, Slot { value: None })
+}
+
+/// Takes the value out of the slot of an id; the slot stays.
+pub fn take<V>(table: &mut Table<V>, id: ResourceId) -> Option<V>
+    ensures value { result ≡ slot_value (slot_at table.old id) }
+    ensures slots { (q : ResourceId) → slot_at table.new q ≡ with_at (slot_at table.old) id (emptied (slot_at table.old id)) q }
+    ensures noted { (q : ResourceId) → noted_in table.new q ≡ noted_in table.old q }
+{
+    match table.slot_mut(id) {
+        Some(slot) => slot.value.take(),
+        None => None,
+    }
+}
+
+/// Puts a value into the slot of an id, where there is one.
+pub fn fill<V: Drop>(table: &mut Table<V>, id: ResourceId, value: V)
+    ensures slots { (q : ResourceId) → slot_at table.new q ≡ with_at (slot_at table.old) id (filled value (slot_at table.old id)) q }
+    ensures noted { (q : ResourceId) → noted_in table.new q ≡ noted_in table.old q }
+{
+    if let Some(slot) = table.slot_mut(id) {
+        slot.value = Some(value);
+    }
+}
+
+/// Takes the slot of an id away.
+pub fn remove<V>(table: &mut Table<V>, id: ResourceId) -> Option<Slot<V>>
+    ensures value { result ≡ slot_at table.old id }
+    ensures after { (q : ResourceId) → slot_at table.new q ≡ with_at (slot_at table.old) id None q }
+{
+    table.slots.remove(id)
+}
+
+/// Puts the value in the place of the one that the slot of an id has, and gives back the old one; or the value
+/// itself, where there is none to give.
+pub fn replace<V>(table: &mut Table<V>, id: ResourceId, value: V) -> Result<V, V>
+    ensures ok { IfOk result (λ old. slot_at table.old id ≡ Some (record { value = Some old })) }
+    ensures replaced { OnOk result ((q : ResourceId) → slot_at table.new q ≡ with_at (slot_at table.old) id (Some (record { value = Some value })) q) }
+    ensures err { IfErr result (λ back. back ≡ value) }
+    ensures empty { OnErr result (IfSome (slot_at table.old id) (λ s. s.value ≡ None)) }
+    ensures unchanged { OnErr result ((q : ResourceId) → slot_at table.new q ≡ slot_at table.old q) }
+{
+    let Some(slot) = table.slot_mut(id) else {
+        return Err(value);
+    };
+    match &mut slot.value {
+        Some(held) => Ok(mem::replace(held, value)),
+        None => Err(value),
+    }
+}
+
+/// The resource that is held under an id, to write.
+pub fn resource_mut<V: ResourceValue, R: Resource<V>>(
+    table: &mut Table<V>,
+    id: ResourceId,
+) -> Option<&mut R>
+    ensures shown { IfSome result (λ r. slot_at table.old id ≡ Some (record { value = Some (R.wrapped r.now) })) }
+    ensures missing { R.KIND ≡ id_kind id → IfNone result (held V.kind_of table.old id ≡ None) }
+    ensures* written { sem 𝓛 (LendsHeld V.row R.row R.wrapped table.entry id result) }
+{
+    let slot = table.slot_mut(id)?;
+    slot.resource_mut()
+}

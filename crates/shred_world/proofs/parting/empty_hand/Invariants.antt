@@ -1,6 +1,0 @@
-use Rattle.std.proofs.Common.{take}
-use Rattle.shred_world.specs.Parting.{IsEmptyHand}
-use Rattle.shred_world.proofs.parting.empty_hand.Given as goal
-
-abbrev pub invariant-loop-id : goal.invariant-loop-id
-invariant-loop-id g l = IsEmptyHand (take l.id-index l.ids) l.hand

@@ -2,3 +2,4 @@ pub mod Built
 pub mod Builders
 pub mod Dispatchers
 pub mod PlanRuns
+pub mod SystemNames

@@ -1,6 +1,7 @@
 pub mod Id
 pub mod InOrder
 pub mod Listed
+pub mod Only
 pub mod Slots
 pub mod Lent
 pub mod Parting

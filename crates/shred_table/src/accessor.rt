@@ -71,6 +71,20 @@ impl BatchAccessor {
     {
         BatchAccessor { reads, writes }
     }
+
+    /// The accessor with copies of these two lists.
+    pub fn of(
+        alloc: Global,
+        reads: &[ResourceId],
+        writes: &[ResourceId],
+    ) -> Result<Self, OutOfMemory>
+        ensures reads { IfOk result (λ accessor. batch_reads accessor ≡ reads.now) }
+        ensures writes { IfOk result (λ accessor. batch_writes accessor ≡ writes.now) }
+    {
+        let reads = copy_of(alloc, reads)?;
+        let writes = copy_of(alloc, writes)?;
+        Ok(BatchAccessor { reads, writes })
+    }
 }
 
 impl Accessor for BatchAccessor {
@@ -79,18 +93,18 @@ impl Accessor for BatchAccessor {
     ghost writes = { batch_writes };
 
     fn reads(&self, alloc: Global) -> Result<Vec<ResourceId>, OutOfMemory> {
-        copy_of(alloc, &self.reads)
+        copy_of(alloc, self.reads.as_slice())
     }
 
     fn writes(&self, alloc: Global) -> Result<Vec<ResourceId>, OutOfMemory> {
-        copy_of(alloc, &self.writes)
+        copy_of(alloc, self.writes.as_slice())
     }
 }
 
-fn copy_of(alloc: Global, ids: &Vec<ResourceId>) -> Result<Vec<ResourceId>, OutOfMemory>
-    ensures { IfOk result (λ copy. copy.items ≡ ids.now.items) }
+fn copy_of(alloc: Global, ids: &[ResourceId]) -> Result<Vec<ResourceId>, OutOfMemory>
+    ensures { IfOk result (λ copy. copy.items ≡ ids.now) }
 {
-    match Vec::from_slice(alloc, ids.as_slice()) {
+    match Vec::from_slice(alloc, ids) {
         Ok(copy) => Ok(copy),
         Err(_) => Err(OutOfMemory),
     }

@@ -5,16 +5,32 @@ ghost use Rattle.shred_table.specs.Id.{id_of, id_kind, dynamic_id_of};
 use crate::accessor::OutOfMemory;
 use crate::resource::{Resource, ResourceValue};
 use std::alloc::Global;
+use std::fmt;
 
 /// The number of a resource's type.
 #[derive(Clone, Copy, Debug, PartialEq, Eq, PartialOrd, Ord, Hash)]
 pub struct Kind(pub u32);
+
+impl fmt::Display for Kind {
+    fn fmt<W: fmt::Write>(&self, f: &mut fmt::Formatter<W>) -> fmt::Result {
+        let number = self.0;
+        write!(f, "kind {number}")
+    }
+}
 
 /// A kind and a dynamic number, ordered by the kind and then by the number.
 #[derive(Clone, Copy, Debug, PartialEq, Eq, PartialOrd, Ord, Hash)]
 pub struct ResourceId {
     kind: Kind,
     dynamic_id: u64,
+}
+
+impl fmt::Display for ResourceId {
+    fn fmt<W: fmt::Write>(&self, f: &mut fmt::Formatter<W>) -> fmt::Result {
+        let kind = self.kind;
+        let number = self.dynamic_id;
+        write!(f, "{kind}, number {number}")
+    }
 }
 
 impl ResourceId {
@@ -59,6 +75,7 @@ impl ResourceId {
     {
         self.dynamic_id
     }
+
     /// A list of this id alone.
     pub fn listed(self, alloc: Global) -> Result<Vec<ResourceId>, OutOfMemory>
         ensures { IfOk result (λ ids. ids.items ≡ self ∷ []) }

@@ -5,6 +5,7 @@ pub mod accessor;
 pub mod hands;
 pub mod id;
 mod listed;
+pub mod only;
 pub mod parting;
 pub mod resource;
 mod store;
@@ -13,6 +14,7 @@ pub mod util;
 
 pub use accessor::{Accessor, BatchAccessor, OutOfMemory};
 pub use id::{Kind, ResourceId};
+pub use only::{Only, only_id};
 pub use resource::{Resource, ResourceValue};
 pub use table::{Slot, Table};
 pub use util::check_intersection;

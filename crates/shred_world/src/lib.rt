@@ -5,10 +5,10 @@ pub mod parting;
 pub mod world;
 
 pub use shred_table::{
-    Accessor, BatchAccessor, Kind, OutOfMemory, Resource, ResourceId, ResourceValue, Slot, Table,
-    accessor, check_intersection, id, resource, table, util,
+    Accessor, BatchAccessor, Kind, Only, OutOfMemory, Resource, ResourceId, ResourceValue, Slot,
+    Table, accessor, check_intersection, id, only, only_id, resource, table, util,
 };
-pub use world::bundle::SystemData;
+pub use world::bundle::{SystemData, bundle_accessor};
 pub use world::dynamic::DynamicSystemData;
 pub use world::each::ViewWork;
 pub use world::entry::Entry;

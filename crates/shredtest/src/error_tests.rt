@@ -1,5 +1,5 @@
 //! The errors of a world as std's `Error`, and their texts.
-use shred_world::{DataError, Kind, OutOfMemory, ReplaceError, WorldError};
+use shred_world::{DataError, Kind, OutOfMemory, ReplaceError, ResourceId, WorldError};
 use std::alloc::{AllocError, Global};
 use std::error::Error;
 use std::process::Abort;
@@ -30,13 +30,20 @@ fn errors_of_a_world_have_texts(rt: HostRuntime) -> Result<(), Fail> {
         &rt,
         alloc,
         &WorldError::WrongKind { asked, found },
-        "Kind(1) was asked for, and the id is of Kind(0)",
+        "kind 1 was asked for, and the id is of kind 0",
     )?;
     expect_text(
         &rt,
         alloc,
         &DataError::WrongKind { asked, found },
-        "Kind(1) was asked for, and the id is of Kind(0)",
+        "kind 1 was asked for, and the id is of kind 0",
+    )?;
+    let id = ResourceId::from_type_id_and_dynamic_id(asked, 7);
+    expect_text(
+        &rt,
+        alloc,
+        &DataError::Taken(id),
+        "kind 1, number 7 is handed out already",
     )?;
     expect_text(
         &rt,
@@ -46,6 +53,6 @@ fn errors_of_a_world_have_texts(rt: HostRuntime) -> Result<(), Fail> {
             found,
             value: 5_u8,
         },
-        "the value is of Kind(1), and the id of Kind(0)",
+        "the value is of kind 1, and the id of kind 0",
     )
 }

@@ -2,15 +2,11 @@
 
 use crate::builder_rows::{Add, FIVE, FIVE_PRINTED, ROWS};
 use crate::calls::expect_add;
-use crate::planned_system::{Case, OnlyPlanned, PLAIN, system_of};
-use crate::planner_tests::plain_entry;
-use crate::random_cases::{next, numbered};
+use crate::planned_system::{OnlyPlanned, PLAIN, system_of};
 use crate::stopping::{Stop, StoppingWriter};
 use shred::{AddError, DispatcherBuilder, PrintError, SystemId, ToWriter};
 use shredtest::values::Value;
-use shredtest_planner::plain_plan::{PlainGroup, PlainPlan, PlainStage};
-use shredtest_planner::slow_placement::slow_placement;
-use std::alloc::{AllocError, Global};
+use std::alloc::Global;
 use std::io::Write;
 use std::process::Abort;
 use std::test::Fail;
@@ -56,8 +52,29 @@ fn calls_are_answered_and_their_plan_is_printed(rt: HostRuntime) -> Result<(), F
     for row in ROWS {
         let builder = built(&rt, rt.alloc(), row.adds)?;
         expect_printed(&rt, rt.alloc(), &builder, row.printed.as_bytes(), row.ended);
-        assert_eq!(rt; builder.build().max_threads(), row.threads);
+        let (dispatcher, names) = builder.build_with_names();
+        let mut bytes = Vec::new(rt.alloc());
+        let ended = dispatcher.print_par_seq(&mut ToWriter::new(&mut bytes), &names);
+        assert_eq!(rt;
+            (ended, bytes.as_slice()),
+            (row.ended, row.printed.as_bytes())
+        );
+        assert_eq!(rt; dispatcher.max_threads(), row.threads);
     }
+    Ok(())
+}
+
+#[test]
+fn a_dispatcher_has_the_names_of_its_builder(rt: HostRuntime) -> Result<(), Fail> {
+    let mut builder = Builder::new(rt.alloc());
+    for name in ["physics", "", "sound"] {
+        builder.add(system_of(rt.alloc(), PLAIN)?, name, &[])?;
+    }
+    let (_, names) = builder.build_with_names();
+    assert_eq!(rt; names.id_of("sound"), Some(SystemId(2)));
+    assert_eq!(rt; names.id_of(""), None);
+    assert_eq!(rt; names.name_of(SystemId(0)), Some("physics"));
+    assert_eq!(rt; names.name_of(SystemId(1)), None);
     Ok(())
 }
 
@@ -140,115 +157,5 @@ fn a_builder_is_handed_on(rt: HostRuntime) -> Result<(), Fail> {
     expect_printed(&rt, alloc, &builder, text.as_bytes(), Ok(()));
     let refused = with_plain(alloc, builder, "a", &[]);
     assert!(rt; matches!(&refused, Err(AddError::NameTaken)));
-    Ok(())
-}
-
-fn print_group(text: &mut String, group: &PlainGroup) -> Result<(), AllocError> {
-    text.push_str("\t\tseq![\n")?;
-    for entry in &group.entries {
-        let id = entry.id;
-        write!(text, "\t\t\ts{id},\n")?;
-    }
-    text.push_str("\t\t],\n")
-}
-
-fn print_stage(text: &mut String, stage: &PlainStage) -> Result<(), AllocError> {
-    text.push_str("\tpar![\n")?;
-    for group in &stage.groups {
-        print_group(text, group)?;
-    }
-    text.push_str("\t],\n")
-}
-
-/// The printed text of a plain plan, whose systems are named by their ids.
-fn text_of(alloc: Global, plan: &PlainPlan) -> Result<String, AllocError> {
-    let mut text = String::from_str(alloc, "seq![\n")?;
-    for stage in &plan.stages {
-        print_stage(&mut text, stage)?;
-    }
-    text.push_str("]\n\n")?;
-    Ok(text)
-}
-
-/// What a random call of a builder adds.
-#[derive(Drop)]
-struct RandomAdd {
-    case: Case,
-    dependencies: Vec<usize>,
-}
-
-/// A random system, which depends on up to three of the systems before it, some of them twice.
-fn pick(alloc: Global, seed: &mut u64, added: usize) -> Result<RandomAdd, AllocError> {
-    let case = numbered(next(seed));
-    let count = next(seed) % 4;
-    let mut dependencies = Vec::new(alloc);
-    for _ in 0..count {
-        if let Some(id) = (next(seed) as usize).checked_rem(added) {
-            dependencies.push(id)?;
-        }
-    }
-    Ok(RandomAdd { case, dependencies })
-}
-
-/// Adds the system by name, between two calls that are refused.
-fn add_picked(
-    rt: &impl Abort,
-    alloc: Global,
-    builder: &mut Builder,
-    names: &Vec<String>,
-    name: &str,
-    pick: &RandomAdd,
-) -> Result<(), Fail> {
-    let mut dependencies = Vec::new(alloc);
-    for id in &pick.dependencies {
-        if let Some(name) = names.get(*id) {
-            dependencies.push(name.as_str())?;
-        }
-    }
-    let dependencies = dependencies.as_slice();
-    let system = system_of(alloc, pick.case)?;
-    let unknown = Err(AddError::NoSuchSystem { place: 0 });
-    expect_add(rt, builder, system, name, &[name], unknown);
-    let system = system_of(alloc, pick.case)?;
-    let added = Ok(SystemId(names.len()));
-    expect_add(rt, builder, system, name, dependencies, added);
-    let system = system_of(alloc, pick.case)?;
-    let taken = Err(AddError::NameTaken);
-    expect_add(rt, builder, system, name, dependencies, taken);
-    Ok(())
-}
-
-/// A builder after random calls prints what the slow program plans.
-fn agree_on_random_calls(rt: &impl Abort, alloc: Global, seed: &mut u64) -> Result<(), Fail> {
-    let mut builder = Builder::new(alloc);
-    let mut plan = PlainPlan {
-        stages: Vec::new(alloc),
-    };
-    let mut names = Vec::new(alloc);
-    let mut barrier = 0;
-    for id in 0..12 {
-        if next(seed) % 8 == 0 {
-            builder.add_barrier();
-            barrier = plan.stages.len();
-        }
-        let picked = pick(alloc, seed, id)?;
-        let name = format!(in alloc; "s{id}")?;
-        add_picked(rt, alloc, &mut builder, &names, name.as_str(), &picked)?;
-        names.push(name)?;
-        let entry = plain_entry(alloc, id, picked.case)?;
-        let dependencies = picked.dependencies.as_slice();
-        slow_placement(alloc, &mut plan, barrier, barrier, dependencies, entry)?;
-    }
-    let text = text_of(alloc, &plan)?;
-    expect_printed(rt, alloc, &builder, text.as_bytes(), Ok(()));
-    Ok(())
-}
-
-#[test]
-fn random_calls_are_planned_by_the_rule(rt: HostRuntime) -> Result<(), Fail> {
-    let mut seed = 1812;
-    for _ in 0..500 {
-        agree_on_random_calls(&rt, rt.alloc(), &mut seed)?;
-    }
     Ok(())
 }

@@ -25,13 +25,13 @@ fn errors_of_a_plan_have_texts(rt: HostRuntime) -> Result<(), Fail> {
         &rt,
         alloc,
         &AddError::NoSuchSystem { place: 3 },
-        "no such system at 3",
+        "no system has the name at place 3 of the dependencies",
     )?;
     expect_text(
         &rt,
         alloc,
         &PrintError::Unnamed(SystemId(4)),
-        "unnamed system 4",
+        "system 4 has no name",
     )?;
     expect_text(&rt, alloc, &SinkFailed, "the sink failed")?;
     let fault: Fault<DataError> = Fault::Refused(DataError::OutOfMemory);

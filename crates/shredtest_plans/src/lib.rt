@@ -16,6 +16,8 @@ mod error_tests;
 #[cfg(test)]
 mod gate;
 #[cfg(test)]
+mod made_systems;
+#[cfg(test)]
 mod named_stages;
 #[cfg(test)]
 mod own_bundle;
@@ -25,8 +27,6 @@ mod plan_rows;
 mod planned_system;
 #[cfg(test)]
 mod planner_tests;
-#[cfg(test)]
-mod random_cases;
 #[cfg(test)]
 mod shared_reads;
 #[cfg(test)]

@@ -24,20 +24,6 @@ pub(crate) const PLAIN: Case = Case {
     time: RunningTime::Average,
 };
 
-/// An accessor with copies of these lists.
-pub(crate) fn accessor_of(
-    alloc: Global,
-    reads: &Vec<ResourceId>,
-    writes: &Vec<ResourceId>,
-) -> Result<BatchAccessor, OutOfMemory>
-    ensures reads { IfOk result (λ accessor. batch_reads accessor ≡ reads.now.items) }
-    ensures writes { IfOk result (λ accessor. batch_writes accessor ≡ writes.now.items) }
-{
-    let reads = Vec::from_slice(alloc, reads.as_slice()).map_err(|_| OutOfMemory)?;
-    let writes = Vec::from_slice(alloc, writes.as_slice()).map_err(|_| OutOfMemory)?;
-    Ok(BatchAccessor::new(reads, writes))
-}
-
 /// A system that is only planned.
 #[derive(Drop)]
 pub(crate) struct OnlyPlanned {
@@ -80,7 +66,7 @@ impl System<Value> for OnlyPlanned {
     }
 
     fn accessor(&self, alloc: Global) -> Result<BatchAccessor, OutOfMemory> {
-        accessor_of(alloc, &self.reads, &self.writes)
+        BatchAccessor::of(alloc, self.reads.as_slice(), self.writes.as_slice())
     }
 }
 

@@ -1,13 +1,10 @@
-//! The planner, beside the slow program and on plans that were worked out by hand.
+//! The planner, on plans that were worked out by hand.
 
 use crate::calls::insert;
 use crate::plan_rows::{BY_ACCESS, BY_DEPENDENCY, Call, Row, UNSORTED};
-use crate::planned_system::{Case, OnlyPlanned, expect_ids, system_of};
-use crate::random_cases::{next, numbered};
+use crate::planned_system::{OnlyPlanned, expect_ids, system_of};
 use shred::{Stage, StagesBuilder, SystemId};
 use shredtest::values::Value;
-use shredtest_planner::plain_plan::{PlainEntry, PlainGroup, PlainPlan, PlainStage};
-use shredtest_planner::slow_placement::slow_placement;
 use std::alloc::{AllocError, Global};
 use std::process::Abort;
 use std::test::Fail;
@@ -63,40 +60,6 @@ fn text_of_stages(
     Ok(text)
 }
 
-fn add_entries(text: &mut String, group: &PlainGroup) -> Result<(), AllocError> {
-    for entry in &group.entries {
-        add_id(text, entry.id)?;
-    }
-    text.push_str("]")
-}
-
-fn add_plain_stage(text: &mut String, stage: &PlainStage) -> Result<(), AllocError> {
-    start_stage(text)?;
-    for group in &stage.groups {
-        start_group(text)?;
-        add_entries(text, group)?;
-    }
-    text.push_str("]")
-}
-
-fn text_of_plain(alloc: Global, plan: &PlainPlan) -> Result<String, AllocError> {
-    let mut text = String::new(alloc);
-    for stage in &plan.stages {
-        add_plain_stage(&mut text, stage)?;
-    }
-    Ok(text)
-}
-
-/// The entry of a case in the slow program.
-pub(crate) fn plain_entry(alloc: Global, id: usize, case: Case) -> Result<PlainEntry, AllocError> {
-    Ok(PlainEntry {
-        id,
-        reads: Vec::from_slice(alloc, case.reads)?,
-        writes: Vec::from_slice(alloc, case.writes)?,
-        time: case.time as u8,
-    })
-}
-
 fn system_ids(alloc: Global, numbers: &[usize]) -> Result<Vec<SystemId>, AllocError> {
     let mut ids = Vec::new(alloc);
     for number in numbers {
@@ -122,37 +85,10 @@ pub(crate) fn quickly(alloc: Global, calls: &[Call]) -> Result<Builder, Fail> {
     Ok(builder)
 }
 
-fn slowly(alloc: Global, calls: &[Call]) -> Result<PlainPlan, Fail> {
-    let mut plan = PlainPlan {
-        stages: Vec::new(alloc),
-    };
-    let mut barrier = 0;
-    let mut next = 0;
-    for call in calls {
-        match *call {
-            Call::Barrier => barrier = plan.stages.len(),
-            Call::Insert(case, dependencies) => {
-                let entry = plain_entry(alloc, next, case)?;
-                slow_placement(alloc, &mut plan, barrier, barrier, dependencies, entry)?;
-                next = next.wrapping_add(1);
-            }
-        }
-    }
-    Ok(plan)
-}
-
-/// The plan of these calls, which is that of the slow program.
-fn agreed(rt: &impl Abort, alloc: Global, calls: &[Call]) -> Result<String, Fail> {
-    let stages = quickly(alloc, calls)?.build();
-    let text = text_of_stages(alloc, stages.as_slice())?;
-    let plan = slowly(alloc, calls)?;
-    assert_eq!(rt; text, text_of_plain(alloc, &plan)?);
-    Ok(text)
-}
-
 fn expect_plans(rt: &impl Abort, alloc: Global, rows: &[Row]) -> Result<(), Fail> {
     for row in rows {
-        let text = agreed(rt, alloc, row.calls)?;
+        let stages = quickly(alloc, row.calls)?.build();
+        let text = text_of_stages(alloc, stages.as_slice())?;
         assert_eq!(rt; text.as_str(), row.plan);
     }
     Ok(())
@@ -162,38 +98,6 @@ fn expect_plans(rt: &impl Abort, alloc: Global, rows: &[Row]) -> Result<(), Fail
 fn systems_are_planned_by_what_they_touch_and_depend_on(rt: HostRuntime) -> Result<(), Fail> {
     expect_plans(&rt, rt.alloc(), BY_ACCESS)?;
     expect_plans(&rt, rt.alloc(), BY_DEPENDENCY)
-}
-
-#[test]
-fn every_short_list_is_planned_by_the_rule(rt: HostRuntime) -> Result<(), Fail> {
-    // A number stands for three systems, each one of 24.
-    for number in 0..24 * 24 * 24 {
-        let calls = [
-            Call::Insert(numbered(number / 576), &[]),
-            Call::Insert(numbered(number / 24), &[]),
-            Call::Insert(numbered(number), &[]),
-        ];
-        agreed(&rt, rt.alloc(), &calls)?;
-    }
-    Ok(())
-}
-
-fn random_calls(alloc: Global, seed: &mut u64) -> Result<Vec<Call>, AllocError> {
-    let mut calls = Vec::new(alloc);
-    for _ in 0..16 {
-        calls.push(Call::Insert(numbered(next(seed)), &[]))?;
-    }
-    Ok(calls)
-}
-
-#[test]
-fn long_lists_are_planned_by_the_rule(rt: HostRuntime) -> Result<(), Fail> {
-    let mut seed = 2026;
-    for _ in 0..1000 {
-        let calls = random_calls(rt.alloc(), &mut seed)?;
-        agreed(&rt, rt.alloc(), calls.as_slice())?;
-    }
-    Ok(())
 }
 
 fn expect_lists(

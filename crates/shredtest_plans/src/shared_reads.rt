@@ -5,7 +5,7 @@ ghost use Rattle.shred_table.specs.declared.id.ResourceId.{ResourceId};
 ghost use Rattle.shredtest.specs.Values.{kind_of};
 
 use crate::calls::{dispatched, dispatcher_of};
-use crate::planned_system::{accessor_of, resources};
+use crate::planned_system::resources;
 use shred::{
     BatchAccessor, DataError, Dispatcher, Fault, Kind, OutOfMemory, ReadExpect, Resource,
     ResourceId, RunningTime, System, View, World,
@@ -135,7 +135,7 @@ impl System<Value> for Task {
     }
 
     fn accessor(&self, alloc: Global) -> Result<BatchAccessor, OutOfMemory> {
-        accessor_of(alloc, &self.reads, &self.writes)
+        BatchAccessor::of(alloc, self.reads.as_slice(), self.writes.as_slice())
     }
 
     fn setup(&mut self, _world: &mut World<Value>) -> Result<(), Fault<DataError>> {

@@ -6,13 +6,13 @@ use thiserror::Error;
 #[derive(Clone, Copy, Debug, PartialEq, Eq, Error)]
 pub enum AddError {
     /// The dependency at this place of the list is the first that is not known.
-    #[error("no such system at {place}")]
+    #[error("no system has the name at place {place} of the dependencies")]
     NoSuchSystem { place: usize },
     /// The name stands for another system.
-    #[error("name taken")]
+    #[error("another system has this name")]
     NameTaken,
     /// The next id would be the greatest `usize`.
-    #[error("ids exhausted")]
+    #[error("no id is left")]
     IdsExhausted,
     #[error("out of memory")]
     OutOfMemory,

@@ -8,6 +8,7 @@ ghost use Rattle.shred_model.specs.Record.{Agent};
 ghost use Rattle.shred_stage.specs.BuilderPlan.{planned, barrier_of, builder_states};
 ghost use Rattle.shred.specs.Built.{IsAddition, IsBarrierSet, IsConsistent, IsNewBuilt, IsRefusal, IsSameBuilt, MayAdd};
 ghost use Rattle.shred.specs.Dispatchers.{dispatcher_plan, dispatcher_states};
+ghost use Rattle.shred.specs.SystemNames.{names_known, names_pairs};
 ghost use Rattle.shred_stage.specs.Earlier.{plan_has};
 ghost use Rattle.shred_stage.specs.Known.{texts_of};
 ghost use Rattle.shred_stage.specs.Names.{AreNames, first_unnamed, names_of};
@@ -17,6 +18,7 @@ ghost use Rattle.shred_stage.specs.Prints.{IsPrinted};
 use crate::dispatch::add_error::AddError;
 use crate::dispatch::dispatcher::{Dispatcher, new_dispatcher};
 use crate::dispatch::look_up::{enter, first_unknown, forget, id_of, ids_of};
+use crate::dispatch::names::SystemNames;
 use shred_stage::dispatch::printing::print_with_end;
 use shred_stage::{PlanSink, PrintError, StagesBuilder, System, SystemId};
 use shred_world::{OutOfMemory, ResourceValue};
@@ -113,6 +115,21 @@ impl<V: ResourceValue, S: System<V>> DispatcherBuilder<V, S> {
         ensures consistent { IsConsistent (built self) }
     {
         new_dispatcher(self.stages.build())
+    }
+
+    /// The dispatcher of the plan, and the names that are known. It takes no memory.
+    pub fn build_with_names(self) -> (Dispatcher<V, S>, SystemNames)
+    where
+        V: Drop,
+        S: Drop,
+        ensures plan { dispatcher_plan result.0 ≡ (built self).plan }
+        ensures states { (path : Agent) → dispatcher_states result.0 path ≡ (built self).states path }
+        ensures known { (name : List ℕ) → names_known result.1 name ≡ (built self).known name }
+        ensures names { AreNames (names_pairs result.1) (built self).known }
+        ensures consistent { IsConsistent (built self) }
+    {
+        let dispatcher = new_dispatcher(self.stages.build());
+        (dispatcher, SystemNames { names: self.names })
     }
 
     /// Places the system in the plan with the next id, and enters its name unless that is empty. What it depends on stands

@@ -1,14 +1,20 @@
 //! The dispatcher: it runs a plan.
-ghost use Rattle.std.specs.Prelude.{◌≡◌, Err};
+ghost use Rattle.std.specs.Prelude.{◌≡◌, ◌++◌, Err};
+ghost use Rattle.shred_model.specs.Plan.{plan_ids};
 ghost use Rattle.shred_model.specs.Record.{Agent};
 ghost use Rattle.shred_stage.specs.Dispatched.{Dispatched, stages_over};
-ghost use Rattle.shred.specs.Dispatchers.{dispatcher_over};
-ghost use Rattle.shred.specs.Dispatchers.{dispatcher_plan, dispatcher_states};
+ghost use Rattle.shred.specs.Dispatchers.{dispatcher_over, dispatcher_plan, dispatcher_states};
+ghost use Rattle.shred.specs.SystemNames.{names_known, names_pairs};
+ghost use Rattle.shred_stage.specs.Names.{AreNames, first_unnamed};
 ghost use Rattle.shred_stage.specs.Plans.{plan_states};
 ghost use Rattle.shred.specs.PlanRuns.{PlanRun, dispatch_answer};
+ghost use Rattle.shred_stage.specs.Printed.{line_feed, plan_text};
+ghost use Rattle.shred_stage.specs.Prints.{IsPrinted};
 ghost use Rattle.shred_stage.specs.StagePlan.{plan_of, widest};
 
-use shred_stage::{Fault, Stage, StageFault, System, SystemId};
+use crate::dispatch::names::SystemNames;
+use shred_stage::dispatch::printing::print;
+use shred_stage::{Fault, PlanSink, PrintError, Stage, StageFault, System, SystemId};
 use shred_world::{ResourceValue, World};
 use std::fmt::Display;
 use std::thread::Threads;
@@ -19,7 +25,7 @@ use thiserror::Error;
 #[error_bound(E: Display)]
 pub enum DispatchError<E> {
     /// The staged system of this id ended with a fault.
-    #[error("system {}: {fault}", .id.0)]
+    #[error("{id}: {fault}")]
     System { id: SystemId, fault: Fault<E> },
     /// The thread-local system at this place ended with a fault.
     #[error("thread-local system {index}: {fault}")]
@@ -60,6 +66,21 @@ impl<V: ResourceValue, S: System<V>> Dispatcher<V, S> {
         ensures { result ≡ widest (dispatcher_plan self.now) }
     {
         widest_of(&self.stages)
+    }
+
+    /// Puts the plan's text and a line feed into the sink, with the names of the builder. Where a system has no name,
+    /// nothing is put, and the answer is `Unnamed` with the first such id in the plan's order. Where the sink fails, it is
+    /// `Write`, and a beginning of the text was put. It takes no memory.
+    pub fn print_par_seq<W: PlanSink>(
+        &self,
+        sink: &mut W,
+        names: &SystemNames,
+    ) -> Result<(), PrintError>
+        ensures printed { let plan = dispatcher_plan self.now in let pairs = names_pairs names.now in
+            IsPrinted W.told W.failures sink.old sink.new (first_unnamed pairs (plan_ids plan)) (plan_text pairs plan ++ line_feed) result }
+        ensures names { AreNames (names_pairs names.now) (names_known names.now) }
+    {
+        print(sink, &names.names, &self.stages, b"\n")
     }
 }
 

@@ -4,3 +4,4 @@ pub mod add_error;
 pub mod builder;
 pub mod dispatcher;
 pub mod look_up;
+pub mod names;

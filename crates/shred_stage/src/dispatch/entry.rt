@@ -16,10 +16,18 @@ use shred_world::{OutOfMemory, ResourceId, Table, check_intersection};
 use smallvec::SmallVec;
 use std::alloc::Global;
 use std::default::MadeWith;
+use std::fmt;
 
 /// The number under which a system was added.
 #[derive(Clone, Copy, Debug, PartialEq, Eq, PartialOrd, Ord, Hash)]
 pub struct SystemId(pub usize);
+
+impl fmt::Display for SystemId {
+    fn fmt<W: fmt::Write>(&self, f: &mut fmt::Formatter<W>) -> fmt::Result {
+        let number = self.0;
+        write!(f, "system {number}")
+    }
+}
 
 impl<A: Drop> MadeWith<A> for SystemId {
     fn made_with(_alloc: A) -> Self

@@ -24,7 +24,7 @@ use thiserror::Error;
 #[derive(Clone, Copy, Debug, PartialEq, Eq, Error)]
 pub enum PrintError {
     /// No name stands for this id, the first such in the plan's order. Nothing was written.
-    #[error("unnamed system {}", .0.0)]
+    #[error("{0} has no name")]
     Unnamed(SystemId),
     /// The sink failed. What was written is a beginning of the text.
     #[error("the write failed")]
@@ -42,7 +42,7 @@ fn lesser<'name>(best: Option<&'name str>, name: &'name str) -> &'name str
 }
 
 /// The least name, by its bytes, that stands for the id.
-pub(crate) fn least_name<'name>(
+pub fn least_name<'name>(
     names: &'name HashMap<String, SystemId>,
     id: SystemId,
 ) -> Option<&'name str>
@@ -245,8 +245,8 @@ pub(crate) fn put_plan<W: PlanSink, V: ResourceValue, S: System<V>>(
     put_all(sink, b"]\n")
 }
 
-/// Puts the text of the plan and what follows it, where each id has a name.
-pub(crate) fn print<W: PlanSink, V: ResourceValue, S: System<V>>(
+/// Puts the plan's text and what follows it into the sink, as `write_par_seq` does. It is there for `Dispatcher`.
+pub fn print<W: PlanSink, V: ResourceValue, S: System<V>>(
     sink: &mut W,
     names: &HashMap<String, SystemId>,
     stages: &Vec<Stage<V, S>>,

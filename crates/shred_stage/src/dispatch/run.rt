@@ -27,7 +27,7 @@ use thiserror::Error;
 #[error_bound(E: Display)]
 pub enum StageFault<E> {
     /// The entry of this id ended with a fault, the first in plan order.
-    #[error("system {}: {fault}", .id.0)]
+    #[error("{id}: {fault}")]
     System { id: SystemId, fault: Fault<E> },
     /// The stage was refused for memory before it began.
     #[error("out of memory")]

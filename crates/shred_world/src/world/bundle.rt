@@ -3,13 +3,14 @@ ghost use Rattle.std.specs.Prelude.{◌≡◌, false, List, Option, IfOk, IfErr,
 ghost use Rattle.shred_table.specs.declared.id.ResourceId.{ResourceId};
 ghost use Rattle.shred_world.specs.Bundles.{Part, IsRefused, bundle_refusal, shown_parts, moved_parts, after_parts, ids_of, AreOut, Setup};
 ghost use Rattle.shred_world.specs.Grants.{Moved, grant_of, given_back};
+ghost use Rattle.shred_table.specs.Accessors.{batch_reads, batch_writes};
 ghost use Rattle.shred_table.specs.Slots.{among};
 ghost use Rattle.shred_world.specs.Views.{is_out, table_of, IsSameLoan};
 ghost use Rattle.shred_world.specs.Worlds.{world_held};
 
 use crate::world::view::{DataError, View};
 use crate::world::{World, WorldError};
-use shred_table::accessor::OutOfMemory;
+use shred_table::accessor::{BatchAccessor, OutOfMemory};
 use shred_table::id::ResourceId;
 use shred_table::resource::ResourceValue;
 use std::alloc::Global;
@@ -71,6 +72,18 @@ pub trait SystemData<'s, V: ResourceValue> {
     /// The ids that are written.
     fn writes(alloc: Global) -> Result<Vec<ResourceId>, OutOfMemory>
         ensures { IfOk result (λ ids. ids.items ≡ written_ids) };
+}
+
+/// What a bundle declares: the ids that it reads, and those that it writes.
+pub fn bundle_accessor<'s, V: ResourceValue, D: SystemData<'s, V>>(
+    alloc: Global,
+) -> Result<BatchAccessor, OutOfMemory>
+    ensures reads { IfOk result (λ accessor. batch_reads accessor ≡ D.read_ids) }
+    ensures writes { IfOk result (λ accessor. batch_writes accessor ≡ D.written_ids) }
+{
+    let reads = D::reads(alloc)?;
+    let writes = D::writes(alloc)?;
+    Ok(BatchAccessor::new(reads, writes))
 }
 
 impl<'s, 'a, V: ResourceValue> View<'s, 'a, V> {

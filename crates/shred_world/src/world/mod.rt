@@ -39,10 +39,10 @@ pub enum WorldError {
     #[error("out of memory")]
     OutOfMemory,
     /// The caller's type or value has the kind `asked`, and the id the kind `found`.
-    #[error("{asked:?} was asked for, and the id is of {found:?}")]
+    #[error("{asked} was asked for, and the id is of {found}")]
     WrongKind { asked: Kind, found: Kind },
     /// No value is held under the id.
-    #[error("nothing is held under {0:?}")]
+    #[error("nothing is held under {0}")]
     Missing(ResourceId),
 }
 
@@ -50,10 +50,10 @@ pub enum WorldError {
 #[derive(Debug, Drop, PartialEq, Error)]
 pub enum ReplaceError<V> {
     /// The value has the kind `asked`, and the id the kind `found`.
-    #[error("the value is of {asked:?}, and the id of {found:?}")]
+    #[error("the value is of {asked}, and the id of {found}")]
     WrongKind { asked: Kind, found: Kind, value: V },
     /// No value is held under the id.
-    #[error("nothing is held under {id:?}")]
+    #[error("nothing is held under {id}")]
     Missing { id: ResourceId, value: V },
 }
 

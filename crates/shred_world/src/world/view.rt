@@ -20,18 +20,18 @@ use thiserror::Error;
 #[derive(Clone, Copy, Debug, PartialEq, Eq, Error)]
 pub enum DataError {
     /// No value is held under the id.
-    #[error("nothing is held under {0:?}")]
+    #[error("nothing is held under {0}")]
     Missing(ResourceId),
     /// The id is not declared for this use.
-    #[error("{0:?} is not declared for this use")]
+    #[error("{0} is not declared for this use")]
     Undeclared(ResourceId),
     /// The value is handed out already.
-    #[error("{0:?} is handed out already")]
+    #[error("{0} is handed out already")]
     Taken(ResourceId),
     #[error("out of memory")]
     OutOfMemory,
     /// The caller's type has the kind `asked`, and the id the kind `found`.
-    #[error("{asked:?} was asked for, and the id is of {found:?}")]
+    #[error("{asked} was asked for, and the id is of {found}")]
     WrongKind { asked: Kind, found: Kind },
 }
 

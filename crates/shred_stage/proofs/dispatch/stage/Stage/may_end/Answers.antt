@@ -1,5 +1,6 @@
 use Rattle.std.proofs.Common.{◌<◌, ◌≤◌, length, arith}
 use Rattle.std.proofs.lemmas.List.{length-map}
+use Rattle.std.proofs.lemmas.Grind.{common_steps}
 use Rattle.shred_model.specs.Plan.{group_time}
 use Rattle.shred_stage.specs.Placement.{greatest_time}
 use Rattle.shred_stage.specs.PlanOf.{group_plan, groups_plan}
@@ -12,3 +13,6 @@ overflow_sub-result g c =
     let here = group_read c.args.self.now.groups.items c.args.group c.index-group.result.now within c.index-group.ensures in
     let below : group_time (group_plan c.index-group.result.now) ≤ greatest_time (groups_plan c.args.self.now.groups.items) = rw here at (group_time-le-greatest (groups_plan c.args.self.now.groups.items) c.args.group c.requires) in
     omega (arith, below, c.time.ensures.value, c.greatest_time.ensures.value)
+
+pub returns-then-not-conflicts : goal.returns-then-not-conflicts
+returns-then-not-conflicts g c = grind (arith, common_steps)

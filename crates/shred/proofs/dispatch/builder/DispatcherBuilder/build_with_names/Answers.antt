@@ -1,0 +1,5 @@
+use Rattle.shred.proofs.Names.KnownNames.{names-known}
+use Rattle.shred.proofs.dispatch.builder.DispatcherBuilder.build_with_names.Goals as goal
+
+pub returns-clause-names : goal.returns-clause-names
+returns-clause-names g c = names-known c.args.self.names c.args.self.distinct_names

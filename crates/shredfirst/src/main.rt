@@ -1,0 +1,79 @@
+//! Two systems over two numbers: their plan is printed, and run on threads.
+#![tactic(auto)]
+
+ghost use Rattle.std.specs.Int.{int_wrapping_mul, w64};
+ghost use Rattle.std.specs.Prelude.{◌≡◌, [], ◌∷◌, Some, IfOk, option_map, pos};
+ghost use Rattle.shred_table.specs.Id.{id_of};
+ghost use Rattle.shred_table.specs.Only.{only_kind};
+
+use shred::{
+    BatchAccessor, DataError, DispatcherBuilder, Fault, OneOf, Only, OutOfMemory, Plain,
+    PlainSystem, ToWriter, View, World, only_id,
+};
+use std::alloc::Global;
+use std::io::Write;
+
+/// Sets the number at 0 to 7.
+#[derive(Drop)]
+struct Sets;
+
+impl PlainSystem<Only<i64>> for Sets {
+    type Error = DataError;
+
+    ghost reads = { λ system. [] };
+
+    ghost writes = { λ system. id_of only_kind 0 ∷ [] };
+
+    ghost step = { λ before seen outcome after left. IfOk outcome (λ done. left (id_of only_kind 0) ≡ Some (record { 0 = pos 7 })) };
+
+    fn run(&mut self, view: &mut View<Only<i64>>) -> Result<(), Fault<DataError>> {
+        *view.write::<i64>(only_id(0))? = 7;
+        Ok(())
+    }
+
+    fn accessor(&self, alloc: Global) -> Result<BatchAccessor, OutOfMemory> {
+        BatchAccessor::of(alloc, &[], &[only_id(0)])
+    }
+}
+
+/// Sets the number at 1 to the double of that at 0.
+#[derive(Drop)]
+struct Doubles;
+
+impl PlainSystem<Only<i64>> for Doubles {
+    type Error = DataError;
+
+    ghost reads = { λ system. id_of only_kind 0 ∷ [] };
+
+    ghost writes = { λ system. id_of only_kind 1 ∷ [] };
+
+    ghost step = { λ before seen outcome after left. IfOk outcome (λ done. left (id_of only_kind 1) ≡ option_map (λ number. record { 0 = int_wrapping_mul w64 number.0 (pos 2) }) (seen (id_of only_kind 0))) };
+
+    fn run(&mut self, view: &mut View<Only<i64>>) -> Result<(), Fault<DataError>> {
+        let double = view.read::<i64>(only_id(0))?.wrapping_mul(2);
+        *view.write::<i64>(only_id(1))? = double;
+        Ok(())
+    }
+
+    fn accessor(&self, alloc: Global) -> Result<BatchAccessor, OutOfMemory> {
+        BatchAccessor::of(alloc, &[only_id(0)], &[only_id(1)])
+    }
+}
+
+fn main(rt: HostRuntime) -> anyhow::Result<()> {
+    let mut world = World::empty(rt.alloc());
+    world.insert_by_id(only_id(0), 1)?;
+    world.insert_by_id(only_id(1), 2)?;
+
+    let builder = DispatcherBuilder::new(rt.alloc())
+        .with(OneOf::First(Plain(Sets)), "sets", &[])?
+        .with(OneOf::Second(Plain(Doubles)), "doubles", &["sets"])?;
+    builder.print_par_seq(&mut ToWriter::new(rt.stdout()))?;
+
+    builder.build().dispatch_par(&rt, &mut world)?;
+    let number = world
+        .try_fetch_by_id::<i64>(only_id(1))?
+        .map(|number| *number);
+    writeln!(rt.stdout(), "{number:?}")?;
+    Ok(())
+}

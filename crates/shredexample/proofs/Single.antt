@@ -13,8 +13,8 @@ use Rattle.shred_world.specs.Worked.{Held}
 use Rattle.shred_stage.specs.Placement.{IsPlaced, in_new_group, at_end_of_group, in_new_stage}
 use Rattle.shred.specs.PlanRuns.{PlanRun}
 use Rattle.shred_stage.specs.Steps.{Step, Written}
-use Rattle.shredexample.specs.Entries.{entries_of_plan}
-use Rattle.shredexample.proofs.Done.{IsDoneStep, plan_done}
+use Rattle.shred_done.specs.Entries.{entries_of_plan}
+use Rattle.shred_done.proofs.Done.{IsDoneStep, plan_done}
 
 -- the first entry stands alone
 alone : (entry : PlanEntry ResourceId) (plan : Plan ResourceId) → IsPlaced [] 0 0 [] entry plan → plan ≡ ((entry ∷ []) ∷ []) ∷ []

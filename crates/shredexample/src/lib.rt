@@ -10,7 +10,7 @@ ghost use Rattle.shred_stage.specs.declared.system.RunningTime.TheVariants.{Aver
 ghost use Rattle.shredexample.specs.declared.Value.TheVariants.{Count};
 
 use shred::{
-    Accessor, DataError, Fault, Kind, OutOfMemory, Resource, ResourceId, ResourceValue,
+    BatchAccessor, DataError, Fault, Kind, OutOfMemory, Resource, ResourceId, ResourceValue,
     RunningTime, StagesBuilder, System, SystemId, View, World, new_dispatcher,
 };
 use std::alloc::Global;
@@ -75,35 +75,14 @@ fn count_id() -> ResourceId
     ResourceId::from_type_id(Kind(0))
 }
 
-/// Writes the count and reads nothing.
-#[derive(Drop)]
-pub struct WritesCount;
-
-impl Accessor for WritesCount {
-    ghost reads = { λ accessor. [] };
-
-    ghost writes = { λ accessor. id_of (record { 0 = 0 }) 0 ∷ [] };
-
-    fn reads(&self, alloc: Global) -> Result<Vec<ResourceId>, OutOfMemory> {
-        Ok(Vec::new(alloc))
-    }
-
-    fn writes(&self, alloc: Global) -> Result<Vec<ResourceId>, OutOfMemory> {
-        match Vec::from_slice(alloc, &[count_id()]) {
-            Ok(ids) => Ok(ids),
-            Err(_) => Err(OutOfMemory),
-        }
-    }
-}
-
-/// Sets the count to 7.
+/// Sets the count to 7. It writes the count and reads nothing.
 #[derive(Drop)]
 pub struct SetToSeven;
 
 impl System<Value> for SetToSeven {
     type Error = DataError;
 
-    type Accessor = WritesCount;
+    type Accessor = BatchAccessor;
 
     ghost reads = { λ system. [] };
 
@@ -132,8 +111,8 @@ impl System<Value> for SetToSeven {
         RunningTime::Average
     }
 
-    fn accessor(&self, _alloc: Global) -> Result<WritesCount, OutOfMemory> {
-        Ok(WritesCount)
+    fn accessor(&self, alloc: Global) -> Result<BatchAccessor, OutOfMemory> {
+        BatchAccessor::of(alloc, &[], &[count_id()])
     }
 
     fn setup(&mut self, _world: &mut World<Value>) -> Result<(), Fault<DataError>> {

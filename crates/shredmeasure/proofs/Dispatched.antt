@@ -16,11 +16,11 @@ use Rattle.shred_table.proofs.Tables.Ids.{tell_ids}
 use Rattle.shred.specs.declared.dispatch.dispatcher.DispatchError.{DispatchError}
 use Rattle.shred_stage.specs.Placement.{IsPlaced}
 use Rattle.shred.specs.PlanRuns.{PlanRun}
-use Rattle.shred_stage.specs.Steps.{Outcome, Written}
-use Rattle.shredexample.specs.declared.Value.{Value}
-use Rattle.shredexample.specs.declared.Value.TheVariants.{Count as counted}
-use Rattle.shredexample.specs.Entries.{entries_of_plan}
-use Rattle.shredexample.proofs.Done.{IsDoneStep, plan_done}
+use Rattle.shred_stage.specs.Steps.{Outcome, Step, Written}
+use Rattle.shred_done.specs.Entries.{entries_of_plan}
+use Rattle.shred_done.proofs.Done.{IsDoneStep, plan_done}
+use Rattle.shred_systems.specs.declared.plain.Plain.{Plain}
+use Rattle.shred_table.specs.declared.only.Only.{Only}
 use Rattle.shredmeasure.specs.declared.adder.AddOne.{AddOne}
 use Rattle.shredmeasure.specs.Adders.{HasOneForEach, occurrences}
 use Rattle.shredmeasure.specs.Adds.{adds_one, IsOneMore}
@@ -55,13 +55,17 @@ one_for_next most plan placed barrier start dependencies entry have writes is_pl
       once = λ k. more.2 k ∙ ap (λ n. cond (most + 1 == k) 1 0 + n) (have.once k) ∙ next_once most k;
     }
 
+-- the step of the system that is dispatched
+abbrev adds : Step (Only ℤ) (Plain AddOne) DataError
+adds before seen outcome after left = adds_one before.0 seen outcome after.0 left
+
 -- a Done step of a system that writes the count of this number alone
-record Made (number : ℕ) (r : Written Value AddOne DataError) : Type 0 where
+record Made (number : ℕ) (r : Written (Only ℤ) (Plain AddOne) DataError) : Type 0 where
   pub entry : PlanEntry ResourceId
   pub writes : entry.access.writes ≡ count_id number ∷ []
-  pub step : IsDoneStep kind_of adds_one entry r
+  pub step : IsDoneStep kind_of adds entry r
 
-all_made : (ns : List ℕ) (entries : List (PlanEntry ResourceId)) (rs : List (Written Value AddOne DataError)) → AllZip (λ number entry. entry.access.writes ≡ count_id number ∷ []) ns entries → AllZip (IsDoneStep kind_of adds_one) entries rs → AllZip Made ns rs
+all_made : (ns : List ℕ) (entries : List (PlanEntry ResourceId)) (rs : List (Written (Only ℤ) (Plain AddOne) DataError)) → AllZip (λ number entry. entry.access.writes ≡ count_id number ∷ []) ns entries → AllZip (IsDoneStep kind_of adds) entries rs → AllZip Made ns rs
 all_made [] [] [] writes made = tt
 all_made [] [] (r ∷ rs) writes made = absurd made
 all_made [] (e ∷ es) rs writes made = absurd writes
@@ -70,45 +74,45 @@ all_made (n ∷ ns) (e ∷ es) [] writes made = absurd made
 all_made (n ∷ ns) (e ∷ es) (r ∷ rs) writes made = (record { entry = e; writes = writes.0; step = made.0 }, all_made ns es rs writes.1 made.1)
 
 -- one more in the count
-abbrev more : Value → Value
-more (counted count) = count_value (int_wrapping_add w64 count.0 (pos 1))
+abbrev more : Only ℤ → Only ℤ
+more value = count_value (int_wrapping_add w64 value.0 (pos 1))
 
 only : (id q : ResourceId) → Contains (id ∷ []) q → id ≡ q
 only id q (zero, below, is) = is
 only id q (suc k, below, is) = absurd (omega arith)
 
 -- a written id is that of the number
-written : (number : ℕ) (r : Written Value AddOne DataError) (id : ResourceId) → Made number r → Contains r.access.writes id → count_id number ≡ id
+written : (number : ℕ) (r : Written (Only ℤ) (Plain AddOne) DataError) (id : ResourceId) → Made number r → Contains r.access.writes id → count_id number ≡ id
 written number r id made has = only (count_id number) id (subst (λ (ids : List ResourceId). Contains ids id) ((λ i. (made.step.is_step.declared i).writes) ∙ made.writes) has)
 
 -- where the step is Done, the system's own number is that of its count
-own_number : (number : ℕ) (r : Written Value AddOne DataError) (made : Made number r) → IsOneMore (r.seen (count_id r.before.number)) (r.left (count_id r.before.number)) → number ≡ r.before.number
-own_number number r made one = elim (is_contained tell_ids r.access.writes (count_id r.before.number)) [
-  | inl has ↦ ap (λ (id : ResourceId). id.dynamic_id) (written number r (count_id r.before.number) made has)
-  | inr out ↦ absurd (other_number one.0 (ap number_of (sym one.2 ∙ made.step.is_step.frame (count_id r.before.number) out ∙ one.1)))
+own_number : (number : ℕ) (r : Written (Only ℤ) (Plain AddOne) DataError) (made : Made number r) → IsOneMore (r.seen (count_id r.before.0.number)) (r.left (count_id r.before.0.number)) → number ≡ r.before.0.number
+own_number number r made one = elim (is_contained tell_ids r.access.writes (count_id r.before.0.number)) [
+  | inl has ↦ ap (λ (id : ResourceId). id.dynamic_id) (written number r (count_id r.before.0.number) made has)
+  | inr out ↦ absurd (other_number one.0 (ap number_of (sym one.2 ∙ made.step.is_step.frame (count_id r.before.0.number) out ∙ one.1)))
 ]
 
-one_of : (number : ℕ) (r : Written Value AddOne DataError) → Made number r → IsOneMore (r.seen (count_id r.before.number)) (r.left (count_id r.before.number))
-one_of number r made = (subst (λ (outcome : Outcome DataError). adds_one r.before r.seen outcome r.after r.left) made.step.done made.step.is_step.lies).1
+one_of : (number : ℕ) (r : Written (Only ℤ) (Plain AddOne) DataError) → Made number r → IsOneMore (r.seen (count_id r.before.0.number)) (r.left (count_id r.before.0.number))
+one_of number r made = (subst (λ (outcome : Outcome DataError). adds r.before r.seen outcome r.after r.left) made.step.done made.step.is_step.lies).1
 
-hit : (k : ℕ) (r : Written Value AddOne DataError) → Made k r → Declares r.access (count_id k) × ((v : Value) → r.seen (count_id k) ≡ Some v → r.left (count_id k) ≡ Some (more v))
+hit : (k : ℕ) (r : Written (Only ℤ) (Plain AddOne) DataError) → Made k r → Declares r.access (count_id k) × ((v : Only ℤ) → r.seen (count_id k) ≡ Some v → r.left (count_id k) ≡ Some (more v))
 hit k r made =
     let one = one_of k r made in
-    let own : k ≡ r.before.number = own_number k r made one in
+    let own : k ≡ r.before.0.number = own_number k r made one in
     let there : IsOneMore (r.seen (count_id k)) (r.left (count_id k)) = subst (λ (n : ℕ). IsOneMore (r.seen (count_id n)) (r.left (count_id n))) (sym own) one in (
       inr (subst (λ (ids : List ResourceId). Contains ids (count_id k)) (sym ((λ i. (made.step.is_step.declared i).writes) ∙ made.writes)) (0, omega arith, refl)),
       λ v seen. there.2 ∙ (let same : count_value there.0 ≡ v = (let before = there.1 in cc) in ap (λ w. Some (more w)) same),
     )
 
-miss : (k n : ℕ) (r : Written Value AddOne DataError) → n ≢ k → Made n r → Declares r.access (count_id k) → r.left (count_id k) ≡ r.seen (count_id k)
+miss : (k n : ℕ) (r : Written (Only ℤ) (Plain AddOne) DataError) → n ≢ k → Made n r → Declares r.access (count_id k) → r.left (count_id k) ≡ r.seen (count_id k)
 miss k n r other made declared = made.step.is_step.frame (count_id k) (λ has. other (ap (λ (id : ResourceId). id.dynamic_id) (written n r (count_id k) made has)))
 
 -- where a dispatch is Done, each count from 1 to the number of systems is one more
-dispatched_one_more : (most : ℕ) (plan : Plan ResourceId) (x y : Configuration Agent ResourceId Value AddOne) (k : ℕ) (number : ℤ) → HasOneForEach most plan → 0 < k → k ≤ most
-    → IsSerializable (λ list. PlanRun kind_of adds_one plan list (Ok tt)) x y → x.values (count_id k) ≡ Some (count_value number) → y.values (count_id k) ≡ Some (count_value (int_wrapping_add w64 number (pos 1)))
+dispatched_one_more : (most : ℕ) (plan : Plan ResourceId) (x y : Configuration Agent ResourceId (Only ℤ) (Plain AddOne)) (k : ℕ) (number : ℤ) → HasOneForEach most plan → 0 < k → k ≤ most
+    → IsSerializable (λ list. PlanRun kind_of adds plan list (Ok tt)) x y → x.values (count_id k) ≡ Some (count_value number) → y.values (count_id k) ≡ Some (count_value (int_wrapping_add w64 number (pos 1)))
 dispatched_one_more most plan x y k number have above below ran here =
     stepped Made more (count_id k) k (hit k) (miss k) (λ r. is_declared tell_ids r.access (count_id k)) have.numbers ran.list x y (count_value number)
-    (all_made have.numbers (entries_of_plan plan) ran.list have.entries (plan_done kind_of adds_one plan ran.list ran.run)) ran.replays here
+    (all_made have.numbers (entries_of_plan plan) ran.list have.entries (plan_done kind_of adds plan ran.list ran.run)) ran.replays here
     ∙ (let once : occurrences k have.numbers ≡ 1 = have.once k ∙ grind (arith, nat_tests) in ap (λ m. Some (steps_on more m (count_value number))) once)
 
 -- what is said of an answer that is no error
@@ -122,10 +126,10 @@ at_ok P (Ok value) is none h = h
 at_ok P (Err error) is none h = absurd (cc)
 
 -- one more dispatch that is no error leaves a plan with one system for each count, and each count one more
-pub dispatched_again : {failed : Bool} (most times : ℕ) (plan left : Plan ResourceId) (x y : Configuration Agent ResourceId Value AddOne) (result : Result (Unit {0}) (DispatchError DataError)) → failed ≡ is_err result → failed ≡ false → left ≡ plan
-    → IsSerializable (λ list. PlanRun kind_of adds_one plan list result) x y → HasOneForEach most plan × HasCountEach most times x.values → HasOneForEach most left × HasCountEach most (times + 1) y.values
+pub dispatched_again : {failed : Bool} (most times : ℕ) (plan left : Plan ResourceId) (x y : Configuration Agent ResourceId (Only ℤ) (Plain AddOne)) (result : Result (Unit {0}) (DispatchError DataError)) → failed ≡ is_err result → failed ≡ false → left ≡ plan
+    → IsSerializable (λ list. PlanRun kind_of adds plan list result) x y → HasOneForEach most plan × HasCountEach most times x.values → HasOneForEach most left × HasCountEach most (times + 1) y.values
 dispatched_again most times plan left x y result is none same ran (have, counts) =
-    let done = at_ok (λ (r : Result (Unit {0}) (DispatchError DataError)). IsSerializable (λ list. PlanRun kind_of adds_one plan list r) x y) result is none ran in (
+    let done = at_ok (λ (r : Result (Unit {0}) (DispatchError DataError)). IsSerializable (λ list. PlanRun kind_of adds plan list r) x y) result is none ran in (
       subst (λ (p : Plan ResourceId). HasOneForEach most p) (sym same) have,
       λ k above below. dispatched_one_more most plan x y k (int_wrap w64 (pos times)) have above below done (counts k above below) ∙ ap (λ n. Some (count_value n)) (one_more_time times),
     )

@@ -2,14 +2,14 @@
 use Rattle.std.specs.Prelude.{◌≡◌, ℕ, ◌*◌, ◌-◌, ◌^◌, ◌<◌, ◌≤◌, min, ℤ, pos, Some}
 use Rattle.std.specs.Int.{w64, int_wrap}
 use Rattle.shred_world.specs.Worked.{Held}
-use Rattle.shredexample.specs.declared.Value.{Value}
+use Rattle.shred_table.specs.declared.only.Only.{Only}
 use Rattle.shredmeasure.specs.declared.order.Mode.{Mode}
 use Rattle.shredmeasure.specs.declared.order.Mode.TheVariants.{Dispatching, Planning}
 use Rattle.shredmeasure.specs.Counts.{count_id, count_value}
 use Rattle.shredmeasure.specs.Random.{AreDrawnOften}
 
 -- under each number from 1 to that of the systems a count is held, which is the number of times, wrapped to 64 bits with sign
-abbrev pub HasCountEach : ℕ → ℕ → Held Value → Type 0
+abbrev pub HasCountEach : ℕ → ℕ → Held (Only ℤ) → Type 0
 HasCountEach systems times held = (number : ℕ) → 0 < number → number ≤ systems → held (count_id number) ≡ Some (count_value (int_wrap w64 (pos times)))
 
 -- Where systems are dispatched, their number times that of the dispatches, wrapped to 64 bits with sign; where plans are built, the number of stages of so many random plans, wrapped to 64 bits and then at most the greatest number of 64 bits with sign.

@@ -21,11 +21,10 @@ mod adder;
 mod order;
 mod random;
 
-use adder::{AddOne, count_id};
+use adder::AddOne;
 use order::{Mode, Order, Place};
 use random::Planned;
-use shred::{Dispatcher, StagesBuilder, SystemId, World, new_dispatcher};
-use shredexample::{Count, Value};
+use shred::{Dispatcher, Only, Plain, StagesBuilder, SystemId, World, new_dispatcher, only_id};
 use std::alloc::Global;
 use std::io::{Read, Write};
 use std::process::ExitCode;
@@ -36,15 +35,15 @@ use std::thread::Threads;
 struct Stopped;
 
 /// The shared count, and one for each system.
-fn world_of(alloc: Global, systems: u64) -> Result<World<Value>, Stopped>
+fn world_of(alloc: Global, systems: u64) -> Result<World<Only<i64>>, Stopped>
     ensures { IfOk result (λ world. (id : ResourceId) → world_held kind_of world id ≡ zeros_to systems id) }
 {
     let mut world = World::empty(alloc);
-    if world.insert_by_id(count_id(0), Count(0)).is_err() {
+    if world.insert_by_id(only_id(0), 0i64).is_err() {
         return Err(Stopped);
     }
     for number in 0..systems {
-        if world.insert_by_id(count_id(number + 1), Count(0)).is_err() {
+        if world.insert_by_id(only_id(number + 1), 0i64).is_err() {
             return Err(Stopped);
         }
     }
@@ -52,12 +51,15 @@ fn world_of(alloc: Global, systems: u64) -> Result<World<Value>, Stopped>
 }
 
 /// A system for each number from 1 to this one.
-fn dispatcher_of(alloc: Global, systems: u64) -> Result<Dispatcher<Value, AddOne>, Stopped>
+fn dispatcher_of(
+    alloc: Global,
+    systems: u64,
+) -> Result<Dispatcher<Only<i64>, Plain<AddOne>>, Stopped>
     ensures { IfOk result (λ dispatcher. HasOneForEach systems (dispatcher_plan dispatcher)) }
 {
     let mut builder = StagesBuilder::new(alloc);
     for number in 0..systems {
-        let system = AddOne { number: number + 1 };
+        let system = Plain(AddOne { number: number + 1 });
         if builder
             .insert(&[], SystemId(number as usize), system)
             .is_err()
@@ -69,17 +71,17 @@ fn dispatcher_of(alloc: Global, systems: u64) -> Result<Dispatcher<Value, AddOne
 }
 
 // The count of this number, 0 where none is held.
-fn count_at(world: &World<Value>, number: u64) -> i64
+fn count_at(world: &World<Only<i64>>, number: u64) -> i64
     ensures { result ≡ number_of (world_held kind_of world.now (id_of number)) }
 {
-    match world.try_fetch_by_id::<Count>(count_id(number)) {
-        Ok(Some(count)) => count.0,
+    match world.try_fetch_by_id::<i64>(only_id(number)) {
+        Ok(Some(count)) => *count,
         _ => 0,
     }
 }
 
 /// The sum of the systems' own counts, which wraps past 64 bits with sign.
-fn sum_of(world: &World<Value>, systems: u64) -> i64
+fn sum_of(world: &World<Only<i64>>, systems: u64) -> i64
     ensures sum { result ≡ int_wrap w64 (sum_to (world_held kind_of world.now) systems) }
     ensures product { (times : ℕ) → HasCountEach systems times (world_held kind_of world.now) → result ≡ int_wrap w64 (pos (systems * times)) }
 {
@@ -100,7 +102,7 @@ fn planned(alloc: Global, systems: u64, seed: &mut u64) -> Result<usize, Stopped
             return Err(Stopped);
         };
         if builder
-            .insert(&[], SystemId(number as usize), system)
+            .insert(&[], SystemId(number as usize), Plain(system))
             .is_err()
         {
             return Err(Stopped);
@@ -122,7 +124,7 @@ fn planned_often(alloc: Global, systems: u64, times: u64) -> Result<u64, Stopped
 }
 
 /// The world after the dispatches that are asked for, on the caller's thread.
-fn dispatched_on_caller(alloc: Global, order: Order) -> Result<World<Value>, Stopped>
+fn dispatched_on_caller(alloc: Global, order: Order) -> Result<World<Only<i64>>, Stopped>
     ensures { IfOk result (λ world. HasCountEach order.systems order.times (world_held kind_of world)) }
 {
     let mut world = world_of(alloc, order.systems)?;
@@ -140,7 +142,7 @@ fn dispatched_on_threads<R: Threads + Sync>(
     rt: &R,
     alloc: Global,
     order: Order,
-) -> Result<World<Value>, Stopped>
+) -> Result<World<Only<i64>>, Stopped>
     ensures { IfOk result (λ world. HasCountEach order.systems order.times (world_held kind_of world)) }
 {
     let mut world = world_of(alloc, order.systems)?;

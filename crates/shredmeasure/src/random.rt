@@ -1,52 +1,20 @@
 //! Systems of random accesses, which are only planned.
 ghost use Rattle.std.specs.Prelude.{◌≡◌, IfOk};
-ghost use Rattle.shred_stage.specs.declared.system.RunningTime.TheVariants.{Average};
 ghost use Rattle.shredmeasure.specs.Random.{ids_drawn, next_seed, reads_drawn, seed_left, writes_drawn};
 
-use crate::adder::count_id;
 use shred::{
-    Accessor, DataError, Fault, OutOfMemory, ResourceId, RunningTime, System, View, World,
+    BatchAccessor, DataError, Fault, Only, OutOfMemory, PlainSystem, ResourceId, View, only_id,
 };
-use shredexample::Value;
 use std::alloc::Global;
 
 /// How many resources there are.
 const RESOURCES: u64 = 300;
 
-/// The lists of a system.
-#[derive(Drop)]
-pub(crate) struct Lists {
-    reads: Vec<ResourceId>,
-    writes: Vec<ResourceId>,
-}
-
-fn copied(alloc: Global, ids: &Vec<ResourceId>) -> Result<Vec<ResourceId>, OutOfMemory>
-    ensures { IfOk result (λ copy. copy.items ≡ ids.now.items) }
-{
-    match Vec::from_slice(alloc, ids.as_slice()) {
-        Ok(copy) => Ok(copy),
-        Err(_) => Err(OutOfMemory),
-    }
-}
-
-impl Accessor for Lists {
-    ghost reads = { λ lists. lists.reads.items };
-
-    ghost writes = { λ lists. lists.writes.items };
-
-    fn reads(&self, alloc: Global) -> Result<Vec<ResourceId>, OutOfMemory> {
-        copied(alloc, &self.reads)
-    }
-
-    fn writes(&self, alloc: Global) -> Result<Vec<ResourceId>, OutOfMemory> {
-        copied(alloc, &self.writes)
-    }
-}
-
 /// A system that is only planned.
 #[derive(Drop)]
 pub(crate) struct Planned {
-    lists: Lists,
+    reads: Vec<ResourceId>,
+    writes: Vec<ResourceId>,
 }
 
 // The next of a row of numbers that look random.
@@ -60,8 +28,8 @@ fn next(seed: u64) -> u64
 impl Planned {
     /// A system of one to six ids, of which it writes about every third.
     pub(crate) fn random(alloc: Global, seed: &mut u64) -> Result<Planned, OutOfMemory>
-        ensures reads { IfOk result (λ system. system.lists.reads.items ≡ reads_drawn (ids_drawn (next_seed seed.old)) (next_seed seed.old)) }
-        ensures writes { IfOk result (λ system. system.lists.writes.items ≡ writes_drawn (ids_drawn (next_seed seed.old)) (next_seed seed.old)) }
+        ensures reads { IfOk result (λ system. system.reads.items ≡ reads_drawn (ids_drawn (next_seed seed.old)) (next_seed seed.old)) }
+        ensures writes { IfOk result (λ system. system.writes.items ≡ writes_drawn (ids_drawn (next_seed seed.old)) (next_seed seed.old)) }
         ensures seed { IfOk result (λ system. seed.new ≡ seed_left (next_seed seed.old)) }
     {
         let mut reads = Vec::new(alloc);
@@ -69,7 +37,7 @@ impl Planned {
         *seed = next(*seed);
         for _ in 0..(*seed >> 33) % 6 + 1 {
             *seed = next(*seed);
-            let id = count_id((*seed >> 33) % RESOURCES);
+            let id = only_id((*seed >> 33) % RESOURCES);
             let pushed = if (*seed >> 50) % 3 == 0 {
                 writes.push(id).is_ok()
             } else {
@@ -79,54 +47,24 @@ impl Planned {
                 return Err(OutOfMemory);
             }
         }
-        Ok(Planned {
-            lists: Lists { reads, writes },
-        })
+        Ok(Planned { reads, writes })
     }
 }
 
-impl System<Value> for Planned {
+impl PlainSystem<Only<i64>> for Planned {
     type Error = DataError;
 
-    type Accessor = Lists;
+    ghost reads = { λ system. system.reads.items };
 
-    ghost reads = { λ system. system.lists.reads.items };
-
-    ghost writes = { λ system. system.lists.writes.items };
-
-    ghost time = { λ system. Average };
+    ghost writes = { λ system. system.writes.items };
 
     ghost step = { λ _ _ _ _ _. Unit {0} };
 
-    ghost sets_up = { λ _ _ _ _ _. Unit {0} };
-
-    ghost disposes = { λ _ _ _ _. Unit {0} };
-
-    fn run(&mut self, _view: &mut View<Value>) -> Result<(), Fault<DataError>> {
+    fn run(&mut self, _view: &mut View<Only<i64>>) -> Result<(), Fault<DataError>> {
         Ok(())
     }
 
-    fn running_time(&self) -> RunningTime {
-        RunningTime::Average
-    }
-
-    fn accessor(&self, alloc: Global) -> Result<Lists, OutOfMemory> {
-        let reads = match copied(alloc, &self.lists.reads) {
-            Ok(reads) => reads,
-            Err(e) => return Err(e),
-        };
-        let writes = match copied(alloc, &self.lists.writes) {
-            Ok(writes) => writes,
-            Err(e) => return Err(e),
-        };
-        Ok(Lists { reads, writes })
-    }
-
-    fn setup(&mut self, _world: &mut World<Value>) -> Result<(), Fault<DataError>> {
-        Ok(())
-    }
-
-    fn dispose(self, _world: &mut World<Value>) -> Result<(), Fault<DataError>> {
-        Ok(())
+    fn accessor(&self, alloc: Global) -> Result<BatchAccessor, OutOfMemory> {
+        BatchAccessor::of(alloc, self.reads.as_slice(), self.writes.as_slice())
     }
 }

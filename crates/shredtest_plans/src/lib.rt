@@ -1,4 +1,4 @@
-//! Tests of the planner, the builder and dispatches, and of the library examples.
+//! Tests of the planner, the builder and dispatches.
 #![tactic(auto)]
 
 #[cfg(test)]
@@ -19,8 +19,6 @@ mod gate;
 mod made_systems;
 #[cfg(test)]
 mod named_stages;
-#[cfg(test)]
-mod own_bundle;
 #[cfg(test)]
 mod plan_rows;
 #[cfg(test)]

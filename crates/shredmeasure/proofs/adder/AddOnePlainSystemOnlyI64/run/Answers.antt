@@ -3,11 +3,11 @@ use Rattle.std.specs.Prelude.{is_some}
 use Rattle.shred_world.specs.Views.{view_held}
 use Rattle.shred_world.proofs.Views.KeptIds.{ids-kept}
 use Rattle.shredmeasure.specs.Counts.{kind_of}
-use Rattle.shredmeasure.proofs.adder.AddOneSystemValue.run.Goals as goal
+use Rattle.shredmeasure.proofs.adder.AddOnePlainSystemOnlyI64.run.Goals as goal
 
 pub returns-in-Ok-clause-step : goal.returns-in-Ok-clause-step
 returns-in-Ok-clause-step c =
-    (refl, (c.in-Ok.count.now.0, search rules, search rules))
+    (refl, (c.in-Ok.count.now, search rules, search rules))
 
 pub returns-in-Ok-clause-ids : goal.returns-in-Ok-clause-ids
 returns-in-Ok-clause-ids c =

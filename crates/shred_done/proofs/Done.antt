@@ -9,7 +9,7 @@ use Rattle.shred_table.specs.declared.id.ResourceId.{ResourceId}
 use Rattle.shred_stage.specs.declared.dispatch.run.StageFault.TheVariants.{System, Memory}
 use Rattle.shred_stage.specs.Entries.{EntryRun, GroupRun, entry_answer}
 use Rattle.shred.specs.PlanRuns.{PlanRun, PlanTurn}
-use Rattle.shredexample.specs.Entries.{entries_of_stage, entries_of_plan}
+use Rattle.shred_done.specs.Entries.{entries_of_stage, entries_of_plan}
 use Rattle.shred_stage.specs.Steps.{Outcome, Step, Written, IsStep}
 
 -- The record is a step of the entry's system, and it was Done.

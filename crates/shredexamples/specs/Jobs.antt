@@ -1,0 +1,36 @@
+-- What the systems of the enum do.
+use Rattle.std.specs.Prelude.{◌≡◌, ℤ, List, [], ◌∷◌, Some, IfOk}
+use Rattle.std.specs.Int.{w64, int_wrapping_add}
+use Rattle.shred_stage.specs.Steps.{Step}
+use Rattle.shred_table.specs.declared.id.ResourceId.{ResourceId}
+use Rattle.shred_table.specs.declared.only.Only.{Only}
+use Rattle.shred_world.specs.declared.world.view.DataError.{DataError}
+use Rattle.shredexamples.specs.declared.enum_of_systems.Add.{Add}
+use Rattle.shredexamples.specs.declared.enum_of_systems.Copy.{Copy}
+use Rattle.shredexamples.specs.declared.enum_of_systems.Job.{Job}
+use Rattle.shredexamples.specs.declared.enum_of_systems.Job.TheVariants as job
+use Rattle.shredexamples.specs.Numbers.{number_id, number_value}
+
+-- a step leaves the system as it was, and where it is Done, the number of its place has grown by the amount, and wraps past 64 bits with sign
+abbrev pub AddStep : Step (Only ℤ) Add DataError
+AddStep before seen outcome after left = (after ≡ before) × IfOk outcome (λ done. (number : ℤ) × (seen (number_id before.to) ≡ Some (number_value number)) × (left (number_id before.to) ≡ Some (number_value (int_wrapping_add w64 number before.amount))))
+
+-- a step leaves the system as it was, and where it is Done, the second place has the number of the first
+abbrev pub CopyStep : Step (Only ℤ) Copy DataError
+CopyStep before seen outcome after left = (after ≡ before) × IfOk outcome (λ done. left (number_id before.to) ≡ seen (number_id before.from))
+
+-- a step is one of the system of the variant
+abbrev pub JobStep : Step (Only ℤ) Job DataError
+JobStep (job.Add before) seen outcome (job.Add after) left = AddStep before seen outcome after left
+JobStep (job.Copy before) seen outcome (job.Copy after) left = CopyStep before seen outcome after left
+JobStep _ _ _ _ _ = ⊥
+
+-- what a job reads
+abbrev pub job_reads : Job → List ResourceId
+job_reads (job.Add add) = []
+job_reads (job.Copy copy) = number_id copy.from ∷ []
+
+-- what a job writes
+abbrev pub job_writes : Job → List ResourceId
+job_writes (job.Add add) = number_id add.to ∷ []
+job_writes (job.Copy copy) = number_id copy.to ∷ []

@@ -1,0 +1,38 @@
+//! A dispatch of two systems, of whatever type.
+use shred::{
+    DataError, Dispatcher, Only, OutOfMemory, StagesBuilder, System, SystemId, World, WorldError,
+    new_dispatcher, only_id,
+};
+use std::alloc::Global;
+
+// A world with 5 at place 1 and 0 at place 2.
+fn world_of_two(alloc: Global) -> Result<World<Only<i64>>, WorldError> {
+    let mut world: World<Only<i64>> = World::empty(alloc);
+    world.insert_by_id(only_id(1), 5i64)?;
+    world.insert_by_id(only_id(2), 0i64)?;
+    Ok(world)
+}
+
+fn dispatcher_of<S: System<Only<i64>> + Drop>(
+    alloc: Global,
+    first: S,
+    second: S,
+) -> Result<Dispatcher<Only<i64>, S>, OutOfMemory> {
+    let mut builder = StagesBuilder::new(alloc);
+    builder.insert(&[], SystemId(0), first)?;
+    builder.insert(&[], SystemId(1), second)?;
+    Ok(new_dispatcher(builder.build()))
+}
+
+/// What two systems, one after the other, leave at place 2 of a world with 5 at place 1 and 0 at place 2; none where
+/// something was refused.
+pub fn left_at_two<S: System<Only<i64>, Error = DataError> + Drop>(
+    alloc: Global,
+    first: S,
+    second: S,
+) -> Option<i64> {
+    let mut world = world_of_two(alloc).ok()?;
+    let mut dispatcher = dispatcher_of(alloc, first, second).ok()?;
+    dispatcher.dispatch_seq(&mut world).ok()?;
+    world.remove_by_id::<i64>(only_id(2)).ok()?
+}

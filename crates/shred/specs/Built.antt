@@ -1,52 +1,80 @@
 -- What a builder has come to, and the steps of its calls.
-use Rattle.std.specs.Prelude.{◌≡◌, ℕ, ◌<◌, ◌+◌, ◌-◌, ◌^◌, List, [], length, Option, None, Some, IsSome}
+use Rattle.std.specs.Prelude.{◌≡◌, ℕ, ◌<◌, ◌+◌, ◌-◌, ◌^◌, List, [], ◌∷◌, ◌++◌, length, Option, None, Some, IsSome}
 use Rattle.shred_table.specs.declared.id.ResourceId.{ResourceId}
 use Rattle.shred_model.specs.Plan.{PlanEntry, Plan}
 use Rattle.shred_model.specs.Record.{Agent}
 use Rattle.shred_stage.specs.Added.{AreSame, IsAdded}
 use Rattle.shred_stage.specs.Earlier.{HasIdAt, IsFromBarrier, StandsAfter, AllBeforeBarrier}
-use Rattle.shred_stage.specs.Kept.{IsKept}
+use Rattle.shred_group.specs.Kept.{IsKept}
 use Rattle.shred_stage.specs.Known.{Known, KnowsAll, IsFirstUnknown, known_ids, with_name}
 use Rattle.shred_stage.specs.Placement.{IsPlaced}
-use Rattle.shred_stage.specs.declared.system.RunningTime.{RunningTime}
+use Rattle.shred_group.specs.declared.system.RunningTime.{RunningTime}
 use Rattle.shred.specs.declared.dispatch.add_error.AddError.{AddError}
 use Rattle.shred.specs.declared.dispatch.add_error.AddError.TheVariants.{NoSuchSystem, NameTaken, IdsExhausted, OutOfMemory}
 
--- A plan with its systems, the known names, the barrier and the number of the next id.
-pub record Built (S : Type 0) : Type 0 where
+-- A plan with its systems, the known names, the barrier, the number of the next id, the thread-local systems, and on how many threads a stage runs at most.
+pub record Built (S L : Type 0) : Type 0 where
   pub plan : Plan ResourceId
   pub states : Agent → Option S
   pub known : Known
   pub barrier : ℕ
   pub next : ℕ
+  pub locals : List L
+  pub workers : ℕ
 
--- Nothing is planned, no name is known, the barrier is 0, and so is the next id.
-pub record IsNewBuilt {S : Type 0} (new : Built S) : Type 0 where
+-- Nothing is planned, no name is known, the barrier is 0, and so is the next id; there is no thread-local system, and the threads are four.
+pub record IsNewBuilt {S L : Type 0} (new : Built S L) : Type 0 where
   pub plan : new.plan ≡ []
   pub states : (path : Agent) → new.states path ≡ None
   pub known : (name : List ℕ) → new.known name ≡ None
   pub barrier : new.barrier ≡ 0
   pub next : new.next ≡ 0
+  pub locals : new.locals ≡ []
+  pub workers : new.workers ≡ 4
 
 -- All is as before.
-pub record IsSameBuilt {S : Type 0} (old new : Built S) : Type 0 where
+pub record IsSameBuilt {S L : Type 0} (old new : Built S L) : Type 0 where
   pub plan : new.plan ≡ old.plan
   pub states : AreSame old.states new.states
   pub known : (name : List ℕ) → new.known name ≡ old.known name
   pub barrier : new.barrier ≡ old.barrier
   pub next : new.next ≡ old.next
+  pub locals : new.locals ≡ old.locals
+  pub workers : new.workers ≡ old.workers
 
 -- The barrier is set to the number of stages, so every entry is before it; all else is as before.
-pub record IsBarrierSet {S : Type 0} (old new : Built S) : Type 0 where
+pub record IsBarrierSet {S L : Type 0} (old new : Built S L) : Type 0 where
   pub plan : new.plan ≡ old.plan
   pub states : AreSame old.states new.states
   pub known : (name : List ℕ) → new.known name ≡ old.known name
   pub barrier : new.barrier ≡ length old.plan
   pub all_before : AllBeforeBarrier new.plan new.barrier
   pub next : new.next ≡ old.next
+  pub locals : new.locals ≡ old.locals
+  pub workers : new.workers ≡ old.workers
 
--- The system is placed with the next id, after its dependencies, and its name is entered unless it is empty; the barrier stays, and the next id is one more.
-pub record IsAddition {S : Type 0} (old new : Built S) (name : List ℕ) (dependencies : List (List ℕ)) (reads writes : List ResourceId) (time : RunningTime) (system : S) : Type 0 where
+-- A stage runs on at most this many threads; all else is as before.
+pub record IsPoolSet {S L : Type 0} (old new : Built S L) (count : ℕ) : Type 0 where
+  pub plan : new.plan ≡ old.plan
+  pub states : AreSame old.states new.states
+  pub known : (name : List ℕ) → new.known name ≡ old.known name
+  pub barrier : new.barrier ≡ old.barrier
+  pub next : new.next ≡ old.next
+  pub locals : new.locals ≡ old.locals
+  pub workers : new.workers ≡ count
+
+-- The thread-local system stands behind the others; all else is as before.
+pub record IsLocalAdded {S L : Type 0} (old new : Built S L) (system : L) : Type 0 where
+  pub plan : new.plan ≡ old.plan
+  pub states : AreSame old.states new.states
+  pub known : (name : List ℕ) → new.known name ≡ old.known name
+  pub barrier : new.barrier ≡ old.barrier
+  pub next : new.next ≡ old.next
+  pub locals : new.locals ≡ old.locals ++ system ∷ []
+  pub workers : new.workers ≡ old.workers
+
+-- The system is placed with the next id, after its dependencies, and its name is entered unless it is empty; the next id is one more, and all else stays.
+pub record IsAddition {S L : Type 0} (old new : Built S L) (name : List ℕ) (dependencies : List (List ℕ)) (reads writes : List ResourceId) (time : RunningTime) (system : S) : Type 0 where
   pub entry : PlanEntry ResourceId
   pub kept : IsKept old.next reads writes time entry
   pub placed : IsPlaced old.plan old.barrier old.barrier (known_ids old.known dependencies) entry new.plan
@@ -56,6 +84,8 @@ pub record IsAddition {S : Type 0} (old new : Built S) (name : List ℕ) (depend
   pub known : (q : List ℕ) → new.known q ≡ with_name old.known name old.next q
   pub barrier : new.barrier ≡ old.barrier
   pub next : new.next ≡ old.next + 1
+  pub locals : new.locals ≡ old.locals
+  pub workers : new.workers ≡ old.workers
 
 -- Each dependency is known, the name is not, and there is a next id.
 pub record MayAdd (known : Known) (next : ℕ) (name : List ℕ) (dependencies : List (List ℕ)) : Type 0 where
@@ -71,7 +101,7 @@ IsRefusal known next name dependencies IdsExhausted = KnowsAll known dependencie
 IsRefusal known next name dependencies OutOfMemory = MayAdd known next name dependencies
 
 -- The plan's ids are below the next one and each stands at one place; a known name stands for an id below it, no two names for the same id, and the empty name for none.
-pub record IsConsistent {S : Type 0} (built : Built S) : Type 0 where
+pub record IsConsistent {S L : Type 0} (built : Built S L) : Type 0 where
   pub below : (place : Agent) (id : ℕ) → HasIdAt built.plan place id → id < built.next
   pub one_place : (place other : Agent) (id : ℕ) → HasIdAt built.plan place id → HasIdAt built.plan other id → place ≡ other
   pub names_below : (name : List ℕ) (id : ℕ) → built.known name ≡ Some id → id < built.next

@@ -3,3 +3,5 @@ pub mod Builders
 pub mod Dispatchers
 pub mod PlanRuns
 pub mod SystemNames
+pub mod FullRuns
+pub mod Setups

@@ -4,12 +4,12 @@ use Rattle.shred_model.specs.Plan as model
 use Rattle.shred_model.specs.Runs.{Answer, RunsUpToFault}
 use Rattle.shred_table.specs.declared.id.Kind.{Kind}
 use Rattle.shred_table.specs.declared.id.ResourceId.{ResourceId}
-use Rattle.shred.specs.declared.dispatch.dispatcher.DispatchError.{DispatchError}
-use Rattle.shred.specs.declared.dispatch.dispatcher.DispatchError.TheVariants as dispatch
-use Rattle.shred_stage.specs.declared.dispatch.run.StageFault.{StageFault}
-use Rattle.shred_stage.specs.declared.dispatch.run.StageFault.TheVariants.{System, Memory}
-use Rattle.shred_stage.specs.Plans.{StageTurn}
-use Rattle.shred_stage.specs.Steps.{Step, Written}
+use Rattle.shred_local.specs.declared.dispatch_error.DispatchError.{DispatchError}
+use Rattle.shred_local.specs.declared.dispatch_error.DispatchError.TheVariants as dispatch
+use Rattle.shred_group.specs.declared.dispatch.run.StageFault.{StageFault}
+use Rattle.shred_group.specs.declared.dispatch.run.StageFault.TheVariants.{System, Memory}
+use Rattle.shred_group.specs.Entries.{StageTurn}
+use Rattle.shred_group.specs.Steps.{Step, Written}
 
 -- the dispatcher's answer for the answer of its stage at this place
 abbrev pub dispatch_answer : {E : Type 0} → ℕ → Answer (StageFault E) → Answer (DispatchError E)

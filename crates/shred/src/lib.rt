@@ -72,7 +72,7 @@
 //!     world.insert_by_id(only_id(0), 1)?;
 //!     world.insert_by_id(only_id(1), 2)?;
 //!
-//!     let builder = DispatcherBuilder::new(rt.alloc())
+//!     let builder: DispatcherBuilder<_, OneOf<_, _>> = DispatcherBuilder::new(rt.alloc())
 //!         .with(OneOf::First(Plain(Sets)), "sets", &[])?
 //!         .with(OneOf::Second(Plain(Doubles)), "doubles", &["sets"])?;
 //!     builder.print_par_seq(&mut ToWriter::new(rt.stdout()))?;
@@ -91,8 +91,9 @@ pub mod dispatch;
 
 pub use dispatch::add_error::AddError;
 pub use dispatch::builder::DispatcherBuilder;
-pub use dispatch::dispatcher::{DispatchError, Dispatcher, new_dispatcher};
+pub use dispatch::dispatcher::{Dispatcher, new_dispatcher};
 pub use dispatch::names::SystemNames;
+pub use shred_local::{DispatchError, Now, RunNow, ThreadLocal};
 pub use shred_stage::{
     Fault, PlanSink, PrintError, RunningTime, SinkFailed, Stage, StageFault, StagesBuilder, System,
     SystemId, ToWriter,
@@ -100,7 +101,7 @@ pub use shred_stage::{
 pub use shred_systems::{OneOf, Plain, PlainSystem};
 pub use shred_world::{
     Accessor, BatchAccessor, Behind, DataError, DefaultProvider, DynamicSystemData, Entry, Fetch,
-    FetchMut, Kind, Lent, Only, OutOfMemory, PanicHandler, Parts, Read, ReadExpect, ReplaceError,
+    FetchMut, Kind, Lent, LocalLent, LocalWorld, Only, OutOfMemory, PanicHandler, Parts, Read, ReadExpect, ReplaceError,
     Resource, ResourceId, ResourceValue, Resources, SetupHandler, SystemData, Table, View,
     ViewWork, World, WorldError, Write, WriteExpect, bundle_accessor, check_intersection, only_id,
 };

@@ -6,11 +6,11 @@ use Rattle.shred_model.specs.Record.{Record, Agent, under}
 use Rattle.shred_model.specs.Runs.{Answer, RunsUpToFault, RunsEach}
 use Rattle.shred_table.specs.declared.id.Kind.{Kind}
 use Rattle.shred_table.specs.declared.id.ResourceId.{ResourceId}
-use Rattle.shred_stage.specs.declared.dispatch.run.StageFault.TheVariants.{System, Memory}
-use Rattle.shred_stage.specs.Entries.{EntryRun, GroupRun, entry_answer}
+use Rattle.shred_group.specs.declared.dispatch.run.StageFault.TheVariants.{System, Memory}
+use Rattle.shred_group.specs.Entries.{EntryRun, GroupRun, entry_answer}
 use Rattle.shred.specs.PlanRuns.{PlanRun, PlanTurn}
 use Rattle.shred_done.specs.Entries.{entries_of_stage, entries_of_plan}
-use Rattle.shred_stage.specs.Steps.{Outcome, Step, Written, IsStep}
+use Rattle.shred_group.specs.Steps.{Outcome, Step, Written, IsStep}
 
 -- The record is a step of the entry's system, and it was Done.
 pub record IsDoneStep {V S E : Type 0} (kind : V → Kind) (step : Step V S E) (entry : PlanEntry ResourceId) (r : Written V S E) : Type 0 where

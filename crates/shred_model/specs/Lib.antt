@@ -7,3 +7,4 @@ pub mod Runs
 pub mod States
 pub mod Serializable
 pub mod Beside
+pub mod InTurn

@@ -1,13 +1,10 @@
 -- Where the planner places an entry, and what plans keep.
 pub mod Added
 pub mod Apart
-pub mod Appended
 pub mod Earlier
 pub mod EntriesAt
-pub mod Ids
 pub mod KeptLists
 pub mod Left
-pub mod Membership
 pub mod Orders
 pub mod PlanKeeps
 pub mod Pushed
@@ -18,4 +15,3 @@ pub mod StageStays
 pub mod Tests
 pub mod Times
 pub mod Touching
-pub mod GrownGroups

@@ -31,10 +31,14 @@ pub record Dispatched {P V S O F : Type 0} (kind : V → Kind) (Run : P → List
   pub plan : after.plan ≡ before.plan
   pub kinds : (id : ResourceId) → option_map kind (after.values id) ≡ option_map kind (before.values id)
 
+-- a stage with its systems, over these values
+abbrev pub stage_with : {V S E X : Type 0} {gv gs gx : _} → Stage V S E X gv gs gx → Held V → Situation (model.Stage ResourceId) V S
+stage_with stage values = record { plan = stage_plan stage; states = stage_states stage; values = values }
+
 -- a stage with its systems, over a world
 abbrev pub stage_over : {V S E X : Type 0} {gv gs gx : _} → (V → Kind) → Stage V S E X gv gs gx → World V → Situation (model.Stage ResourceId) V S
-stage_over kind stage world = record { plan = stage_plan stage; states = stage_states stage; values = world_held kind world }
+stage_over kind stage world = stage_with stage (world_held kind world)
 
--- some stages with their systems, over a world
-abbrev pub stages_over : {V S E X : Type 0} {gv gs gx : _} → (V → Kind) → List (Stage V S E X gv gs gx) → World V → Situation (model.Plan ResourceId) V S
-stages_over kind stages world = record { plan = plan_of stages; states = plan_states stages; values = world_held kind world }
+-- some stages with their systems, over these values
+abbrev pub stages_with : {V S E X : Type 0} {gv gs gx : _} → List (Stage V S E X gv gs gx) → Held V → Situation (model.Plan ResourceId) V S
+stages_with stages values = record { plan = plan_of stages; states = plan_states stages; values = values }

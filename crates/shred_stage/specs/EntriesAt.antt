@@ -2,8 +2,8 @@
 use Rattle.std.specs.Prelude.{List, Option}
 use Rattle.shred_model.specs.Record.{Agent}
 use Rattle.shred_model.specs.States.{own_state, listed_states}
-use Rattle.shred_stage.specs.declared.dispatch.entry.SystemEntry.{SystemEntry}
-use Rattle.shred_stage.specs.declared.dispatch.entry.Group.{Group}
+use Rattle.shred_group.specs.declared.dispatch.entry.SystemEntry.{SystemEntry}
+use Rattle.shred_group.specs.declared.dispatch.entry.Group.{Group}
 use Rattle.shred_stage.specs.declared.dispatch.stage.Stage.{Stage}
 use Rattle.shred_stage.specs.declared.dispatch.stages_builder.StagesBuilder.{StagesBuilder}
 

@@ -1,17 +1,8 @@
 -- Where a plan takes a new entry.
-use Rattle.std.specs.Prelude.{◌≡◌, ◌≢◌, ℕ, ◌<◌, ◌≤◌, ◌-◌, ◌*◌, ◌==◌, ◌⊎◌, List, [], ◌∷◌, ◌++◌, length, max, cond, Some, slice_get, slice_range, slice_set, All, Any, Contains}
+use Rattle.std.specs.Prelude.{◌≡◌, ◌≢◌, ℕ, ◌<◌, ◌≤◌, ◌-◌, ◌*◌, ◌⊎◌, List, [], ◌∷◌, ◌++◌, length, max, Some, slice_get, slice_range, slice_set, All, Any, Contains}
 use Rattle.shred_model.specs.Access.{Access, Conflicts}
 use Rattle.shred_model.specs.Plan.{PlanEntry, Group, Stage, Plan, group_ids, group_access, group_time, plan_ids}
-
--- the list without its first x, if it has one
-abbrev pub without_one : ℕ → List ℕ → List ℕ
-without_one x [] = []
-without_one x (y ∷ ys) = cond (x == y) ys (y ∷ without_one x ys)
-
--- what is left of a list when each of the others takes out one that equals it
-abbrev pub difference : List ℕ → List ℕ → List ℕ
-difference xs [] = xs
-difference xs (y ∷ ys) = difference (without_one y xs) ys
+use Rattle.shred_group.specs.Left.{difference}
 
 -- the dependencies less the ids in the stages from the barrier to k - 1, each occurrence for one
 abbrev pub dependencies_left : {I : Type 0} → Plan I → ℕ → List ℕ → ℕ → List ℕ

@@ -1,33 +1,13 @@
 -- The tests that the planner makes, as functions of plain data.
-use Rattle.std.specs.Prelude.{◌≡◌, ◌≢◌, ℕ, ◌≤◌, ◌-◌, ◌*◌, Bool, true, false, ◌||◌, ◌&&◌, not, nat_eq, ◌==◌, nat_lt, List, length, Option, Some, None, slice_get}
-use Rattle.std.specs.List.{list_any}
+use Rattle.std.specs.Prelude.{◌≡◌, ◌≢◌, ℕ, ◌≤◌, ◌-◌, ◌*◌, Bool, true, false, ◌||◌, ◌&&◌, not, ◌==◌, nat_lt, List, length, Option, Some, None, slice_get}
 use Rattle.shred_model.specs.Access.{Access, Conflicts}
-use Rattle.shred_model.specs.Plan.{PlanEntry, Group, Stage, Plan, group_ids, group_access, group_time}
+use Rattle.shred_model.specs.Plan.{PlanEntry, Group, Stage, Plan, group_access, group_time}
+use Rattle.shred_group.specs.Touching.{group_conflicts}
 use Rattle.shred_stage.specs.Placement.{greatest_time, dependencies_left, Admits, AdmitsNewGroup, AdmitsAtEndOf, NoneAdmits}
 use Rattle.shred_stage.specs.declared.dispatch.stage.Touched.{Touched}
 use Rattle.shred_stage.specs.declared.dispatch.stage.Touched.TheVariants.{Nothing, One, Several}
 use Rattle.shred_stage.specs.declared.dispatch.stage.Spot.{Spot}
 use Rattle.shred_stage.specs.declared.dispatch.stage.Spot.TheVariants.{NewGroup, EndOf}
-
--- some item of the one list is the same as one of the other
-abbrev pub share_item : {T : Type 0} → (T → T → Bool) → List T → List T → Bool
-share_item same xs ys = list_any (λ x. list_any (λ y. same y x) ys) xs
-
--- one writes what the other reads or writes
-abbrev pub accesses_conflict : {I : Type 0} → (I → I → Bool) → Access I → Access I → Bool
-accesses_conflict same a b = share_item same a.writes b.writes || (share_item same a.writes b.reads || share_item same a.reads b.writes)
-
--- some entry of the group conflicts
-abbrev pub group_conflicts : {I : Type 0} → (I → I → Bool) → Access I → Group I → Bool
-group_conflicts same access group = list_any (λ e. accesses_conflict same e.access access) group
-
--- the group holds an id of the list
-abbrev pub holds_any : {I : Type 0} → List ℕ → Group I → Bool
-holds_any ids group = share_item nat_eq (group_ids group) ids
-
--- the group holds an id that is left, or conflicts
-abbrev pub is_touched : {I : Type 0} → (I → I → Bool) → List ℕ → Access I → Group I → Bool
-is_touched same left access group = holds_any left group || group_conflicts same access group
 
 -- nothing is left, or one id is left and the group, which is touched, does not conflict
 abbrev pub waits_for_group : {I : Type 0} → (I → I → Bool) → List ℕ → Access I → Group I → Bool

@@ -2,7 +2,7 @@
 use Rattle.std.specs.Prelude.{ℕ, List, [], ◌∷◌, length, map, max}
 use Rattle.shred_table.specs.declared.id.ResourceId.{ResourceId}
 use Rattle.shred_model.specs.Plan as model
-use Rattle.shred_stage.specs.PlanOf.{groups_plan}
+use Rattle.shred_group.specs.PlanOf.{groups_plan}
 use Rattle.shred_stage.specs.declared.dispatch.stage.Stage.{Stage}
 
 -- a stage's groups, in order

@@ -1,13 +1,10 @@
-//! Systems, the planner that gives them a place, and stages, which run them.
+//! The planner that gives systems a place, stages, which run them, and the plan's text.
 #![tactic(auto)]
 
 pub mod dispatch;
-pub mod system;
 
-pub use dispatch::entry::SystemId;
 pub use dispatch::printing::PrintError;
-pub use dispatch::run::StageFault;
 pub use dispatch::sink::{PlanSink, SinkFailed, ToWriter};
 pub use dispatch::stage::Stage;
 pub use dispatch::stages_builder::StagesBuilder;
-pub use system::{Fault, RunningTime, System};
+pub use shred_group::{Fault, RunningTime, StageFault, System, SystemId, system};

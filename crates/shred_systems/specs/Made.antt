@@ -1,7 +1,7 @@
 -- What systems that are made of simpler ones do.
 use Rattle.std.specs.Prelude.{◌≡◌, Ok}
 use Rattle.shred_world.specs.Worked.{Held}
-use Rattle.shred_stage.specs.Steps.{Outcome, Step}
+use Rattle.shred_group.specs.Steps.{Outcome, Step}
 use Rattle.shred_systems.specs.declared.one_of.OneOf.{OneOf}
 use Rattle.shred_systems.specs.declared.one_of.OneOf.TheVariants.{First, Second}
 

@@ -1,7 +1,7 @@
 //! One of two systems, so that systems of different types share a dispatcher.
 ghost use Rattle.shred_systems.specs.Made.{of_either, StepsEither, EndsEither};
 
-use shred_stage::{Fault, RunningTime, System};
+use shred_group::{Fault, RunningTime, System};
 use shred_world::{Accessor, OutOfMemory, ResourceId, ResourceValue, View, World};
 use std::alloc::Global;
 

@@ -1,18 +1,18 @@
 //! Systems of which only a run and two lists are said.
 ghost use Rattle.std.specs.Prelude.{◌≡◌, List, IfOk, false, is_some};
-ghost use Rattle.shred_stage.specs.declared.system.RunningTime.TheVariants.{Average};
+ghost use Rattle.shred_group.specs.declared.system.RunningTime.TheVariants.{Average};
 ghost use Rattle.shred_systems.specs.Made.{IsLeftAlone};
 ghost use Rattle.shred_table.specs.Accessors.{batch_reads, batch_writes};
 ghost use Rattle.shred_table.specs.declared.id.ResourceId.{ResourceId};
 
-use shred_stage::{Fault, RunningTime, System};
+use shred_group::{Fault, RunningTime, System};
 use shred_world::{BatchAccessor, OutOfMemory, ResourceId, ResourceValue, View, World};
 use std::alloc::Global;
 
 /// What a run does, and over which ids.
 pub trait PlainSystem<V: ResourceValue> {
     ghost use Rattle.shred_world.specs.OwnViews.{IsLent};
-    ghost use Rattle.shred_stage.specs.Steps.{Step};
+    ghost use Rattle.shred_group.specs.Steps.{Step};
     ghost use Rattle.shred_world.specs.Views.{view_held, declared_held, may_write, table_of, IsSameView};
 
     type Error;

@@ -104,6 +104,11 @@ impl<V> Table<V> {
         }
     }
 
+    /// The allocator that the table was made with.
+    pub fn allocator(&self) -> Global {
+        *self.out.allocator()
+    }
+
     /// Whether the id's value was noted as handed out.
     pub fn has_note(&self, id: ResourceId) -> bool
         ensures { result ≡ noted_in self.now id }

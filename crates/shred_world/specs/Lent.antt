@@ -4,6 +4,8 @@ use Rattle.std.specs.Borrow.{Lends, LendsSo, LendsSoOk, MutBor, Fml, RattleType}
 use Rattle.std.specs.Prelude.{Result, []}
 use Rattle.shred_world.specs.declared.world.World.{World}
 use Rattle.shred_world.specs.contracts.world.World.{the_row as world_row}
+use Rattle.shred_world.specs.declared.world.local.LocalWorld.{LocalWorld}
+use Rattle.shred_world.specs.contracts.world.local.LocalWorld.{the_row as local_row}
 use mir.Syntax.{named}
 use Rattle.shred_table.specs.declared.id.Kind.{Kind}
 use Rattle.shred_table.specs.declared.id.ResourceId.{ResourceId}
@@ -13,7 +15,7 @@ use Rattle.shred_world.specs.declared.world.view.View.{View}
 use Rattle.shred_world.specs.contracts.world.view.View.{the_row as view_row}
 use Rattle.shred_table.specs.Slots.{with_at}
 use Rattle.shred_world.specs.Views.{view_held, IsSameView}
-use Rattle.shred_world.specs.Worlds.{world_held}
+use Rattle.shred_world.specs.Worlds.{local_held, world_held}
 
 -- the row of a view whose lifetimes stand at these places of a signature
 abbrev pub view_at : ℕ → ℕ → RattleType → RattleType
@@ -31,28 +33,60 @@ LendsNarrow V s r = Lends (view_at 1 2 V) (table_row V) s r.own (λ t. record s.
 
 -- the world ends with the table that the view leaves
 abbrev pub LendsWorld : (V : RattleType) → MutBor (World V.Denot) → View V.Denot → Fml
-LendsWorld V s r = Lends (world_row V) (table_row V) s r.own (λ t. record s.now { table = t })
+LendsWorld V s r = Lends (world_row V) (table_row V) s r.own (λ t. record s.now { local = record { table = t } })
 
 -- the world ends with the table last written
 abbrev pub LendsTable : (V : RattleType) → MutBor (World V.Denot) → MutBor (Table V.Denot) → Fml
-LendsTable V s r = Lends (world_row V) (table_row V) s r (λ t. record s.now { table = t })
+LendsTable V s r = Lends (world_row V) (table_row V) s r (λ t. record s.now { local = record { table = t } })
 
--- the world n holds the value under the id, and all else as the world s
-abbrev pub EndsWith : {V : Type 0} → (V → Kind) → World V → ResourceId → V → World V → Type 0
-EndsWith kind s id v n = (q : ResourceId) → world_held kind n q ≡ with_at (world_held kind s) id (Some v) q
+-- the world ends with the local world last written
+abbrev pub LendsLocal : (V : RattleType) → MutBor (World V.Denot) → MutBor (LocalWorld V.Denot) → Fml
+LendsLocal V s r = Lends (world_row V) (local_row V) s r (λ l. record s.now { local = l })
+
+-- the local world ends with the table that the view leaves
+abbrev pub LendsLocalWorld : (V : RattleType) → MutBor (LocalWorld V.Denot) → View V.Denot → Fml
+LendsLocalWorld V s r = Lends (local_row V) (table_row V) s r.own (λ t. record s.now { table = t })
+
+-- the local world ends with the table last written
+abbrev pub LendsLocalTable : (V : RattleType) → MutBor (LocalWorld V.Denot) → MutBor (Table V.Denot) → Fml
+LendsLocalTable V s r = Lends (local_row V) (table_row V) s r (λ t. record s.now { table = t })
+
+-- one that holds the value under the id, and all else as the other one
+abbrev pub HoldsWith : {V : Type 0} → (ResourceId → Option V) → ResourceId → V → (ResourceId → Option V) → Type 0
+HoldsWith before id v after = (q : ResourceId) → after q ≡ with_at before id (Some v) q
+
+-- one that holds what the other one holds
+abbrev pub HoldsSame : {V : Type 0} → (ResourceId → Option V) → (ResourceId → Option V) → Type 0
+HoldsSame before after = (q : ResourceId) → after q ≡ before q
 
 -- the world n holds what the world s holds
 abbrev pub EndsSame : {V : Type 0} → (V → Kind) → World V → World V → Type 0
-EndsSame kind s n = (q : ResourceId) → world_held kind n q ≡ world_held kind s q
+EndsSame kind s n = HoldsSame (world_held kind s) (world_held kind n)
+
+-- the local world n holds what the local world s holds
+abbrev pub EndsLocalSame : {V : Type 0} → (V → Kind) → LocalWorld V → LocalWorld V → Type 0
+EndsLocalSame kind s n = HoldsSame (local_held kind s) (local_held kind n)
 
 -- the world ends with the resource last written under the id, or as it was where there is none, and all else as it was
 abbrev pub LendsGot : (V R : RattleType) → (V.Denot → Kind) → (R.Denot → V.Denot) → MutBor (World V.Denot) → ResourceId → Option (MutBor R.Denot) → Fml
 LendsGot V R kind wrapped s id r = LendsSo (world_row V) R s r
-    (λ n w. OnSome r (EndsWith kind s.now id (wrapped w) n))
+    (λ n w. OnSome r (HoldsWith (world_held kind s.now) id (wrapped w) (world_held kind n)))
     (EndsSame kind s.now)
 
 -- the same, or as it was where the call was refused
 abbrev pub LendsGotOk : (V R : RattleType) → (V.Denot → Kind) → (R.Denot → V.Denot) → MutBor (World V.Denot) → ResourceId → {E : Type 0} → Result (MutBor R.Denot) E → Fml
 LendsGotOk V R kind wrapped s id r = LendsSoOk (world_row V) R s r
-    (λ n w. EndsWith kind s.now id (wrapped w) n)
+    (λ n w. HoldsWith (world_held kind s.now) id (wrapped w) (world_held kind n))
     (EndsSame kind s.now)
+
+-- the same of a local world, where there may be none
+abbrev pub LendsLocalGot : (V R : RattleType) → (V.Denot → Kind) → (R.Denot → V.Denot) → MutBor (LocalWorld V.Denot) → ResourceId → Option (MutBor R.Denot) → Fml
+LendsLocalGot V R kind wrapped s id r = LendsSo (local_row V) R s r
+    (λ n w. OnSome r (HoldsWith (local_held kind s.now) id (wrapped w) (local_held kind n)))
+    (EndsLocalSame kind s.now)
+
+-- the same of a local world, where the call may be refused
+abbrev pub LendsLocalGotOk : (V R : RattleType) → (V.Denot → Kind) → (R.Denot → V.Denot) → MutBor (LocalWorld V.Denot) → ResourceId → {E : Type 0} → Result (MutBor R.Denot) E → Fml
+LendsLocalGotOk V R kind wrapped s id r = LendsSoOk (local_row V) R s r
+    (λ n w. HoldsWith (local_held kind s.now) id (wrapped w) (local_held kind n))
+    (EndsLocalSame kind s.now)

@@ -4,17 +4,30 @@ use Rattle.shred_table.specs.declared.id.Kind.{Kind}
 use Rattle.shred_table.specs.declared.id.ResourceId.{ResourceId}
 use Rattle.shred_table.specs.declared.table.Table.{Table}
 use Rattle.shred_world.specs.declared.world.World.{World}
+use Rattle.shred_world.specs.declared.world.local.LocalWorld.{LocalWorld}
 use Rattle.shred_world.specs.declared.world.WorldError.{WorldError}
 use Rattle.shred_world.specs.declared.world.WorldError.TheVariants.{OutOfMemory}
 use Rattle.shred_table.specs.Slots.{among, held, with_at}
 
+-- what a world lends to be read and written while the ids stay
+abbrev pub local_of : {V : Type 0} → World V → LocalWorld V
+local_of w = w.local
+
+-- the table behind a local world
+abbrev pub table_of_local : {V : Type 0} → LocalWorld V → Table V
+table_of_local l = l.table
+
 -- the table behind a world
 abbrev pub table_of_world : {V : Type 0} → World V → Table V
-table_of_world w = w.table
+table_of_world w = w.local.table
+
+-- what a local world holds under an id
+abbrev pub local_held : {V : Type 0} → (V → Kind) → LocalWorld V → ResourceId → Option V
+local_held kind l id = held kind l.table id
 
 -- what a world holds under an id
 abbrev pub world_held : {V : Type 0} → (V → Kind) → World V → ResourceId → Option V
-world_held kind w id = held kind w.table id
+world_held kind w id = held kind w.local.table id
 
 -- some list has every id under which a value is held
 abbrev pub IsFinite : {V : Type 0} → (ResourceId → Option V) → Type 0

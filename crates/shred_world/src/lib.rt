@@ -14,6 +14,8 @@ pub use world::each::ViewWork;
 pub use world::entry::Entry;
 pub use world::fetch::{Fetch, FetchMut};
 pub use world::lent::Lent;
+pub use world::local::LocalWorld;
+pub use world::local_lent::LocalLent;
 pub use world::parted::Parts;
 pub use world::parts::Behind;
 pub use world::read::{Read, ReadExpect};

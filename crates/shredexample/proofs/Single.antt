@@ -12,7 +12,7 @@ use Rattle.shred_table.specs.declared.id.ResourceId.{ResourceId}
 use Rattle.shred_world.specs.Worked.{Held}
 use Rattle.shred_stage.specs.Placement.{IsPlaced, in_new_group, at_end_of_group, in_new_stage}
 use Rattle.shred.specs.PlanRuns.{PlanRun}
-use Rattle.shred_stage.specs.Steps.{Step, Written}
+use Rattle.shred_group.specs.Steps.{Step, Written}
 use Rattle.shred_done.specs.Entries.{entries_of_plan}
 use Rattle.shred_done.proofs.Done.{IsDoneStep, plan_done}
 

@@ -6,12 +6,12 @@ pub mod limits;
 
 ghost use Rattle.std.specs.Prelude.{◌≡◌, [], ◌∷◌, Some, IfOk, IfSome, pos};
 ghost use Rattle.shred_table.specs.Id.{id_of};
-ghost use Rattle.shred_stage.specs.declared.system.RunningTime.TheVariants.{Average};
+ghost use Rattle.shred_group.specs.declared.system.RunningTime.TheVariants.{Average};
 ghost use Rattle.shredexample.specs.declared.Value.TheVariants.{Count};
 
 use shred::{
-    BatchAccessor, DataError, Fault, Kind, OutOfMemory, Resource, ResourceId, ResourceValue,
-    RunningTime, StagesBuilder, System, SystemId, View, World, new_dispatcher,
+    BatchAccessor, DataError, Dispatcher, Fault, Kind, OutOfMemory, Resource, ResourceId, ResourceValue,
+    RunningTime, StagesBuilder, System, SystemId, ThreadLocal, View, World, new_dispatcher,
 };
 use std::alloc::Global;
 
@@ -134,7 +134,8 @@ pub fn count_after_dispatch(alloc: Global) -> Option<i64>
     let mut builder: StagesBuilder<Value, SetToSeven> = StagesBuilder::new(alloc);
     builder.insert(&[], SystemId(0), SetToSeven).ok()?;
 
-    let mut dispatcher = new_dispatcher(builder.build());
+    let mut dispatcher: Dispatcher<Value, SetToSeven> =
+        new_dispatcher(builder.build(), ThreadLocal::new(alloc), 4);
     dispatcher.dispatch_seq(&mut world).ok()?;
 
     match world.try_fetch_by_id::<Count>(count_id()) {

@@ -33,7 +33,7 @@ impl PlanSink for Bytes {
 }
 
 /// What the builder prints of its plan.
-pub fn text_of<V: ResourceValue, S: System<V>>(
+pub fn text_of<V: ResourceValue, S: System<V> + Drop>(
     alloc: Global,
     builder: &DispatcherBuilder<V, S>,
 ) -> Result<Vec<u8>, PrintError>

@@ -1,7 +1,7 @@
 //! A dispatch of two systems, of whatever type.
 use shred::{
-    DataError, Dispatcher, Only, OutOfMemory, StagesBuilder, System, SystemId, World, WorldError,
-    new_dispatcher, only_id,
+    DataError, Dispatcher, Only, OutOfMemory, StagesBuilder, System, SystemId, ThreadLocal, World,
+    WorldError, new_dispatcher, only_id,
 };
 use std::alloc::Global;
 
@@ -21,7 +21,7 @@ fn dispatcher_of<S: System<Only<i64>> + Drop>(
     let mut builder = StagesBuilder::new(alloc);
     builder.insert(&[], SystemId(0), first)?;
     builder.insert(&[], SystemId(1), second)?;
-    Ok(new_dispatcher(builder.build()))
+    Ok(new_dispatcher(builder.build(), ThreadLocal::new(alloc), 4))
 }
 
 /// What two systems, one after the other, leave at place 2 of a world with 5 at place 1 and 0 at place 2; none where

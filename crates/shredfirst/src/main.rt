@@ -65,7 +65,7 @@ fn main(rt: HostRuntime) -> anyhow::Result<()> {
     world.insert_by_id(only_id(0), 1)?;
     world.insert_by_id(only_id(1), 2)?;
 
-    let builder = DispatcherBuilder::new(rt.alloc())
+    let builder: DispatcherBuilder<_, OneOf<_, _>> = DispatcherBuilder::new(rt.alloc())
         .with(OneOf::First(Plain(Sets)), "sets", &[])?
         .with(OneOf::Second(Plain(Doubles)), "doubles", &["sets"])?;
     builder.print_par_seq(&mut ToWriter::new(rt.stdout()))?;

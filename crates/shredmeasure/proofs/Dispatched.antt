@@ -13,10 +13,10 @@ use Rattle.shred_model.proofs.Records.Membership.{is_contained, is_declared}
 use Rattle.shred_table.specs.declared.id.ResourceId.{ResourceId}
 use Rattle.shred_world.specs.declared.world.view.DataError.{DataError}
 use Rattle.shred_table.proofs.Tables.Ids.{tell_ids}
-use Rattle.shred.specs.declared.dispatch.dispatcher.DispatchError.{DispatchError}
+use Rattle.shred_local.specs.declared.dispatch_error.DispatchError.{DispatchError}
 use Rattle.shred_stage.specs.Placement.{IsPlaced}
 use Rattle.shred.specs.PlanRuns.{PlanRun}
-use Rattle.shred_stage.specs.Steps.{Outcome, Step, Written}
+use Rattle.shred_group.specs.Steps.{Outcome, Step, Written}
 use Rattle.shred_done.specs.Entries.{entries_of_plan}
 use Rattle.shred_done.proofs.Done.{IsDoneStep, plan_done}
 use Rattle.shred_systems.specs.declared.plain.Plain.{Plain}

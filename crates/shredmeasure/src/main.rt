@@ -24,7 +24,9 @@ mod random;
 use adder::AddOne;
 use order::{Mode, Order, Place};
 use random::Planned;
-use shred::{Dispatcher, Only, Plain, StagesBuilder, SystemId, World, new_dispatcher, only_id};
+use shred::{
+    Dispatcher, Only, Plain, StagesBuilder, SystemId, ThreadLocal, World, new_dispatcher, only_id,
+};
 use std::alloc::Global;
 use std::io::{Read, Write};
 use std::process::ExitCode;
@@ -67,7 +69,7 @@ fn dispatcher_of(
             return Err(Stopped);
         }
     }
-    Ok(new_dispatcher(builder.build()))
+    Ok(new_dispatcher(builder.build(), ThreadLocal::new(alloc), 4))
 }
 
 // The count of this number, 0 where none is held.

@@ -7,6 +7,7 @@ use Rattle.shred_model.specs.Record.{Agent}
 use Rattle.shred_model.specs.States.{configuration_of}
 use Rattle.shred_table.specs.declared.id.ResourceId.{ResourceId}
 use Rattle.shred_world.specs.Worked.{Held}
+use Rattle.shred_local.specs.declared.now.Now.{Now}
 use Rattle.shred.specs.Built.{Built}
 use Rattle.shred_stage.specs.Names.{AreNames, NamedId}
 use Rattle.std.specs.Prelude.{IfOk, Option, Result, Ok, Err}
@@ -22,7 +23,7 @@ use Rattle.shredscript.specs.Report.{first_held, resource_names}
 use Rattle.shredscript.specs.Runs.{IsDispatch, IsNotRun, IsRunOf}
 
 -- the dispatcher has the plan and the systems that were built, and the world has the first values
-pub run-of : (script : Script) (built : Built ScriptSystem) (names : List NamedId) (begins : List ℕ) (plan : Plan ResourceId) (states : Agent → Option ScriptSystem) (held : Held Value) → IsBuiltBy script.plan.items built
+pub run-of : (script : Script) (built : Built ScriptSystem (Now ScriptSystem)) (names : List NamedId) (begins : List ℕ) (plan : Plan ResourceId) (states : Agent → Option ScriptSystem) (held : Held Value) → IsBuiltBy script.plan.items built
     → AreNames names built.known → IsPlanPart script.prints_plan names built.plan begins → plan ≡ built.plan → ((path : Agent) → states path ≡ built.states path) → ((id : ResourceId) → held id ≡ first_held (values script.resources) id)
     → (outcome : Outcome) (text : List ℕ) → IsDispatch plan (configuration_of states held) (resource_names script.resources) begins outcome text → IsRunOf script outcome text
 run-of script built names begins plan states held made known planned same_plan same_states same_held outcome text ran =
@@ -46,7 +47,7 @@ ok-then (Ok x) P Q more h = more x h
 ok-then (Err e) P Q more h = tt
 
 -- the plan was not made, which is asked for where it can fail
-pub not-run : (script : Script) (built : Built ScriptSystem) (names : List NamedId) (asked : Bool) (error : ScriptError) → script.prints_plan ≡ asked → IsBuiltBy script.plan.items built → AreNames names built.known
+pub not-run : (script : Script) (built : Built ScriptSystem (Now ScriptSystem)) (names : List NamedId) (asked : Bool) (error : ScriptError) → script.prints_plan ≡ asked → IsBuiltBy script.plan.items built → AreNames names built.known
     → IsNotPlanned asked names built.plan error → IsNotRun script error
 not-run script built names true (Unnamed id) is made known why = record { asked = is; built = built; made = made; names = names; known = known; first = why }
 not-run script built names true OutOfMemory is made known why = tt

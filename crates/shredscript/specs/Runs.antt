@@ -10,12 +10,13 @@ use Rattle.shred_model.specs.Runs.{Answer}
 use Rattle.shred_model.specs.States.{configuration_of}
 use Rattle.shred_table.specs.declared.id.ResourceId.{ResourceId}
 use Rattle.shred_world.specs.Worked.{Held}
+use Rattle.shred_local.specs.declared.now.Now.{Now}
 use Rattle.shred.specs.Built.{Built}
 use Rattle.shred_stage.specs.Names.{AreNames, NamedId, first_unnamed}
 use Rattle.shred.specs.PlanRuns.{PlanRun}
 use Rattle.shred_stage.specs.Sinks.{AppendsBeginning}
-use Rattle.shred_stage.specs.Steps.{Outcome as Ends}
-use Rattle.shred.specs.declared.dispatch.dispatcher.DispatchError.{DispatchError}
+use Rattle.shred_group.specs.Steps.{Outcome as Ends}
+use Rattle.shred_local.specs.declared.dispatch_error.DispatchError.{DispatchError}
 use Rattle.shredscript.specs.declared.error.ScriptError.{ScriptError}
 use Rattle.shredscript.specs.declared.error.ScriptError.TheVariants.{TooLong, InputFailed, Line, Refused, Unnamed, OutOfMemory, OutputFailed}
 use Rattle.shredscript.specs.declared.input.TheConstants.{MOST_BYTES}
@@ -48,7 +49,7 @@ pub record IsDispatch (plan : Plan ResourceId) (start : Configuration Agent Reso
 
 -- A script is run: its lines make a plan, which is printed where it is asked for, and which runs over the first values.
 pub record IsRunOf (script : Script) (outcome : Outcome) (text : List ℕ) : Type 0 where
-  pub built : Built ScriptSystem
+  pub built : Built ScriptSystem (Now ScriptSystem)
   pub made : IsBuiltBy script.plan.items built
   pub names : List NamedId
   pub known : AreNames names built.known
@@ -59,7 +60,7 @@ pub record IsRunOf (script : Script) (outcome : Outcome) (text : List ℕ) : Typ
 -- A script is not run, since its plan is asked for and a system has no name, of which the first in the plan's order has this id.
 pub record IsUnnamed (script : Script) (id : ℕ) : Type 0 where
   pub asked : script.prints_plan ≡ true
-  pub built : Built ScriptSystem
+  pub built : Built ScriptSystem (Now ScriptSystem)
   pub made : IsBuiltBy script.plan.items built
   pub names : List NamedId
   pub known : AreNames names built.known

@@ -2,7 +2,7 @@
 ghost use Rattle.std.specs.Prelude.{◌≡◌, false, true, Ok, Some, IfOk, IsSome};
 ghost use Rattle.std.specs.List.{All};
 ghost use Rattle.std.specs.Option.{ok_or};
-ghost use Rattle.shred_stage.specs.declared.system.Fault.TheVariants.{Refused};
+ghost use Rattle.shred_group.specs.declared.system.Fault.TheVariants.{Refused};
 ghost use Rattle.shred_table.specs.declared.id.ResourceId.{ResourceId};
 ghost use Rattle.shred_table.specs.Slots.{with_at};
 ghost use Rattle.shred_world.specs.Views.{is_out, may_write};

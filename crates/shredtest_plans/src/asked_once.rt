@@ -1,6 +1,6 @@
 //! How often a builder asks a system, and what becomes of a system that is refused.
 ghost use Rattle.std.specs.Prelude.{[]};
-ghost use Rattle.shred_stage.specs.declared.system.RunningTime.TheVariants.{Average};
+ghost use Rattle.shred_group.specs.declared.system.RunningTime.TheVariants.{Average};
 
 use crate::calls::{expect_add, insert};
 use shred::{

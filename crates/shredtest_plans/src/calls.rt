@@ -1,7 +1,7 @@
 //! Calls of the library, each for every type of system.
 
 use shred::{
-    AddError, Dispatcher, DispatcherBuilder, OutOfMemory, Stage, StagesBuilder, System, SystemId,
+    AddError, Dispatcher, DispatcherBuilder, OutOfMemory, Stage, StagesBuilder, System, SystemId, ThreadLocal,
     World, new_dispatcher,
 };
 use shredtest::values::Value;
@@ -38,7 +38,7 @@ pub(crate) fn dispatcher_of<S: System<Value> + Drop>(
     systems: Vec<S>,
 ) -> Result<Dispatcher<Value, S>, OutOfMemory> {
     let stages = inserted(alloc, systems)?.build();
-    Ok(new_dispatcher(stages))
+    Ok(new_dispatcher(stages, ThreadLocal::new(alloc), 4))
 }
 
 /// The builder answers so to `add`.
@@ -97,7 +97,7 @@ where
     S::Accessor: Send,
 {
     let answer = if on_threads {
-        stage.execute(rt, world)
+        stage.execute(rt, world, 2)
     } else {
         stage.execute_seq(world)
     };

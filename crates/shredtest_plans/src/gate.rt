@@ -1,6 +1,6 @@
 //! Systems of one stage that wait for each other.
 ghost use Rattle.std.specs.Prelude.{[]};
-ghost use Rattle.shred_stage.specs.declared.system.RunningTime.TheVariants.{Average};
+ghost use Rattle.shred_group.specs.declared.system.RunningTime.TheVariants.{Average};
 
 use crate::calls::{dispatched, dispatcher_of};
 use shred::{Fault, OutOfMemory, RunningTime, System, View, World};

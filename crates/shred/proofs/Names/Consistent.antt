@@ -47,9 +47,9 @@ known-again known entered left name next is_new enters forgets q = forgets q ∙
   told true is = sym is_new ∙ ap known ((bytes_eq-Decides name q).0 is)
   told false is = enters q ∙ other-stays known name next q is
 
-module _ {S : Type 0} where
+module _ {S L : Type 0} where
   -- without a plan and without names
-  pub empty-consistent : (new : Built S) → new.plan ≡ [] → ((name : List ℕ) → new.known name ≡ None) → IsConsistent new
+  pub empty-consistent : (new : Built S L) → new.plan ≡ [] → ((name : List ℕ) → new.known name ≡ None) → IsConsistent new
   empty-consistent new empty unknown = record {
     below = λ place id there. absurd (nowhere place id there);
     one_place = λ place other id there here. absurd (nowhere place id there);
@@ -65,7 +65,7 @@ module _ {S : Type 0} where
     nowhere place id (found, at, same) = nowhere-empty place found (sym (ap (λ plan. entry_at plan place) empty) ∙ at)
 
   -- with the same plan, names and next id
-  pub still-consistent : (old new : Built S) → new.plan ≡ old.plan → ((name : List ℕ) → new.known name ≡ old.known name) → new.next ≡ old.next → IsConsistent old → IsConsistent new
+  pub still-consistent : (old new : Built S L) → new.plan ≡ old.plan → ((name : List ℕ) → new.known name ≡ old.known name) → new.next ≡ old.next → IsConsistent old → IsConsistent new
   still-consistent old new plan known next before = record {
     below = λ place id there. subst (λ n. id < n) (sym next) (before.below place id (stood place id there));
     one_place = λ place other id there here. before.one_place place other id (stood place id there) (stood other id here);
@@ -77,7 +77,7 @@ module _ {S : Type 0} where
     stood place id there = subst (λ p. HasIdAt p place id) plan there
 
   -- with one more entry of the next id, and its name
-  pub entered-consistent : (old new : Built S) (at : Agent) (entry : PlanEntry ResourceId) (name : List ℕ) → entry.id ≡ old.next → IsNewAt at (entry_at old.plan) (entry_at new.plan) entry
+  pub entered-consistent : (old new : Built S L) (at : Agent) (entry : PlanEntry ResourceId) (name : List ℕ) → entry.id ≡ old.next → IsNewAt at (entry_at old.plan) (entry_at new.plan) entry
       → ((q : List ℕ) → new.known q ≡ with_name old.known name old.next q) → new.next ≡ old.next + 1 → IsConsistent old → IsConsistent new
   entered-consistent old new at entry name same_id is_new enters next before = record {
     below = λ place id there. below-next id (⊎_elim (λ here. inr (here.1 ∙ same_id)) (λ stood. inl (before.below place id stood)) (cases place id there));

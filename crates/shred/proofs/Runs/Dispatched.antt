@@ -10,9 +10,9 @@ use Rattle.shred_table.specs.declared.id.Kind.{Kind}
 use Rattle.shred_table.specs.declared.id.ResourceId.{ResourceId}
 use Rattle.shred_table.proofs.Tables.Ids.{tell_ids}
 use Rattle.shred_stage.specs.Dispatched.{Dispatched, Situation}
-use Rattle.shred_stage.specs.Steps.{Step, Written}
-use Rattle.shred_stage.proofs.Runs.FramedRuns.{turn_framed}
-use Rattle.shred.specs.declared.dispatch.dispatcher.DispatchError.{DispatchError}
+use Rattle.shred_group.specs.Steps.{Step, Written}
+use Rattle.shred_group.proofs.Runs.FramedRuns.{turn_framed}
+use Rattle.shred_local.specs.declared.dispatch_error.DispatchError.{DispatchError}
 use Rattle.shred.specs.PlanRuns.{PlanTurn, PlanRun}
 
 module _ {V S E : Type 0} (kind : V → Kind) (step : Step V S E) where

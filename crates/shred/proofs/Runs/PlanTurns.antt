@@ -8,11 +8,11 @@ use Rattle.shred_model.specs.Runs.{Answer, Ran}
 use Rattle.shred_model.proofs.Joined.Ran.{Ran-as, Ran-of_one_thread}
 use Rattle.shred_table.specs.declared.id.Kind.{Kind}
 use Rattle.shred_table.specs.declared.id.ResourceId.{ResourceId}
-use Rattle.shred.specs.declared.dispatch.dispatcher.DispatchError.{DispatchError}
-use Rattle.shred_stage.specs.declared.dispatch.run.StageFault.{StageFault}
-use Rattle.shred_stage.specs.Plans.{StageTurn}
+use Rattle.shred_local.specs.declared.dispatch_error.DispatchError.{DispatchError}
+use Rattle.shred_group.specs.declared.dispatch.run.StageFault.{StageFault}
+use Rattle.shred_group.specs.Entries.{StageTurn}
 use Rattle.shred.specs.PlanRuns.{PlanTurn, dispatch_answer}
-use Rattle.shred_stage.specs.Steps.{Step}
+use Rattle.shred_group.specs.Steps.{Step}
 
 -- what a stage's call leaves is its turn, with the dispatcher's answer for its answer
 pub turn-ran : {V S E : Type 0} (kind : V → Kind) (step : Step V S E) (place : ℕ) (stage : model.Stage ResourceId) (x y : Configuration Agent ResourceId V S) (a : Answer (StageFault E)) (b : Answer (DispatchError E)) → b ≡ dispatch_answer place a

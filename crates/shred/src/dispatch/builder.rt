@@ -6,9 +6,10 @@ ghost use Rattle.std.proofs.Props.{props};
 ghost use Rattle.shred_model.specs.Plan.{plan_ids};
 ghost use Rattle.shred_model.specs.Record.{Agent};
 ghost use Rattle.shred_stage.specs.BuilderPlan.{planned, barrier_of, builder_states};
-ghost use Rattle.shred.specs.Built.{IsAddition, IsBarrierSet, IsConsistent, IsNewBuilt, IsRefusal, IsSameBuilt, MayAdd};
-ghost use Rattle.shred.specs.Dispatchers.{dispatcher_plan, dispatcher_states};
+ghost use Rattle.shred.specs.Built.{IsAddition, IsBarrierSet, IsConsistent, IsLocalAdded, IsNewBuilt, IsPoolSet, IsRefusal, IsSameBuilt, MayAdd};
+ghost use Rattle.shred.specs.Dispatchers.{dispatcher_locals, dispatcher_plan, dispatcher_states, dispatcher_workers};
 ghost use Rattle.shred.specs.SystemNames.{names_known, names_pairs};
+ghost use Rattle.shred_local.specs.ThreadLocals.{systems_of};
 ghost use Rattle.shred_stage.specs.Earlier.{plan_has};
 ghost use Rattle.shred_stage.specs.Known.{texts_of};
 ghost use Rattle.shred_stage.specs.Names.{AreNames, first_unnamed, names_of};
@@ -19,6 +20,7 @@ use crate::dispatch::add_error::AddError;
 use crate::dispatch::dispatcher::{Dispatcher, new_dispatcher};
 use crate::dispatch::look_up::{enter, first_unknown, forget, id_of, ids_of};
 use crate::dispatch::names::SystemNames;
+use shred_local::{Now, ThreadLocal};
 use shred_stage::dispatch::printing::print_with_end;
 use shred_stage::{PlanSink, PrintError, StagesBuilder, System, SystemId};
 use shred_world::{OutOfMemory, ResourceValue};
@@ -30,17 +32,19 @@ mod tests;
 
 /// A plan that grows by one system after another, with names for them.
 #[derive(Drop)]
-pub struct DispatcherBuilder<V: ResourceValue, S: System<V>> {
+pub struct DispatcherBuilder<V: ResourceValue, S: System<V>, L = Now<S>> {
     alloc: Global,
     stages: StagesBuilder<V, S>,
     names: HashMap<String, SystemId>,
     next: usize,
+    thread_local: ThreadLocal<L>,
+    workers: usize,
     ghost distinct_names: { IsUnique string_eq names } by { Prim.hlevel props },
     ghost known_planned: { (name : List ℕ) (id : ℕ) → names_of names name ≡ Some id → plan_has (planned stages) id ≡ true },
-    ghost consistent: { IsConsistent (record { plan = planned stages; states = builder_states stages; known = names_of names; barrier = barrier_of stages; next = next }) },
+    ghost consistent: { IsConsistent (record { plan = planned stages; states = builder_states stages; known = names_of names; barrier = barrier_of stages; next = next; locals = systems_of thread_local; workers = workers }) },
 }
 
-impl<V: ResourceValue, S: System<V>> DispatcherBuilder<V, S> {
+impl<V: ResourceValue, S: System<V>, L: Drop> DispatcherBuilder<V, S, L> {
     ghost use Rattle.shred.specs.Builders.{built, builder_pairs};
 
     /// An empty plan, without names. It takes no memory.
@@ -57,12 +61,16 @@ impl<V: ResourceValue, S: System<V>> DispatcherBuilder<V, S> {
         ensures known { (name : List ℕ) → (built result).known name ≡ None }
         ensures barrier { (built result).barrier ≡ 0 }
         ensures next { (built result).next ≡ next }
+        ensures locals { (built result).locals ≡ [] }
+        ensures workers { (built result).workers ≡ 4 }
     {
         DispatcherBuilder {
             alloc,
             stages: StagesBuilder::new(alloc),
             names: HashMap::new(alloc),
             next,
+            thread_local: ThreadLocal::new(alloc),
+            workers: 4,
         }
     }
 
@@ -93,6 +101,54 @@ impl<V: ResourceValue, S: System<V>> DispatcherBuilder<V, S> {
         builder
     }
 
+    /// Sets on how many threads a stage is to run at most, the caller's among them; it is 4 unless set. Any number may be
+    /// given: 0 and 1 are the caller's thread alone. It takes no memory.
+    pub fn add_pool(&mut self, workers: usize)
+        ensures { IsPoolSet (built self.old) (built self.new) workers }
+    {
+        self.workers = workers;
+    }
+
+    /// `add_pool`, on a builder that is handed on.
+    pub fn with_pool(self, workers: usize) -> Self
+    where
+        V: Drop,
+        S: Drop,
+        ensures { IsPoolSet (built self) (built result) workers }
+    {
+        let mut builder = self;
+        builder.add_pool(workers);
+        builder
+    }
+
+    /// Puts a thread-local system behind those that are there. It takes memory from the fifth on; where that is refused, the
+    /// builder is as before, and the system is dropped.
+    pub fn add_thread_local(&mut self, system: L) -> Result<(), AddError>
+        ensures added { OnOk result (IsLocalAdded (built self.old) (built self.new) system) }
+        ensures refused { IfErr result (λ e. e ≡ AddError.OutOfMemory) }
+        ensures unchanged { OnErr result (IsSameBuilt (built self.old) (built self.new)) }
+    {
+        match self.thread_local.push(system) {
+            Ok(()) => Ok(()),
+            Err(OutOfMemory) => Err(AddError::OutOfMemory),
+        }
+    }
+
+    /// `add_thread_local`, on a builder that is handed on. After a refusal the builder is dropped.
+    pub fn with_thread_local(self, system: L) -> Result<Self, AddError>
+    where
+        V: Drop,
+        S: Drop,
+        ensures added { IfOk result (λ after. IsLocalAdded (built self) (built after) system) }
+        ensures refused { IfErr result (λ e. e ≡ AddError.OutOfMemory) }
+    {
+        let mut builder = self;
+        match builder.add_thread_local(system) {
+            Ok(()) => Ok(builder),
+            Err(error) => Err(error),
+        }
+    }
+
     /// Puts the plan's text and a line feed into the sink. Where a system has no name, nothing is put, and the answer is
     /// `Unnamed` with the first such id in the plan's order. Where the sink fails, it is `Write`, and a beginning of the
     /// text was put. The printed names are the known ones. It takes no memory.
@@ -106,29 +162,33 @@ impl<V: ResourceValue, S: System<V>> DispatcherBuilder<V, S> {
     }
 
     /// The dispatcher of the plan. It takes no memory.
-    pub fn build(self) -> Dispatcher<V, S>
+    pub fn build(self) -> Dispatcher<V, S, L>
     where
         V: Drop,
         S: Drop,
         ensures plan { dispatcher_plan result ≡ (built self).plan }
         ensures states { (path : Agent) → dispatcher_states result path ≡ (built self).states path }
+        ensures locals { dispatcher_locals result ≡ (built self).locals }
+        ensures workers { dispatcher_workers result ≡ (built self).workers }
         ensures consistent { IsConsistent (built self) }
     {
-        new_dispatcher(self.stages.build())
+        new_dispatcher(self.stages.build(), self.thread_local, self.workers)
     }
 
     /// The dispatcher of the plan, and the names that are known. It takes no memory.
-    pub fn build_with_names(self) -> (Dispatcher<V, S>, SystemNames)
+    pub fn build_with_names(self) -> (Dispatcher<V, S, L>, SystemNames)
     where
         V: Drop,
         S: Drop,
         ensures plan { dispatcher_plan result.0 ≡ (built self).plan }
         ensures states { (path : Agent) → dispatcher_states result.0 path ≡ (built self).states path }
+        ensures locals { dispatcher_locals result.0 ≡ (built self).locals }
+        ensures workers { dispatcher_workers result.0 ≡ (built self).workers }
         ensures known { (name : List ℕ) → names_known result.1 name ≡ (built self).known name }
         ensures names { AreNames (names_pairs result.1) (built self).known }
         ensures consistent { IsConsistent (built self) }
     {
-        let dispatcher = new_dispatcher(self.stages.build());
+        let dispatcher = new_dispatcher(self.stages.build(), self.thread_local, self.workers);
         (dispatcher, SystemNames { names: self.names })
     }
 

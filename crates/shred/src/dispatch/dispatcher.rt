@@ -1,9 +1,15 @@
-//! The dispatcher: it runs a plan.
+//! The dispatcher: it runs a plan, and then the thread-local systems.
 ghost use Rattle.std.specs.Prelude.{◌≡◌, ◌++◌, Err};
+ghost use Rattle.shred_group.specs.Alone.{KeepsKinds};
+ghost use Rattle.shred_local.specs.LocalRuns.{LocalsRun};
+ghost use Rattle.shred_local.specs.ThreadLocals.{systems_of};
 ghost use Rattle.shred_model.specs.Plan.{plan_ids};
 ghost use Rattle.shred_model.specs.Record.{Agent};
-ghost use Rattle.shred_stage.specs.Dispatched.{Dispatched, stages_over};
-ghost use Rattle.shred.specs.Dispatchers.{dispatcher_over, dispatcher_plan, dispatcher_states};
+ghost use Rattle.shred_model.specs.Runs.{first_fault};
+ghost use Rattle.shred_stage.specs.Dispatched.{Dispatched, stages_with};
+ghost use Rattle.shred.specs.Dispatchers.{dispatcher_locals, dispatcher_over, dispatcher_plan, dispatcher_states, dispatcher_with, dispatcher_workers};
+ghost use Rattle.shred.specs.FullRuns.{FullyDispatched, IsRefusedBy, RunsNow, whole_over, whole_with};
+ghost use Rattle.shred.specs.Setups.{DisposesNow, IsDisposedOf, IsSetUp, SetsUpNow, StageDisposalAt, StagesDisposal, StagesSetup};
 ghost use Rattle.shred.specs.SystemNames.{names_known, names_pairs};
 ghost use Rattle.shred_stage.specs.Names.{AreNames, first_unnamed};
 ghost use Rattle.shred_stage.specs.Plans.{plan_states};
@@ -11,42 +17,40 @@ ghost use Rattle.shred.specs.PlanRuns.{PlanRun, dispatch_answer};
 ghost use Rattle.shred_stage.specs.Printed.{line_feed, plan_text};
 ghost use Rattle.shred_stage.specs.Prints.{IsPrinted};
 ghost use Rattle.shred_stage.specs.StagePlan.{plan_of, widest};
+ghost use Rattle.shred_world.specs.Worlds.{local_held, world_held};
 
 use crate::dispatch::names::SystemNames;
+use shred_local::{DispatchError, Now, RunNow, ThreadLocal};
 use shred_stage::dispatch::printing::print;
-use shred_stage::{Fault, PlanSink, PrintError, Stage, StageFault, System, SystemId};
-use shred_world::{ResourceValue, World};
-use std::fmt::Display;
+use shred_stage::{Fault, PlanSink, PrintError, Stage, StageFault, System};
+use shred_world::{LocalWorld, ResourceValue, World};
 use std::thread::Threads;
-use thiserror::Error;
 
-/// Why a dispatch did not end as Done.
-#[derive(Debug, Drop, Error)]
-#[error_bound(E: Display)]
-pub enum DispatchError<E> {
-    /// The staged system of this id ended with a fault.
-    #[error("{id}: {fault}")]
-    System { id: SystemId, fault: Fault<E> },
-    /// The thread-local system at this place ended with a fault.
-    #[error("thread-local system {index}: {fault}")]
-    ThreadLocal { index: usize, fault: Fault<E> },
-    /// The stage of this number was refused for memory; those before it are done, and it was not begun.
-    #[error("stage {stage}: out of memory")]
-    StageMemory { stage: usize },
-}
-
-/// Runs the stages of a plan over a world.
+/// Runs the stages of a plan over a world, and then the thread-local systems.
 #[derive(Drop)]
-pub struct Dispatcher<V: ResourceValue, S: System<V>> {
+pub struct Dispatcher<V: ResourceValue, S: System<V>, L = Now<S>> {
     stages: Vec<Stage<V, S>>,
+    thread_local: ThreadLocal<L>,
+    workers: usize,
 }
 
-/// The dispatcher of these stages. It takes no memory.
-pub fn new_dispatcher<V: ResourceValue, S: System<V>>(stages: Vec<Stage<V, S>>) -> Dispatcher<V, S>
+/// The dispatcher of these stages, each of which runs on at most that many threads, and of these thread-local systems. It
+/// takes no memory.
+pub fn new_dispatcher<V: ResourceValue, S: System<V>, L>(
+    stages: Vec<Stage<V, S>>,
+    thread_local: ThreadLocal<L>,
+    workers: usize,
+) -> Dispatcher<V, S, L>
     ensures plan { dispatcher_plan result ≡ plan_of stages.items }
     ensures states { (path : Agent) → dispatcher_states result path ≡ plan_states stages.items path }
+    ensures locals { dispatcher_locals result ≡ systems_of thread_local }
+    ensures workers { dispatcher_workers result ≡ workers }
 {
-    Dispatcher { stages }
+    Dispatcher {
+        stages,
+        thread_local,
+        workers,
+    }
 }
 
 // The greatest number of groups in a stage.
@@ -60,7 +64,7 @@ fn widest_of<V: ResourceValue, S: System<V>>(stages: &Vec<Stage<V, S>>) -> usize
     most
 }
 
-impl<V: ResourceValue, S: System<V>> Dispatcher<V, S> {
+impl<V: ResourceValue, S: System<V>, L> Dispatcher<V, S, L> {
     /// The greatest number of groups in a stage, 0 where there is none.
     pub fn max_threads(&self) -> usize
         ensures { result ≡ widest (dispatcher_plan self.now) }
@@ -97,12 +101,12 @@ fn at_stage<E>(stage: usize, fault: StageFault<E>) -> DispatchError<E>
 // The stages' runs, in order, up to the first that is not Done, on the caller's thread.
 fn run_stages<V: ResourceValue + Drop, S: System<V, Error = E>, E: Drop>(
     stages: &mut [Stage<V, S>],
-    world: &mut World<V>,
+    world: &mut LocalWorld<V>,
 ) -> Result<(), DispatchError<E>>
-    ensures { Dispatched V.kind_of (PlanRun V.kind_of S.step) (stages_over V.kind_of stages.old world.old) result (stages_over V.kind_of stages.new world.new) }
+    ensures { Dispatched V.kind_of (PlanRun V.kind_of S.step) (stages_with stages.old (local_held V.kind_of world.old)) result (stages_with stages.new (local_held V.kind_of world.new)) }
 {
     for (place, stage) in stages.iter_mut().enumerate() {
-        if let Err(fault) = stage.execute_seq(world) {
+        if let Err(fault) = stage.execute_seq_local(world) {
             return Err(at_stage(place, fault));
         }
     }
@@ -115,46 +119,272 @@ fn fork_stages<
     V: ResourceValue + Drop + Send + Sync,
     S: System<V, Error = E> + Send,
     E: Drop + Send,
->(rt: &R, stages: &mut [Stage<V, S>], world: &mut World<V>) -> Result<(), DispatchError<E>>
+>(
+    rt: &R,
+    stages: &mut [Stage<V, S>],
+    world: &mut LocalWorld<V>,
+    workers: usize,
+) -> Result<(), DispatchError<E>>
 where
     S::Accessor: Send,
-    ensures { Dispatched V.kind_of (PlanRun V.kind_of S.step) (stages_over V.kind_of stages.old world.old) result (stages_over V.kind_of stages.new world.new) }
+    ensures { Dispatched V.kind_of (PlanRun V.kind_of S.step) (stages_with stages.old (local_held V.kind_of world.old)) result (stages_with stages.new (local_held V.kind_of world.new)) }
 {
     for (place, stage) in stages.iter_mut().enumerate() {
-        if let Err(fault) = stage.execute(rt, world) {
+        if let Err(fault) = stage.execute_local(rt, world, workers) {
             return Err(at_stage(place, fault));
         }
     }
     Ok(())
 }
 
-impl<V: ResourceValue + Drop, S: System<V, Error = E>, E: Drop> Dispatcher<V, S> {
+// The stages' setups, in order, up to the first that is not Done.
+fn set_up_stages<V: ResourceValue + Drop, S: System<V, Error = E> + Drop, E: Drop>(
+    stages: &mut [Stage<V, S>],
+    world: &mut World<V>,
+) -> Result<(), DispatchError<E>>
+    ensures set_up { StagesSetup S.sets_up stages.old (world_held V.kind_of world.old) result stages.new (world_held V.kind_of world.new) }
+    ensures plan { plan_of stages.new ≡ plan_of stages.old }
+{
+    for (place, stage) in stages.iter_mut().enumerate() {
+        if let Err(fault) = stage.setup(world) {
+            return Err(at_stage(place, fault));
+        }
+    }
+    Ok(())
+}
+
+// The first answer that is not Done.
+fn first<E: Drop>(
+    a: Result<(), DispatchError<E>>,
+    b: Result<(), DispatchError<E>>,
+) -> Result<(), DispatchError<E>>
+    ensures { result ≡ first_fault a b }
+{
+    match a {
+        Ok(()) => b,
+        Err(error) => Err(error),
+    }
+}
+
+// The disposal of the stage at this place.
+fn dispose_of_stage<V: ResourceValue + Drop, S: System<V, Error = E> + Drop, E: Drop>(
+    place: usize,
+    stage: Stage<V, S>,
+    world: &mut World<V>,
+) -> Result<(), DispatchError<E>>
+    ensures { StageDisposalAt S.disposes place stage (world_held V.kind_of world.old) result (world_held V.kind_of world.new) }
+{
+    match stage.dispose(world) {
+        Ok(()) => Ok(()),
+        Err(fault) => Err(at_stage(place, fault)),
+    }
+}
+
+// The disposals of all stages, in order, with the first answer that is not Done.
+fn dispose_of_stages<V: ResourceValue + Drop, S: System<V, Error = E> + Drop, E: Drop>(
+    stages: Vec<Stage<V, S>>,
+    world: &mut World<V>,
+) -> Result<(), DispatchError<E>>
+    ensures { StagesDisposal S.disposes stages.items (world_held V.kind_of world.old) result (world_held V.kind_of world.new) }
+{
+    let mut answer = Ok(());
+    let mut place = 0;
+    for stage in stages {
+        answer = first(answer, dispose_of_stage(place, stage, world));
+        place += 1;
+    }
+    answer
+}
+
+// A dispatch's answer, as the outcome of one run.
+fn as_run<E>(answer: Result<(), DispatchError<E>>) -> Result<(), Fault<DispatchError<E>>>
+    ensures { IsRefusedBy answer result }
+{
+    match answer {
+        Ok(()) => Ok(()),
+        Err(error) => Err(Fault::Refused(error)),
+    }
+}
+
+impl<V: ResourceValue + Drop, S: System<V, Error = E>, L, E: Drop> Dispatcher<V, S, L> {
     /// Runs the stages, one after the other, up to the first that is not Done, on the caller's thread. A stage whose
     /// memory is refused is told as `StageMemory`; it has not begun, and those before it are done.
     pub fn dispatch_seq(&mut self, world: &mut World<V>) -> Result<(), DispatchError<E>>
-        ensures { Dispatched V.kind_of (PlanRun V.kind_of S.step) (dispatcher_over V.kind_of self.old world.old) result (dispatcher_over V.kind_of self.new world.new) }
+        ensures dispatched { Dispatched V.kind_of (PlanRun V.kind_of S.step) (dispatcher_over V.kind_of self.old world.old) result (dispatcher_over V.kind_of self.new world.new) }
+        ensures locals { dispatcher_locals self.new ≡ dispatcher_locals self.old }
+        ensures workers { dispatcher_workers self.new ≡ dispatcher_workers self.old }
     {
-        run_stages(self.stages.as_mut_slice(), world)
+        run_stages(self.stages.as_mut_slice(), world.local())
+    }
+}
+
+impl<V: ResourceValue, S: System<V>, L: RunNow<V> + Drop> Dispatcher<V, S, L> {
+    /// Runs the thread-local systems over the world, one after the other, up to the first that is not Done, on the caller's
+    /// thread.
+    pub fn dispatch_thread_local<R: Threads + Sync>(
+        &mut self,
+        rt: &R,
+        world: &mut World<V>,
+    ) -> Result<(), DispatchError<L::Error>>
+        ensures run { LocalsRun V.kind_of L.runs (dispatcher_locals self.old) (world_held V.kind_of world.old) result (dispatcher_locals self.new) (world_held V.kind_of world.new) }
+        ensures kinds { KeepsKinds V.kind_of (world_held V.kind_of world.old) (world_held V.kind_of world.new) }
+        ensures plan { dispatcher_plan self.new ≡ dispatcher_plan self.old }
+        ensures states { (path : Agent) → dispatcher_states self.new path ≡ dispatcher_states self.old path }
+        ensures workers { dispatcher_workers self.new ≡ dispatcher_workers self.old }
+    {
+        self.thread_local.run(rt, world.local())
+    }
+}
+
+impl<
+    V: ResourceValue + Drop,
+    S: System<V, Error = E> + Drop,
+    L: RunNow<V, Error = E> + Drop,
+    E: Drop,
+> Dispatcher<V, S, L> {
+    /// Sets up the staged systems, in the plan's order, and then the thread-local ones, up to the first that is not Done,
+    /// which the answer tells. What was done before it stays.
+    pub fn setup(&mut self, world: &mut World<V>) -> Result<(), DispatchError<E>>
+        ensures set_up { IsSetUp S.sets_up L.sets_up self.old (world_held V.kind_of world.old) result self.new (world_held V.kind_of world.new) }
+        ensures plan { dispatcher_plan self.new ≡ dispatcher_plan self.old }
+        ensures workers { dispatcher_workers self.new ≡ dispatcher_workers self.old }
+    {
+        match set_up_stages(self.stages.as_mut_slice(), world) {
+            Ok(()) => self.thread_local.setup(world),
+            Err(error) => Err(error),
+        }
+    }
+
+    /// Disposes of the staged systems, in the plan's order, and then of the thread-local ones, of all of them. The answer
+    /// tells the first that is not Done.
+    pub fn dispose(self, world: &mut World<V>) -> Result<(), DispatchError<E>>
+        ensures { IsDisposedOf S.disposes L.disposes self (world_held V.kind_of world.old) result (world_held V.kind_of world.new) }
+    {
+        let staged = dispose_of_stages(self.stages, world);
+        first(staged, self.thread_local.dispose(world))
+    }
+
+    // The stages' runs on the caller's thread, and then, where these are Done, those of the thread-local systems.
+    fn dispatch_here<R: Threads + Sync>(
+        &mut self,
+        rt: &R,
+        world: &mut LocalWorld<V>,
+    ) -> Result<(), DispatchError<E>>
+        ensures dispatched { FullyDispatched V.kind_of (PlanRun V.kind_of S.step) L.runs (whole_with self.old (local_held V.kind_of world.old)) result (whole_with self.new (local_held V.kind_of world.new)) }
+        ensures kinds { KeepsKinds V.kind_of (local_held V.kind_of world.old) (local_held V.kind_of world.new) }
+    {
+        match run_stages(self.stages.as_mut_slice(), world) {
+            Ok(()) => self.thread_local.run(rt, world),
+            Err(error) => Err(error),
+        }
+    }
+}
+
+impl<
+    V: ResourceValue + Drop,
+    S: System<V, Error = E> + Drop,
+    L: RunNow<V, Error = E> + Drop,
+    E: Drop,
+> RunNow<V> for Dispatcher<V, S, L> {
+    type Error = DispatchError<E>;
+
+    ghost runs = { λ old before outcome new after. RunsNow V.kind_of (PlanRun V.kind_of S.step) L.runs (whole_with old before) outcome (whole_with new after) };
+
+    ghost sets_up = { λ old before outcome new after. SetsUpNow S.sets_up L.sets_up old before outcome new after };
+
+    ghost disposes = { λ old before outcome after. DisposesNow S.disposes L.disposes old before outcome after };
+
+    fn run_now<R: Threads + Sync>(
+        &mut self,
+        rt: &R,
+        world: &mut LocalWorld<V>,
+    ) -> Result<(), Fault<DispatchError<E>>> {
+        as_run(self.dispatch_here(rt, world))
+    }
+
+    fn setup(&mut self, world: &mut World<V>) -> Result<(), Fault<DispatchError<E>>> {
+        as_run(self.setup(world))
+    }
+
+    fn dispose(self, world: &mut World<V>) -> Result<(), Fault<DispatchError<E>>> {
+        as_run(self.dispose(world))
     }
 }
 
 impl<
     V: ResourceValue + Drop + Send + Sync,
     S: System<V, Error = E> + Send,
+    L,
     E: Drop + Send,
-> Dispatcher<V, S>
+> Dispatcher<V, S, L>
 where
     S::Accessor: Send,
 {
-    /// Runs the stages, one after the other, up to the first that is not Done, the groups of each beside each other on
-    /// threads. A stage whose memory is refused is told as `StageMemory`; it has not begun, and those before it are done.
+    /// Runs the stages, one after the other, up to the first that is not Done, the groups of each beside each other on at
+    /// most as many threads as the dispatcher was given, the caller's among them. A stage whose memory is refused is told
+    /// as `StageMemory`; it has not begun, and those before it are done.
     pub fn dispatch_par<R: Threads + Sync>(
         &mut self,
         rt: &R,
         world: &mut World<V>,
     ) -> Result<(), DispatchError<E>>
-        ensures { Dispatched V.kind_of (PlanRun V.kind_of S.step) (dispatcher_over V.kind_of self.old world.old) result (dispatcher_over V.kind_of self.new world.new) }
+        ensures dispatched { Dispatched V.kind_of (PlanRun V.kind_of S.step) (dispatcher_over V.kind_of self.old world.old) result (dispatcher_over V.kind_of self.new world.new) }
+        ensures locals { dispatcher_locals self.new ≡ dispatcher_locals self.old }
+        ensures workers { dispatcher_workers self.new ≡ dispatcher_workers self.old }
     {
-        fork_stages(rt, self.stages.as_mut_slice(), world)
+        fork_stages(rt, self.stages.as_mut_slice(), world.local(), self.workers)
+    }
+}
+
+impl<
+    V: ResourceValue + Drop + Send + Sync,
+    S: System<V, Error = E> + Send,
+    L: RunNow<V, Error = E> + Drop,
+    E: Drop + Send,
+> Dispatcher<V, S, L>
+where
+    S::Accessor: Send,
+{
+    // `dispatch`, over what a world holds.
+    fn dispatch_local<R: Threads + Sync>(
+        &mut self,
+        rt: &R,
+        world: &mut LocalWorld<V>,
+    ) -> Result<(), DispatchError<E>>
+        ensures dispatched { FullyDispatched V.kind_of (PlanRun V.kind_of S.step) L.runs (whole_with self.old (local_held V.kind_of world.old)) result (whole_with self.new (local_held V.kind_of world.new)) }
+        ensures kinds { KeepsKinds V.kind_of (local_held V.kind_of world.old) (local_held V.kind_of world.new) }
+        ensures workers { dispatcher_workers self.new ≡ dispatcher_workers self.old }
+    {
+        match fork_stages(rt, self.stages.as_mut_slice(), world, self.workers) {
+            Ok(()) => self.thread_local.run(rt, world),
+            Err(error) => Err(error),
+        }
+    }
+
+    /// `dispatch_par` and then, where that was Done, `dispatch_thread_local`.
+    pub fn dispatch<R: Threads + Sync>(
+        &mut self,
+        rt: &R,
+        world: &mut World<V>,
+    ) -> Result<(), DispatchError<E>>
+        ensures dispatched { FullyDispatched V.kind_of (PlanRun V.kind_of S.step) L.runs (whole_over V.kind_of self.old world.old) result (whole_over V.kind_of self.new world.new) }
+        ensures kinds { KeepsKinds V.kind_of (world_held V.kind_of world.old) (world_held V.kind_of world.new) }
+        ensures workers { dispatcher_workers self.new ≡ dispatcher_workers self.old }
+    {
+        self.dispatch_local(rt, world.local())
+    }
+
+    /// `dispatch`, over what a world holds, with each refusal as `Refused`. The `RunNow` of a dispatcher runs the same plan
+    /// on the caller's thread.
+    pub fn run_now<R: Threads + Sync>(
+        &mut self,
+        rt: &R,
+        world: &mut LocalWorld<V>,
+    ) -> Result<(), Fault<DispatchError<E>>>
+        ensures run { RunsNow V.kind_of (PlanRun V.kind_of S.step) L.runs (whole_with self.old (local_held V.kind_of world.old)) result (whole_with self.new (local_held V.kind_of world.new)) }
+        ensures kinds { KeepsKinds V.kind_of (local_held V.kind_of world.old) (local_held V.kind_of world.new) }
+        ensures workers { dispatcher_workers self.new ≡ dispatcher_workers self.old }
+    {
+        as_run(self.dispatch_local(rt, world))
     }
 }

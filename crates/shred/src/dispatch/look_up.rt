@@ -6,7 +6,7 @@ ghost use Rattle.std.specs.Str.{bytes_eq};
 ghost use Rattle.std.specs.String.{string_eq};
 ghost use Rattle.shred_stage.specs.Known.{known_ids, texts_of, with_name, IsFirstUnknown, KnowsAll};
 ghost use Rattle.shred_stage.specs.Names.{names_of};
-ghost use Rattle.shred_stage.specs.PlanOf.{numbers_of};
+ghost use Rattle.shred_group.specs.PlanOf.{numbers_of};
 
 use shred_stage::SystemId;
 use shred_world::OutOfMemory;

@@ -5,13 +5,13 @@ use Rattle.shred_model.specs.Plan.{entry_at}
 use Rattle.shred_model.specs.Record.{Agent}
 use Rattle.shred_model.specs.States.{own_state, listed_states}
 use Rattle.shred_stage.specs.Added.{nothing_at, AreSame, IsNewAt, IsNew, IsAdded}
-use Rattle.shred_stage.specs.Entries.{entry_states, group_states}
+use Rattle.shred_group.specs.Entries.{entry_states, group_states}
 use Rattle.shred_stage.specs.EntriesAt.{group_entries, stage_entries, plan_entries}
-use Rattle.shred_stage.specs.PlanOf.{entry_plan, group_plan}
+use Rattle.shred_group.specs.PlanOf.{entry_plan, group_plan}
 use Rattle.shred_stage.specs.Plans.{stage_states, plan_states}
 use Rattle.shred_stage.specs.StagePlan.{stage_plan, plan_of}
-use Rattle.shred_stage.specs.declared.dispatch.entry.SystemEntry.{SystemEntry}
-use Rattle.shred_stage.specs.declared.dispatch.entry.Group.{Group}
+use Rattle.shred_group.specs.declared.dispatch.entry.SystemEntry.{SystemEntry}
+use Rattle.shred_group.specs.declared.dispatch.entry.Group.{Group}
 use Rattle.shred_stage.specs.declared.dispatch.stage.Stage.{Stage}
 use Rattle.shred_stage.proofs.Planner.Added.{own_is_new, new_alone, new_at_end, listed_states-map, listed_states-of, new_mapped}
 

@@ -6,10 +6,10 @@ use Rattle.std.proofs.lemmas.List.Elements.{All-nil, All-cons, All-push}
 use Rattle.shred_table.specs.declared.id.ResourceId.{ResourceId}
 use Rattle.shred_table.specs.Slots.{among}
 use Rattle.shred_table.proofs.Tables.Ids.{among-true, among-contains, among-false}
-use Rattle.shred_stage.specs.Kept.{AreOwnLists}
-use Rattle.shred_stage.specs.OwnLists.{IsOwnEntry, IsOwnGroup}
-use Rattle.shred_stage.specs.declared.dispatch.entry.SystemEntry.{SystemEntry}
-use Rattle.shred_stage.specs.declared.dispatch.entry.Group.{Group}
+use Rattle.shred_group.specs.Kept.{AreOwnLists}
+use Rattle.shred_group.specs.OwnLists.{IsOwnEntry, IsOwnGroup}
+use Rattle.shred_group.specs.declared.dispatch.entry.SystemEntry.{SystemEntry}
+use Rattle.shred_group.specs.declared.dispatch.entry.Group.{Group}
 
 -- two lists of the same ids find the same ids
 among-same : (xs ys : List ResourceId) → ((id : ResourceId) → Contains xs id ↔ Contains ys id) → (id : ResourceId) → among xs id ≡ among ys id

@@ -9,7 +9,7 @@ use Rattle.std.proofs.lemmas.List.Elements.{All-from_recursion, All-weaker}
 use Rattle.std.proofs.lemmas.List.Kept.{AllPairs-cons}
 use Rattle.shred_table.specs.Id.{IsBefore, same_id}
 use Rattle.shred_table.specs.declared.id.ResourceId.{ResourceId}
-use Rattle.shred_stage.proofs.Planner.Ids.{same_id-Agrees}
+use Rattle.shred_group.proofs.Groups.Ids.{same_id-Agrees}
 
 pub AllPairs-from_sorted : {X : Type 0} (cmp : X → X → Ordering) (R : X → X → Type 0) → ((a b : X) → cmp a b ≡ Less → R a b) → (xs : List X) → IsStrictlySortedBy cmp xs → AllPairs R xs
 unfolding IsStrictlySortedBy

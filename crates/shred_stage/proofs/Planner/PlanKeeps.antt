@@ -9,11 +9,11 @@ use Rattle.shred_model.specs.Access.{Conflicts}
 use Rattle.shred_model.specs.Plan as model
 use Rattle.shred_model.specs.Plan.{group_access, group_ids, stage_ids, plan_ids}
 use Rattle.shred_stage.specs.Placement.{NoneAdmits, IsPlaced, in_new_group, at_end_of_group}
-use Rattle.shred_stage.specs.PlanOf.{group_plan, groups_plan}
+use Rattle.shred_group.specs.PlanOf.{group_plan, groups_plan}
 use Rattle.shred_stage.specs.Search.{OthersDoNotConflict, PlaceIs}
 use Rattle.shred_stage.specs.Soundness.{IsSmallGroup}
 use Rattle.shred_stage.specs.StagePlan.{stage_plan, plan_of}
-use Rattle.shred_stage.specs.declared.dispatch.entry.Group.{Group}
+use Rattle.shred_group.specs.declared.dispatch.entry.Group.{Group}
 use Rattle.shred_stage.specs.declared.dispatch.stage.Spot.{Spot}
 use Rattle.shred_stage.specs.declared.dispatch.stage.Spot.TheVariants.{NewGroup, EndOf}
 use Rattle.shred_stage.specs.declared.dispatch.stage.Stage.{Stage}

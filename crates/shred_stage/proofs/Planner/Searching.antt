@@ -7,7 +7,8 @@ use Rattle.std.proofs.lemmas.Grind.{flat_map-append}
 use Rattle.std.proofs.lemmas.List.{take_more, get_or-drop, append-nil, length-map, get_or-map}
 use Rattle.std.proofs.lemmas.Option.{slice_get_within, get_or_from_slice_get, slice_get-get_or, slice_get-map}
 use Rattle.shred_model.specs.Plan.{PlanEntry, Stage, Plan, stage_ids, plan_ids}
-use Rattle.shred_stage.specs.Placement.{difference, dependencies_left, Admits, NoneAdmits}
+use Rattle.shred_stage.specs.Placement.{dependencies_left, Admits, NoneAdmits}
+use Rattle.shred_group.specs.Left.{difference}
 use Rattle.shred_stage.specs.Search.{SpotIs, PlaceIs}
 use Rattle.shred_stage.specs.declared.dispatch.stage.Spot.{Spot}
 use Rattle.shred_stage.proofs.Planner.Left.{difference-append}

@@ -1,8 +1,9 @@
 -- How what is touched of a list grows with the list.
 use Rattle.std.proofs.Common.{◌≡◌, ◌≢◌, ℕ, zero, suc, ◌+◌, ◌<◌, ◌≤◌, Bool, true, false, List, [], ◌∷◌, ◌++◌, length, take, drop, map, get_or, Some, refl, sym, ◌∙◌, ap, ◌⊎◌, inl, inr, ⊎_elim, arith}
 use Rattle.std.specs.List.{slice_get}
-use Rattle.std.proofs.lemmas.List.{map_more, map-append, length-map, length-take-le, take-append-drop, take_all}
+use Rattle.std.proofs.lemmas.List.{map-append, take-append-drop, take_all}
 use Rattle.std.proofs.lemmas.Option.{slice_get_within}
+use Rattle.shred_group.proofs.Groups.Reading.{read_more, length-read}
 use Rattle.shred_stage.specs.declared.dispatch.stage.Touched.{Touched}
 use Rattle.shred_stage.specs.declared.dispatch.stage.Touched.TheVariants.{Nothing, One, Several}
 use Rattle.shred_stage.specs.Search.{TouchedIs}
@@ -51,12 +52,6 @@ slice_get-append (z ∷ zs) ys (suc k) x h = slice_get-append zs ys k x h
 pub Several-front : {X : Type 0} (test : X → Bool) (xs ys : List X) → TouchedIs test xs Several → TouchedIs test (xs ++ ys) Several
 Several-front test xs ys two =
     (two.0, two.1, two.2, two.3, two.4, slice_get-append xs ys two.0 two.2 two.5, slice_get-append xs ys two.1 two.3 two.6, two.7, two.8)
-
-pub read_more : {X Y : Type 0} (f : X → Y) (xs : List X) (i : ℕ) (x : X) → i < length xs → x ≡ get_or xs i x → map f (take (i + 1) xs) ≡ map f (take i xs) ++ f x ∷ []
-read_more f xs i x lt is = map_more f xs i x lt ∙ rw (← is) refl
-
-length-read : {X Y : Type 0} (f : X → Y) (xs : List X) (i : ℕ) → i < length xs → length (map f (take i xs)) ≡ i
-length-read f xs i lt = length-map (take i xs) f ∙ length-take-le i xs (omega (arith, lt))
 
 -- the steps of a loop over the items, of which it has read i
 pub touched_stays : {X Y : Type 0} (f : X → Y) (test : Y → Bool) (xs : List X) (i : ℕ) (x : X) (t : Touched) → i < length xs → x ≡ get_or xs i x

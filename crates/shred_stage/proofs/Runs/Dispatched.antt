@@ -7,15 +7,15 @@ use Rattle.shred_table.specs.declared.id.Kind.{Kind}
 use Rattle.shred_table.specs.declared.id.ResourceId.{ResourceId}
 use Rattle.shred_world.specs.Worked.{Held}
 use Rattle.shred_table.proofs.Tables.Ids.{tell_ids}
-use Rattle.shred_stage.specs.declared.dispatch.entry.Group.{Group}
-use Rattle.shred_stage.specs.declared.dispatch.run.StageFault.{StageFault}
+use Rattle.shred_group.specs.declared.dispatch.entry.Group.{Group}
+use Rattle.shred_group.specs.declared.dispatch.run.StageFault.{StageFault}
 use Rattle.shred_stage.specs.Dispatched.{Dispatched}
-use Rattle.shred_stage.specs.Entries.{group_states}
-use Rattle.shred_stage.specs.PlanOf.{groups_plan}
-use Rattle.shred_stage.specs.Plans.{StageTurn}
-use Rattle.shred_stage.specs.Steps.{Step}
-use Rattle.shred_stage.specs.Turns.{TookTurn}
-use Rattle.shred_stage.proofs.Runs.FramedRuns.{turn_framed}
+use Rattle.shred_group.specs.Entries.{group_states}
+use Rattle.shred_group.specs.PlanOf.{groups_plan}
+use Rattle.shred_group.specs.Entries.{StageTurn}
+use Rattle.shred_group.specs.Steps.{Step}
+use Rattle.shred_group.specs.Turns.{TookTurn}
+use Rattle.shred_group.proofs.Runs.FramedRuns.{turn_framed}
 
 module _ {V S E : Type 0} (kind : V → Kind) (step : Step V S E) where
   pub turn-dispatched : (reads writes : S → List ResourceId) (old new : List (Group V S)) (before after : Held V) (answer : Answer (StageFault E)) → TookTurn kind step reads writes old before answer new after

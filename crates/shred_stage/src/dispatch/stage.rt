@@ -4,20 +4,23 @@ ghost use Rattle.shred_model.specs.Plan.{group_access, group_ids, stage_ids};
 ghost use Rattle.shred_model.specs.Access.{Conflicts};
 ghost use Rattle.shred_model.specs.Beside.{AreApart};
 ghost use Rattle.shred_table.specs.Id.{same_id};
-ghost use Rattle.shred_stage.specs.Placement.{difference, greatest_time};
-ghost use Rattle.shred_stage.specs.Hands.{KeepsRoom};
-ghost use Rattle.shred_stage.specs.OwnLists.{IsOwnEntry, IsOwnGroup};
-ghost use Rattle.shred_stage.specs.PlanOf.{access_of, entry_plan, group_plan, groups_plan, numbers_of, HasEntryIds};
-ghost use Rattle.shred_stage.specs.Search.{is_touched, may_end, OthersDoNotConflict, SpotIs, TouchedIs};
-ghost use Rattle.shred_stage.specs.Sides.{stage_side};
+ghost use Rattle.shred_stage.specs.Placement.{greatest_time};
+ghost use Rattle.shred_group.specs.Left.{difference};
+ghost use Rattle.shred_group.specs.Hands.{KeepsRoom};
+ghost use Rattle.shred_group.specs.OwnLists.{IsOwnEntry, IsOwnGroup};
+ghost use Rattle.shred_group.specs.PlanOf.{access_of, entry_plan, group_plan, groups_plan, numbers_of, HasEntryIds};
+ghost use Rattle.shred_stage.specs.Search.{may_end, OthersDoNotConflict, SpotIs, TouchedIs};
+ghost use Rattle.shred_group.specs.Touching.{is_touched};
+ghost use Rattle.shred_group.specs.Sides.{stage_side};
 ghost use Rattle.shred_stage.specs.Soundness.{IsSmallGroup};
 
-use crate::dispatch::beside::{turn_beside, turn_in_order};
-use crate::dispatch::entry::{Group, Side, SystemEntry, SystemId};
-use crate::dispatch::run::StageFault;
-use crate::system::System;
-use shred_world::parting::table_of;
-use shred_world::{OutOfMemory, ResourceId, ResourceValue, World};
+use shred_group::dispatch::beside::{turn_beside, turn_in_order};
+use shred_group::dispatch::entry::{Group, Side, SystemEntry, SystemId};
+use shred_group::dispatch::run::StageFault;
+use shred_group::dispatch::setup::{dispose_of_groups, set_up_groups};
+use shred_group::system::System;
+use shred_world::parting::table_of_local;
+use shred_world::{LocalWorld, OutOfMemory, ResourceId, ResourceValue, World};
 use smallvec::SmallVec;
 use std::alloc::Global;
 use std::thread::Threads;
@@ -211,8 +214,9 @@ impl<V: ResourceValue, S: System<V>> Stage<V, S> {
 }
 
 impl<V: ResourceValue + Drop, S: System<V, Error = E>, E: Drop> Stage<V, S> {
-    ghost use Rattle.shred_stage.specs.Dispatched.{Dispatched, stage_over};
-    ghost use Rattle.shred_stage.specs.Plans.{StageTurn};
+    ghost use Rattle.shred_stage.specs.Dispatched.{Dispatched, stage_over, stage_with};
+    ghost use Rattle.shred_group.specs.Entries.{StageTurn};
+    ghost use Rattle.shred_world.specs.Worlds.{local_held};
 
     /// Runs every group, one after the other, each up to its first system that is not Done, on the caller's thread. The
     /// answer is that of the first group, in order, that is not Done. Where it is `Memory`,
@@ -220,12 +224,39 @@ impl<V: ResourceValue + Drop, S: System<V, Error = E>, E: Drop> Stage<V, S> {
     pub fn execute_seq(&mut self, world: &mut World<V>) -> Result<(), StageFault<E>>
         ensures { Dispatched V.kind_of (StageTurn V.kind_of S.step) (stage_over V.kind_of self.old world.old) result (stage_over V.kind_of self.new world.new) }
     {
-        turn_in_order(self.groups.as_mut_slice(), table_of(world))
+        self.execute_seq_local(world.local())
+    }
+
+    /// `execute_seq`, over what a world holds.
+    pub fn execute_seq_local(&mut self, world: &mut LocalWorld<V>) -> Result<(), StageFault<E>>
+        ensures { Dispatched V.kind_of (StageTurn V.kind_of S.step) (stage_with self.old (local_held V.kind_of world.old)) result (stage_with self.new (local_held V.kind_of world.new)) }
+    {
+        turn_in_order(self.groups.as_mut_slice(), table_of_local(world))
     }
 }
 
-// On how many threads a stage is run, the caller's among them.
-const WORKERS: usize = 2;
+impl<V: ResourceValue + Drop, S: System<V, Error = E> + Drop, E: Drop> Stage<V, S> {
+    ghost use Rattle.shred_stage.specs.Setups.{StageSetup, StageDisposal};
+    ghost use Rattle.shred_stage.specs.StagePlan.{stage_plan};
+    ghost use Rattle.shred_world.specs.Worlds.{world_held};
+
+    /// Sets the systems up, in the plan's order, up to the first that is not Done, which the answer tells. What was done
+    /// before it stays.
+    pub fn setup(&mut self, world: &mut World<V>) -> Result<(), StageFault<E>>
+        ensures set_up { StageSetup S.sets_up self.old (world_held V.kind_of world.old) result self.new (world_held V.kind_of world.new) }
+        ensures plan { stage_plan self.new ≡ stage_plan self.old }
+    {
+        set_up_groups(self.groups.as_mut_slice(), world)
+    }
+
+    /// Disposes of all systems, in the plan's order, also of those after one that is not Done. The answer tells the first
+    /// that is not Done.
+    pub fn dispose(self, world: &mut World<V>) -> Result<(), StageFault<E>>
+        ensures { StageDisposal S.disposes self (world_held V.kind_of world.old) result (world_held V.kind_of world.new) }
+    {
+        dispose_of_groups(self.groups, world)
+    }
+}
 
 impl<V: ResourceValue + Drop + Send + Sync, S: System<V, Error = E> + Send, E: Drop + Send> Stage<
     V,
@@ -234,24 +265,39 @@ impl<V: ResourceValue + Drop + Send + Sync, S: System<V, Error = E> + Send, E: D
 where
     S::Accessor: Send,
 {
-    ghost use Rattle.shred_stage.specs.Dispatched.{Dispatched, stage_over};
-    ghost use Rattle.shred_stage.specs.Plans.{StageTurn};
+    ghost use Rattle.shred_stage.specs.Dispatched.{Dispatched, stage_over, stage_with};
+    ghost use Rattle.shred_group.specs.Entries.{StageTurn};
+    ghost use Rattle.shred_world.specs.Worlds.{local_held};
 
-    /// Runs every group, each up to its first system that is not Done, beside each other in two halves on two threads. A
-    /// half whose thread cannot be started runs on the caller's thread, and so does a stage of one group. The answer is
-    /// that of the first group, in order, that is not Done, whichever refused first in time. Where it is `Memory`, the
-    /// stage was refused for memory, and nothing has run; no stage of today asks for any but that of a thread's start,
-    /// whose refusal is no answer.
+    /// Runs every group, each up to its first system that is not Done, beside each other in halves, and these again, on at
+    /// most that many threads, the caller's among them: of 0 or 1, and of a stage of one group, on the caller's thread
+    /// alone. A half whose thread cannot be started runs on the thread that would have started it. The answer is that of
+    /// the first group, in order, that is not Done, whichever refused first in time. Where it is `Memory`, the stage was
+    /// refused for memory, and nothing has run; no stage of today asks for any but that of a thread's start, whose refusal
+    /// is no answer.
     pub fn execute<R: Threads + Sync>(
         &mut self,
         rt: &R,
         world: &mut World<V>,
+        workers: usize,
     ) -> Result<(), StageFault<E>>
         ensures { Dispatched V.kind_of (StageTurn V.kind_of S.step) (stage_over V.kind_of self.old world.old) result (stage_over V.kind_of self.new world.new) }
     {
-        if self.groups.len() < 2 {
-            return self.execute_seq(world);
+        self.execute_local(rt, world.local(), workers)
+    }
+
+    /// `execute`, over what a world holds.
+    pub fn execute_local<R: Threads + Sync>(
+        &mut self,
+        rt: &R,
+        world: &mut LocalWorld<V>,
+        workers: usize,
+    ) -> Result<(), StageFault<E>>
+        ensures { Dispatched V.kind_of (StageTurn V.kind_of S.step) (stage_with self.old (local_held V.kind_of world.old)) result (stage_with self.new (local_held V.kind_of world.new)) }
+    {
+        if workers < 2 || self.groups.len() < 2 {
+            return self.execute_seq_local(world);
         }
-        turn_beside(rt, self.groups.as_mut_slice(), table_of(world), WORKERS)
+        turn_beside(rt, self.groups.as_mut_slice(), table_of_local(world), workers)
     }
 }

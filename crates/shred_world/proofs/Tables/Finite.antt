@@ -8,4 +8,4 @@ use Rattle.shred_table.proofs.Tables.Finite.{slot_ids, slot-none}
 
 -- every world is finite
 pub world_held-IsFinite : {V : Type 0} (kind : V → Kind) (world : World V) → IsFinite (world_held kind world)
-world_held-IsFinite kind world = (slot_ids world.table, λ id out. ap (slot_held kind id) (slot-none world.table id out))
+world_held-IsFinite kind world = (slot_ids world.local.table, λ id out. ap (slot_held kind id) (slot-none world.local.table id out))

@@ -40,7 +40,7 @@ impl<V: ResourceValue> World<V> {
         if let Err(error) = self.setup::<D>() {
             return Err(DataError::from(error));
         }
-        call_with::<V, D, A, F>(&mut self.table, run)
+        call_with::<V, D, A, F>(&mut self.local.table, run)
     }
 }
 

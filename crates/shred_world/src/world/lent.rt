@@ -60,7 +60,7 @@ impl<V: ResourceValue, D> Lent<'_, V, D> {
         ensures { world_held V.kind_of self.exit.0.now ≡ (given_back (lent_grant V.kind_of self.entry) (D.moved (lent_bundle self.entry))).held }
     {
         let Lent { world, bundle } = self;
-        put_into(&mut world.table, bundle);
+        put_into(&mut world.local.table, bundle);
     }
 }
 
@@ -79,7 +79,7 @@ impl<V: ResourceValue> World<V> {
         ensures name { IfOk result (λ lent. (lender lent).ghost_name ≡ self.entry.ghost_name) }
         ensures* unchanged { sem 𝓛 (RestsIfErr (world_row V.row) self.entry (λ lent. (lender lent).ghost_name) result (EndsSame V.kind_of self.old)) }
     {
-        match take_of(&mut self.table) {
+        match take_of(&mut self.local.table) {
             Ok(bundle) => Ok(Lent {
                 world: self,
                 bundle,
@@ -90,7 +90,7 @@ impl<V: ResourceValue> World<V> {
 }
 
 // A bundle of all that a table holds.
-fn take_of<'s, V: ResourceValue + 's, D: SystemData<'s, V>>(
+pub(crate) fn take_of<'s, V: ResourceValue + 's, D: SystemData<'s, V>>(
     own: &mut Table<V>,
 ) -> Result<D, DataError>
     ensures refused { IfErr result (IsRefused (map_grant (held V.kind_of own.old)) D.parts) }
@@ -103,7 +103,7 @@ fn take_of<'s, V: ResourceValue + 's, D: SystemData<'s, V>>(
 }
 
 // Gives a bundle back to the table that it was taken of.
-fn put_into<'s, V: ResourceValue + 's, D: SystemData<'s, V>>(own: &mut Table<V>, bundle: D)
+pub(crate) fn put_into<'s, V: ResourceValue + 's, D: SystemData<'s, V>>(own: &mut Table<V>, bundle: D)
     requires { AreOut (is_out_in own.old) (ids_of (D.moved bundle)) }
     ensures { held V.kind_of own.new ≡ (given_back (table_grant V.kind_of own.old) (D.moved bundle)).held }
 {

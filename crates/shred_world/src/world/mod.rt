@@ -8,6 +8,7 @@ ghost use Rattle.shred_table.specs.Id.{id_kind};
 
 use crate::world::entry::Entry;
 use crate::world::fetch::{Fetch, FetchMut};
+use crate::world::local::LocalWorld;
 use crate::world::view::View;
 use shred_table::accessor::OutOfMemory;
 use shred_table::id::{Kind, ResourceId};
@@ -25,6 +26,8 @@ mod exec;
 pub mod fetch;
 pub mod handing;
 pub mod lent;
+pub mod local;
+pub mod local_lent;
 pub mod parted;
 pub mod parts;
 pub mod read;
@@ -60,14 +63,14 @@ pub enum ReplaceError<V> {
 /// Values, each held under an id of its kind.
 #[derive(Drop)]
 pub struct World<V> {
-    pub(crate) table: Table<V>,
+    pub(crate) local: LocalWorld<V>,
 }
 
 /// Another name of `World`.
 pub type Resources<V> = World<V>;
 
 // Refuses an id of another kind than the resource's.
-fn test_kind<V: ResourceValue, R: Resource<V>>(id: ResourceId) -> Result<(), WorldError>
+pub(crate) fn test_kind<V: ResourceValue, R: Resource<V>>(id: ResourceId) -> Result<(), WorldError>
     ensures ok { OnOk result (R.KIND ≡ id_kind id) }
     ensures wrong_kind { IfErr result (λ e. (R.KIND ≢ id_kind id) × (e ≡ WorldError.WrongKind R.KIND (id_kind id))) }
 {
@@ -78,6 +81,19 @@ fn test_kind<V: ResourceValue, R: Resource<V>>(id: ResourceId) -> Result<(), Wor
             asked: R::KIND,
             found: id.kind(),
         })
+    }
+}
+
+impl<V> World<V> {
+    ghost use Rattle.shred_world.specs.Lent.{LendsLocal};
+    ghost use Rattle.shred_world.specs.Worlds.{local_of};
+
+    /// What the world holds, to read and write while the ids stay. It takes no memory.
+    pub fn local(&mut self) -> &mut LocalWorld<V>
+        ensures shown { result.now ≡ local_of self.old }
+        ensures* back { sem 𝓛 (LendsLocal V.row self.entry result) }
+    {
+        &mut self.local
     }
 }
 
@@ -95,7 +111,9 @@ impl<V: ResourceValue> World<V> {
         ensures { (id : ResourceId) → world_held V.kind_of result id ≡ None }
     {
         World {
-            table: Table::new(alloc),
+            local: LocalWorld {
+                table: Table::new(alloc),
+            },
         }
     }
 
@@ -110,7 +128,7 @@ impl<V: ResourceValue> World<V> {
     pub fn has_value_raw(&self, id: ResourceId) -> bool
         ensures { result ≡ is_some (world_held V.kind_of self.now id) }
     {
-        self.table.get(id).is_some()
+        self.local.has_value_raw(id)
     }
 
     /// Whether a resource of the type is held.
@@ -149,7 +167,7 @@ impl<V: ResourceValue> World<V> {
         ensures out_of_memory { IfErr result (λ e. (R.KIND ≡ id_kind id) → (e ≡ WorldError.OutOfMemory) × (world_held V.kind_of self.old id ≡ None)) }
     {
         test_kind::<V, R>(id)?;
-        match table::put(&mut self.table, id, resource.wrap()) {
+        match table::put(&mut self.local.table, id, resource.wrap()) {
             Ok(()) => Ok(()),
             Err(OutOfMemory) => Err(WorldError::OutOfMemory),
         }
@@ -174,10 +192,10 @@ impl<V: ResourceValue> World<V> {
         if self.has_value_raw(id) {
             return Ok(());
         }
-        if let Err(OutOfMemory) = table::open(&mut self.table, id) {
+        if let Err(OutOfMemory) = table::open(&mut self.local.table, id) {
             return Err(WorldError::OutOfMemory);
         }
-        match table::put(&mut self.table, id, make().wrap()) {
+        match table::put(&mut self.local.table, id, make().wrap()) {
             Ok(()) => Ok(()),
             Err(OutOfMemory) => Err(WorldError::OutOfMemory),
         }
@@ -215,7 +233,7 @@ impl<V: ResourceValue> World<V> {
         ensures removed { option_map R.wrapped result ≡ world_held V.kind_of self.old id }
         ensures after { (q : ResourceId) → world_held V.kind_of self.new q ≡ without_at (world_held V.kind_of self.old) id q }
     {
-        let Some(slot) = table::remove(&mut self.table, id) else {
+        let Some(slot) = table::remove(&mut self.local.table, id) else {
             return None;
         };
         slot.into_resource()
@@ -230,21 +248,7 @@ impl<V: ResourceValue> World<V> {
         ensures wrong_kind { (V.kind_of value ≢ id_kind id) → result ≡ Err (ReplaceError.WrongKind (V.kind_of value) (id_kind id) value) }
         ensures missing { (V.kind_of value ≡ id_kind id) → IfErr result (λ e. (e ≡ ReplaceError.Missing id value) × (world_held V.kind_of self.old id ≡ None)) }
     {
-        let asked = value.kind();
-        if asked != id.kind() {
-            return Err(ReplaceError::WrongKind {
-                asked,
-                found: id.kind(),
-                value,
-            });
-        }
-        if !self.has_value_raw(id) {
-            return Err(ReplaceError::Missing { id, value });
-        }
-        match table::replace(&mut self.table, id, value) {
-            Ok(old) => Ok(old),
-            Err(value) => Err(ReplaceError::Missing { id, value }),
-        }
+        self.local.replace_raw(id, value)
     }
 
     /// The resource that is held. `Missing` where none is.
@@ -276,14 +280,7 @@ impl<V: ResourceValue> World<V> {
         ensures ok { IfOk result (λ found. (R.KIND ≡ id_kind id) × (option_map (λ f. R.wrapped (fetched f)) found ≡ world_held V.kind_of self.now id)) }
         ensures wrong_kind { IfErr result (λ e. (R.KIND ≢ id_kind id) × (e ≡ WorldError.WrongKind R.KIND (id_kind id))) }
     {
-        test_kind::<V, R>(id)?;
-        let Some(value) = self.table.get(id) else {
-            return Ok(None);
-        };
-        match R::view(value) {
-            Some(resource) => Ok(Some(Fetch { resource })),
-            None => Ok(None),
-        }
+        self.local.try_fetch_by_id(id)
     }
 
     /// The place of the resource of the type.
@@ -300,7 +297,7 @@ impl<V: ResourceValue> World<V> {
         ensures shown { option_map (λ r. R.wrapped r.now) result ≡ world_held V.kind_of self.old id }
         ensures* written { sem 𝓛 (LendsGot V.row R.row V.kind_of R.wrapped self.entry id result) }
     {
-        table::resource_mut(&mut self.table, id)
+        self.local.resource_mut(id)
     }
 
     /// The resource that is held, if one is, to write.
@@ -362,6 +359,6 @@ impl<V: ResourceValue> World<V> {
         ensures over { IsOverWorld self.old result }
         ensures* back { sem 𝓛 (LendsWorld V.row self.entry result) }
     {
-        View::over(reads, writes, &[], &mut self.table)
+        self.local.lend(reads, writes)
     }
 }

@@ -6,10 +6,10 @@ use Rattle.shred_table.specs.declared.id.ResourceId.{ResourceId}
 use Rattle.shred_world.specs.declared.world.view.DataError.{DataError}
 use Rattle.shred_table.specs.Id.{id_of}
 use Rattle.shred_world.specs.Worlds.{world_held}
-use Rattle.shred.specs.declared.dispatch.dispatcher.DispatchError.{DispatchError}
+use Rattle.shred_local.specs.declared.dispatch_error.DispatchError.{DispatchError}
 use Rattle.shred.specs.Dispatchers.{dispatcher_plan, dispatcher_states}
 use Rattle.shred.specs.PlanRuns.{PlanRun}
-use Rattle.shred_stage.specs.Steps.{Step}
+use Rattle.shred_group.specs.Steps.{Step}
 use Rattle.shredexample.specs.declared.SetToSeven.{SetToSeven}
 use Rattle.shredexample.specs.declared.Value.{Value}
 use Rattle.shredexample.specs.declared.Value.TheVariants.{Count}

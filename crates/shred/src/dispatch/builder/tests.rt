@@ -1,6 +1,6 @@
 //! The builder where no id is left.
 ghost use Rattle.std.specs.Prelude.{[]};
-ghost use Rattle.shred_stage.specs.declared.system.RunningTime.TheVariants.{Short};
+ghost use Rattle.shred_group.specs.declared.system.RunningTime.TheVariants.{Short};
 
 use crate::dispatch::add_error::AddError;
 use crate::dispatch::builder::DispatcherBuilder;

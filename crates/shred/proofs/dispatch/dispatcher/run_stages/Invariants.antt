@@ -3,7 +3,7 @@ use Rattle.std.specs.Option.{option_map}
 use Rattle.shred_model.specs.States.{configuration_of, listed_states}
 use Rattle.shred_model.proofs.Joined.UpToFault.{SoFar}
 use Rattle.shred_table.specs.declared.id.ResourceId.{ResourceId}
-use Rattle.shred_world.specs.Worlds.{world_held}
+use Rattle.shred_world.specs.Worlds.{local_held}
 use Rattle.shred_stage.specs.Plans.{stage_states}
 use Rattle.shred.specs.PlanRuns.{PlanTurn}
 use Rattle.shred_stage.specs.StagePlan.{stage_plan}
@@ -12,7 +12,7 @@ use Rattle.shred.proofs.dispatch.dispatcher.run_stages.Given as goal
 abbrev pub invariant-loop-place : goal.invariant-loop-place
 invariant-loop-place g l = record {
   plan : map stage_plan l.stages ≡ map stage_plan l.initial.stages;
-  kinds : (id : ResourceId) → option_map g.V.ResourceValue.kind_of (world_held g.V.ResourceValue.kind_of l.world id) ≡ option_map g.V.ResourceValue.kind_of (world_held g.V.ResourceValue.kind_of l.initial.world id);
+  kinds : (id : ResourceId) → option_map g.V.ResourceValue.kind_of (local_held g.V.ResourceValue.kind_of l.world id) ≡ option_map g.V.ResourceValue.kind_of (local_held g.V.ResourceValue.kind_of l.initial.world id);
   ran : SoFar (PlanTurn g.V.ResourceValue.kind_of g.S.System.step) l.place (map stage_plan l.initial.stages)
-      (configuration_of (listed_states stage_states l.initial.stages) (world_held g.V.ResourceValue.kind_of l.initial.world)) (configuration_of (listed_states stage_states l.stages) (world_held g.V.ResourceValue.kind_of l.world));
+      (configuration_of (listed_states stage_states l.initial.stages) (local_held g.V.ResourceValue.kind_of l.initial.world)) (configuration_of (listed_states stage_states l.stages) (local_held g.V.ResourceValue.kind_of l.world));
 }

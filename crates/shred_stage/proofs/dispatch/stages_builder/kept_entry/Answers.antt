@@ -1,7 +1,7 @@
 use Rattle.std.proofs.Common.{◌≡◌, ◌∙◌, List, ap, refl, subst, rules}
 use Rattle.shred_table.specs.declared.id.ResourceId.{ResourceId}
 use Rattle.shred_table.specs.Parting.{IsEmptyHand}
-use Rattle.shred_stage.specs.Time.{time_count}
+use Rattle.shred_group.specs.Time.{time_count}
 use Rattle.shred_table.specs.Id.{IsBefore}
 use Rattle.shred_stage.proofs.Planner.KeptLists.{own_lists-of_same}
 use Rattle.shred_stage.proofs.Planner.Orders.{AllPairs-from_sorted, Contains-from_same, IsBefore-from_less}

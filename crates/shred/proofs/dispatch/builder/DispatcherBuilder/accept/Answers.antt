@@ -4,7 +4,7 @@ use Rattle.shred_stage.specs.Earlier.{ComesAfter}
 use Rattle.shred_stage.specs.Known.{known_ids, texts_of}
 use Rattle.shred_stage.specs.Names.{names_of}
 use Rattle.shred_stage.specs.Placement.{IsPlaced}
-use Rattle.shred_stage.specs.PlanOf.{numbers_of}
+use Rattle.shred_group.specs.PlanOf.{numbers_of}
 use Rattle.shred.proofs.Names.Consistent.{entered-consistent, known-again, still-consistent}
 use Rattle.shred.proofs.Planner.Standing.{known-still, stands-after_all}
 use Rattle.shred.proofs.dispatch.builder.DispatcherBuilder.accept.Goals as goal
@@ -24,6 +24,8 @@ returns-clause-added g c =
       known = c.in_default.ensures.ok;
       barrier = c.insert.ensures.barrier;
       next = refl;
+      locals = refl;
+      workers = refl;
     }
 
 pub invariant_of-self-2 : goal.invariant_of-self-2
@@ -43,3 +45,23 @@ invariant_of-self-in-Err-insert g c =
       known_planned = λ name id e. rw c.in-Err-insert.ensures.err (c.args.self.now.known_planned name id (sym (same name) ∙ e));
       consistent = still-consistent _ _ c.in-Err-insert.ensures.err same refl c.args.self.now.consistent;
     }
+
+pub invariant_of-self : goal.invariant_of-self
+invariant_of-self g c =
+    let same = c.in-Err-enter.ensures.err in
+    record {
+      distinct_names = c.in-Err-enter.ensures.distinct c.args.self.now.distinct_names;
+      known_planned = λ name id e. c.args.self.now.known_planned name id (sym (same name) ∙ e);
+      consistent = still-consistent _ _ refl same refl c.args.self.now.consistent;
+    }
+
+pub returns-in-Err-insert-clause-unchanged : goal.returns-in-Err-insert-clause-unchanged
+returns-in-Err-insert-clause-unchanged g c = record {
+  plan = c.in-Err-insert.ensures.err;
+  states = c.in-Err-insert.ensures.states;
+  known = known-again (names_of c.args.self.now.names) (names_of c.enter.new.names) (names_of c.forget.new.names) c.args.name.now c.args.self.now.next c.requires.is_new c.in_default.ensures.ok c.forget.ensures.forgotten;
+  barrier = c.insert.ensures.barrier;
+  next = refl;
+  locals = refl;
+  workers = refl;
+}

@@ -2,7 +2,7 @@ use Rattle.std.proofs.Common.{◌<◌, length}
 use Rattle.std.proofs.lemmas.List.{length-map}
 use Rattle.std.proofs.lemmas.Result.{on_ok_weaker, on_err_weaker}
 use Rattle.shred_stage.specs.EntriesAt.{group_entries}
-use Rattle.shred_stage.specs.PlanOf.{entry_plan, group_plan}
+use Rattle.shred_group.specs.PlanOf.{entry_plan, group_plan}
 use Rattle.shred_stage.proofs.Planner.Added.{new_when_done, same_when_refused}
 use Rattle.shred_stage.proofs.Planner.EntriesAt.{new_at_end_of_group, same_in_group}
 use Rattle.shred_stage.proofs.Planner.Times.{group_read}

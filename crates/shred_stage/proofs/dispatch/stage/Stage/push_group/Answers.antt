@@ -1,6 +1,6 @@
 use Rattle.std.proofs.Common.{is_ok}
 use Rattle.shred_stage.specs.EntriesAt.{group_entries}
-use Rattle.shred_stage.specs.PlanOf.{entry_plan}
+use Rattle.shred_group.specs.PlanOf.{entry_plan}
 use Rattle.shred_stage.proofs.Planner.Added.{new_after_push}
 use Rattle.shred_stage.proofs.Planner.EntriesAt.{new_in_group}
 use Rattle.shred_stage.proofs.Planner.KeptLists.{own_alone}

@@ -1,7 +1,7 @@
 use Rattle.std.proofs.Common.{◌++◌, ◌∙◌, ap}
 use Rattle.std.specs.List.{flat_map}
 use Rattle.shred_stage.specs.BuilderPlan.{planned}
-use Rattle.shred_stage.specs.Sides.{stage_side}
+use Rattle.shred_group.specs.Sides.{stage_side}
 use Rattle.shred_table.specs.Id.{IsBefore}
 use Rattle.shred_stage.proofs.Planner.Orders.{AllPairs-from_sorted, Contains-from_same, IsBefore-from_less}
 use Rattle.shred_stage.proofs.dispatch.stages_builder.StagesBuilder.fetch_all.Goals as goal

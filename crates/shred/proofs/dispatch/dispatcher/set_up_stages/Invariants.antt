@@ -1,0 +1,12 @@
+use Rattle.std.proofs.Common.{◌≡◌, map}
+use Rattle.shred_model.proofs.Joined.InTurn.{TurnsSoFar}
+use Rattle.shred_world.specs.Worlds.{world_held}
+use Rattle.shred_stage.specs.StagePlan.{stage_plan}
+use Rattle.shred.specs.Setups.{StageSetupAt}
+use Rattle.shred.proofs.dispatch.dispatcher.set_up_stages.Given as goal
+
+abbrev pub invariant-loop-place : goal.invariant-loop-place
+invariant-loop-place g l = record {
+  plan : map stage_plan l.stages ≡ map stage_plan l.initial.stages;
+  turns : TurnsSoFar (StageSetupAt g.S.System.sets_up) l.place l.initial.stages (world_held g.V.ResourceValue.kind_of l.initial.world) l.stages (world_held g.V.ResourceValue.kind_of l.world);
+}

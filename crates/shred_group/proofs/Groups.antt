@@ -1,0 +1,6 @@
+-- What groups hold, and how they grow.
+pub mod Appended
+pub mod GrownGroups
+pub mod Ids
+pub mod Membership
+pub mod Reading

@@ -1,0 +1,16 @@
+pub mod Time
+pub mod Turns
+pub mod Faults
+pub mod PlanOf
+pub mod Kept
+pub mod Hands
+pub mod OwnLists
+pub mod OwnSlots
+pub mod Lanes
+pub mod Sides
+pub mod Steps
+pub mod Entries
+pub mod Left
+pub mod Touching
+pub mod Setups
+pub mod Alone

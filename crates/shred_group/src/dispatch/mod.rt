@@ -1,0 +1,9 @@
+//! Groups of entries, and their runs.
+
+pub mod alone;
+pub mod beside;
+pub mod entry;
+pub mod fork;
+pub mod hands;
+pub mod run;
+pub mod setup;

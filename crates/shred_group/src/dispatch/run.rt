@@ -1,0 +1,242 @@
+//! Runs of entries, over a table and what is lent shared beside it.
+ghost use Rattle.std.specs.Prelude.{◌≡◌, false, map, All};
+ghost use Rattle.std.specs.Option.{option_map};
+ghost use Rattle.shred_model.specs.Runs.{Ran, first_fault};
+ghost use Rattle.shred_model.specs.States.{configuration_of, listed_states};
+ghost use Rattle.shred_group.specs.Entries.{EntryRun, GroupRun, entry_states};
+ghost use Rattle.shred_group.specs.Kept.{AreOwnLists};
+ghost use Rattle.shred_group.specs.Hands.{HasEntryRoom, HasPlace};
+ghost use Rattle.shred_group.specs.OwnLists.{IsOwnEntry};
+ghost use Rattle.shred_group.specs.OwnSlots.{lent_before, HasJustSlots, HasOnlySlots, HasGroupSlots};
+ghost use Rattle.shred_group.specs.PlanOf.{access_of, entry_plan};
+ghost use Rattle.shred_group.specs.Steps.{declared_of};
+ghost use Rattle.shred_table.specs.declared.id.ResourceId.{ResourceId};
+ghost use Rattle.shred_table.specs.Shown.{shown, HasOwnSlots, IsSameSlots};
+ghost use Rattle.shred_table.specs.Slots.{among};
+ghost use Rattle.shred_world.specs.Views.{lent_slot, shelf_slot};
+
+use crate::dispatch::entry::{SystemEntry, SystemId};
+use crate::system::{Fault, System};
+use shred_world::parting::{move_back, move_out};
+use shred_world::{ResourceId, ResourceValue, Shelf, Table, View};
+use std::fmt::Display;
+use thiserror::Error;
+
+/// Why a stage did not end as Done.
+#[derive(Debug, Drop, Error)]
+#[error_bound(E: Display)]
+pub enum StageFault<E> {
+    /// The entry of this id ended with a fault, the first in plan order.
+    #[error("{id}: {fault}")]
+    System { id: SystemId, fault: Fault<E> },
+    /// The stage was refused for memory before it began.
+    #[error("out of memory")]
+    Memory,
+}
+
+// One step of a system, over a table that has what it writes and nothing else.
+pub(crate) fn step_over<'s, V: ResourceValue, S: System<V>>(
+    reads: &'s [ResourceId],
+    writes: &'s [ResourceId],
+    shelf: &'s [Shelf<'s, V>; 1],
+    system: &mut S,
+    own: &mut Table<V>,
+) -> Result<(), Fault<S::Error>>
+    requires own_lists { AreOwnLists (S.reads system.old) (S.writes system.old) reads.now writes.now }
+    requires own_slots { HasOwnSlots writes.now (lent_slot shelf.now) own.old }
+    requires only_own { HasOnlySlots writes.now own.old }
+    ensures step { S.step system.old (declared_of (record { reads = reads.now; writes = writes.now }) (shown V.kind_of (lent_slot shelf.now) own.old)) result system.new (declared_of (record { reads = reads.now; writes = writes.now }) (shown V.kind_of (lent_slot shelf.now) own.new)) }
+    ensures kinds { (id : ResourceId) → option_map V.kind_of (shown V.kind_of (lent_slot shelf.now) own.new id) ≡ option_map V.kind_of (shown V.kind_of (lent_slot shelf.now) own.old id) }
+    ensures slots { IsSameSlots own.old own.new }
+    ensures frame { (id : ResourceId) → among writes.now id ≡ false → shown V.kind_of (lent_slot shelf.now) own.new id ≡ shown V.kind_of (lent_slot shelf.now) own.old id }
+    ensures own_lists { AreOwnLists (S.reads system.new) (S.writes system.new) reads.now writes.now }
+{
+    let mut view = View::over(reads, writes, shelf, own);
+    system.run(&mut view)
+}
+
+// The table before what is lent shared. It has a slot for each id of the list, and no other slot.
+fn before<'s, V>(
+    own: &'s Table<V>,
+    written: &'s [ResourceId],
+    shelf: &'s [Shelf<'s, V>; 1],
+) -> [Shelf<'s, V>; 1]
+    requires { HasJustSlots written.now own.now }
+    ensures { (id : ResourceId) → lent_slot result id ≡ lent_before own.now (lent_slot shelf.now) id }
+{
+    [Shelf::before(own, written, shelf)]
+}
+
+// One step of the entry's system, over the entry's hand, while the table is lent shared.
+fn step_in_hand<V: ResourceValue, S: System<V>>(
+    entry: &mut SystemEntry<V, S>,
+    written: &[ResourceId],
+    shelf: &[Shelf<V>; 1],
+    own: &Table<V>,
+) -> Result<(), Fault<S::Error>>
+    requires own_lists { AreOwnLists (S.reads entry.old.system) (S.writes entry.old.system) entry.old.reads.items entry.old.writes.items }
+    requires own_slots { HasOwnSlots entry.old.writes.items (lent_before own.now (lent_slot shelf.now)) entry.old.hand }
+    requires only_own { HasOnlySlots entry.old.writes.items entry.old.hand }
+    requires just_slots { HasJustSlots written.now own.now }
+    ensures step { S.step entry.old.system (declared_of (access_of entry.old) (shown V.kind_of (lent_before own.now (lent_slot shelf.now)) entry.old.hand)) result entry.new.system (declared_of (access_of entry.old) (shown V.kind_of (lent_before own.now (lent_slot shelf.now)) entry.new.hand)) }
+    ensures kinds { (id : ResourceId) → option_map V.kind_of (shown V.kind_of (lent_before own.now (lent_slot shelf.now)) entry.new.hand id) ≡ option_map V.kind_of (shown V.kind_of (lent_before own.now (lent_slot shelf.now)) entry.old.hand id) }
+    ensures slots { IsSameSlots entry.old.hand entry.new.hand }
+    ensures frame { (id : ResourceId) → among entry.old.writes.items id ≡ false → shown V.kind_of (lent_before own.now (lent_slot shelf.now)) entry.new.hand id ≡ shown V.kind_of (lent_before own.now (lent_slot shelf.now)) entry.old.hand id }
+    ensures plan { entry_plan entry.new ≡ entry_plan entry.old }
+    ensures writes { entry.new.writes ≡ entry.old.writes }
+    ensures own_lists { AreOwnLists (S.reads entry.new.system) (S.writes entry.new.system) entry.new.reads.items entry.new.writes.items }
+{
+    let behind = before(own, written, shelf);
+    step_over(
+        entry.reads.as_slice(),
+        entry.writes.as_slice(),
+        &behind,
+        &mut entry.system,
+        &mut entry.hand,
+    )
+}
+
+// One step of the entry's system. What it writes is moved into the entry's hand before, and back after, so all else can
+// be lent shared.
+fn step<V: ResourceValue + Drop, S: System<V>>(
+    entry: &mut SystemEntry<V, S>,
+    written: &[ResourceId],
+    shelf: &[Shelf<V>; 1],
+    own: &mut Table<V>,
+) -> Result<(), Fault<S::Error>>
+    requires own_lists { IsOwnEntry S.reads S.writes entry.old }
+    requires own_slots { HasOwnSlots entry.old.writes.items (lent_slot shelf.now) own.old }
+    requires just_slots { HasJustSlots written.now own.old }
+    requires room { HasEntryRoom own.old entry.old }
+    ensures step { S.step entry.old.system (declared_of (access_of entry.old) (shown V.kind_of (lent_slot shelf.now) own.old)) result entry.new.system (declared_of (access_of entry.old) (shown V.kind_of (lent_slot shelf.now) own.new)) }
+    ensures kinds { (id : ResourceId) → option_map V.kind_of (shown V.kind_of (lent_slot shelf.now) own.new id) ≡ option_map V.kind_of (shown V.kind_of (lent_slot shelf.now) own.old id) }
+    ensures slots { IsSameSlots own.old own.new }
+    ensures frame { (id : ResourceId) → among entry.old.writes.items id ≡ false → shown V.kind_of (lent_slot shelf.now) own.new id ≡ shown V.kind_of (lent_slot shelf.now) own.old id }
+    ensures plan { entry_plan entry.new ≡ entry_plan entry.old }
+    ensures own_lists { IsOwnEntry S.reads S.writes entry.new }
+    ensures room { HasEntryRoom own.new entry.new }
+{
+    move_out(own, entry.writes.as_slice(), &mut entry.hand);
+    let outcome = step_in_hand(entry, written, shelf, own);
+    move_back(own, entry.writes.as_slice(), &mut entry.hand);
+    outcome
+}
+
+// The same, over a table that has the slots that the entry writes, and no others.
+fn step_single<V: ResourceValue, S: System<V>>(
+    entry: &mut SystemEntry<V, S>,
+    shelf: &[Shelf<V>; 1],
+    own: &mut Table<V>,
+) -> Result<(), Fault<S::Error>>
+    requires own_lists { IsOwnEntry S.reads S.writes entry.old }
+    requires own_slots { HasOwnSlots entry.old.writes.items (lent_slot shelf.now) own.old }
+    requires only_own { HasOnlySlots entry.old.writes.items own.old }
+    ensures step { S.step entry.old.system (declared_of (access_of entry.old) (shown V.kind_of (lent_slot shelf.now) own.old)) result entry.new.system (declared_of (access_of entry.old) (shown V.kind_of (lent_slot shelf.now) own.new)) }
+    ensures kinds { (id : ResourceId) → option_map V.kind_of (shown V.kind_of (lent_slot shelf.now) own.new id) ≡ option_map V.kind_of (shown V.kind_of (lent_slot shelf.now) own.old id) }
+    ensures slots { IsSameSlots own.old own.new }
+    ensures frame { (id : ResourceId) → among entry.old.writes.items id ≡ false → shown V.kind_of (lent_slot shelf.now) own.new id ≡ shown V.kind_of (lent_slot shelf.now) own.old id }
+    ensures plan { entry_plan entry.new ≡ entry_plan entry.old }
+    ensures writes { entry.new.writes ≡ entry.old.writes }
+    ensures own_lists { IsOwnEntry S.reads S.writes entry.new }
+{
+    step_over(
+        entry.reads.as_slice(),
+        entry.writes.as_slice(),
+        shelf,
+        &mut entry.system,
+        own,
+    )
+}
+
+// One step of the entry's system, with its hand where it is not the only one of its group.
+fn step_of<V: ResourceValue + Drop, S: System<V>>(
+    entry: &mut SystemEntry<V, S>,
+    single: bool,
+    written: &[ResourceId],
+    shelf: &[Shelf<V>; 1],
+    own: &mut Table<V>,
+) -> Result<(), Fault<S::Error>>
+    requires own_lists { IsOwnEntry S.reads S.writes entry.old }
+    requires own_slots { HasOwnSlots entry.old.writes.items (lent_slot shelf.now) own.old }
+    requires just_slots { HasJustSlots written.now own.old }
+    requires place { HasPlace single own.old entry.old }
+    ensures step { S.step entry.old.system (declared_of (access_of entry.old) (shown V.kind_of (lent_slot shelf.now) own.old)) result entry.new.system (declared_of (access_of entry.old) (shown V.kind_of (lent_slot shelf.now) own.new)) }
+    ensures kinds { (id : ResourceId) → option_map V.kind_of (shown V.kind_of (lent_slot shelf.now) own.new id) ≡ option_map V.kind_of (shown V.kind_of (lent_slot shelf.now) own.old id) }
+    ensures slots { IsSameSlots own.old own.new }
+    ensures frame { (id : ResourceId) → among entry.old.writes.items id ≡ false → shown V.kind_of (lent_slot shelf.now) own.new id ≡ shown V.kind_of (lent_slot shelf.now) own.old id }
+    ensures plan { entry_plan entry.new ≡ entry_plan entry.old }
+    ensures own_lists { IsOwnEntry S.reads S.writes entry.new }
+    ensures place { HasPlace single own.new entry.new }
+{
+    if single {
+        return step_single(entry, shelf, own);
+    }
+    step(entry, written, shelf, own)
+}
+
+// The entry's run: one step of its system.
+fn run_entry<V: ResourceValue + Drop, S: System<V>>(
+    entry: &mut SystemEntry<V, S>,
+    single: bool,
+    written: &[ResourceId],
+    shelf: &[Shelf<V>; 1],
+    own: &mut Table<V>,
+) -> Result<(), StageFault<S::Error>>
+    requires own_lists { IsOwnEntry S.reads S.writes entry.old }
+    requires own_slots { HasOwnSlots entry.old.writes.items (lent_slot shelf.now) own.old }
+    requires just_slots { HasJustSlots written.now own.old }
+    requires place { HasPlace single own.old entry.old }
+    ensures ran { Ran (EntryRun V.kind_of S.step 0 (entry_plan entry.old)) (configuration_of (entry_states entry.old) (shown V.kind_of (lent_slot shelf.now) own.old)) result (configuration_of (entry_states entry.new) (shown V.kind_of (lent_slot shelf.now) own.new)) }
+    ensures plan { entry_plan entry.new ≡ entry_plan entry.old }
+    ensures own_lists { IsOwnEntry S.reads S.writes entry.new }
+    ensures place { HasPlace single own.new entry.new }
+    ensures kinds { (id : ResourceId) → option_map V.kind_of (shown V.kind_of (lent_slot shelf.now) own.new id) ≡ option_map V.kind_of (shown V.kind_of (lent_slot shelf.now) own.old id) }
+    ensures slots { IsSameSlots own.old own.new }
+{
+    match step_of(entry, single, written, shelf, own) {
+        Ok(()) => Ok(()),
+        Err(fault) => Err(StageFault::System {
+            id: entry.id,
+            fault,
+        }),
+    }
+}
+
+// The entries' steps, in order, up to the first that is not Done.
+pub(crate) fn run_entries<V: ResourceValue + Drop, S: System<V>>(
+    entries: &mut [SystemEntry<V, S>],
+    single: bool,
+    written: &[ResourceId],
+    shelf: &[Shelf<V>; 1],
+    own: &mut Table<V>,
+) -> Result<(), StageFault<S::Error>>
+    requires own_lists { All (IsOwnEntry S.reads S.writes) entries.old }
+    requires own_slots { HasGroupSlots (lent_slot shelf.now) own.old (map entry_plan entries.old) }
+    requires just_slots { HasJustSlots written.now own.old }
+    requires places { All (HasPlace single own.old) entries.old }
+    ensures ran { Ran (GroupRun V.kind_of S.step 0 (map entry_plan entries.old)) (configuration_of (listed_states entry_states entries.old) (shown V.kind_of (lent_slot shelf.now) own.old)) result (configuration_of (listed_states entry_states entries.new) (shown V.kind_of (lent_slot shelf.now) own.new)) }
+    ensures plan { map entry_plan entries.new ≡ map entry_plan entries.old }
+    ensures own_lists { All (IsOwnEntry S.reads S.writes) entries.new }
+    ensures kinds { (id : ResourceId) → option_map V.kind_of (shown V.kind_of (lent_slot shelf.now) own.new id) ≡ option_map V.kind_of (shown V.kind_of (lent_slot shelf.now) own.old id) }
+    ensures slots { IsSameSlots own.old own.new }
+{
+    for entry in entries.iter_mut() {
+        if let Err(fault) = run_entry(entry, single, written, shelf, own) {
+            return Err(fault);
+        }
+    }
+    Ok(())
+}
+
+// The first answer that is not Done.
+pub(crate) fn first<E: Drop>(
+    a: Result<(), StageFault<E>>,
+    b: Result<(), StageFault<E>>,
+) -> Result<(), StageFault<E>>
+    ensures { result ≡ first_fault a b }
+{
+    match a {
+        Ok(()) => b,
+        Err(fault) => Err(fault),
+    }
+}

@@ -1,0 +1,3 @@
+pub mod Present
+pub mod LocalRuns
+pub mod ThreadLocals

@@ -1,0 +1,185 @@
+//! What a world holds, lent to be read and written while the ids stay.
+ghost use Rattle.std.specs.Prelude.{◌≡◌, ◌≢◌, ◌||◌, false, None, Some, Err, OnOk, OnErr, IfOk, IfErr, is_some};
+ghost use Rattle.std.specs.Borrow.{sem, RestsIfErr};
+ghost use Rattle.std.specs.Option.{option_map};
+ghost use Rattle.shred_table.specs.declared.id.ResourceId.{ResourceId};
+ghost use Rattle.shred_world.specs.Fetched.{fetched};
+ghost use Rattle.shred_table.specs.Id.{id_kind};
+
+use crate::world::bundle::SystemData;
+use crate::world::fetch::{Fetch, FetchMut};
+use crate::world::view::{DataError, View};
+use crate::world::{ReplaceError, WorldError, test_kind};
+use shred_table::id::ResourceId;
+use shred_table::resource::{Resource, ResourceValue};
+use shred_table::table::{self, Table};
+use std::alloc::Global;
+
+/// What a world holds. It has the world's calls that keep the ids under which values are held.
+#[derive(Drop)]
+pub struct LocalWorld<V> {
+    pub(crate) table: Table<V>,
+}
+
+impl<V: ResourceValue> LocalWorld<V> {
+    ghost use Rattle.shred_world.specs.Worlds.{local_held};
+    ghost use Rattle.shred_table.specs.Id.{id_of, id_kind};
+    ghost use Rattle.shred_table.specs.Slots.{with_at, among};
+    ghost use Rattle.shred_world.specs.Views.{view_held, may_read, may_write, is_out};
+    ghost use Rattle.shred_world.specs.Lending.{IsOverLocal};
+    ghost use Rattle.shred_world.specs.Lent.{LendsLocalWorld, LendsLocalGot, LendsLocalGotOk};
+
+    /// The allocator that the world was made with.
+    pub fn allocator(&self) -> Global {
+        self.table.allocator()
+    }
+
+    /// Whether a value is held under the id.
+    pub fn has_value_raw(&self, id: ResourceId) -> bool
+        ensures { result ≡ is_some (local_held V.kind_of self.now id) }
+    {
+        self.table.get(id).is_some()
+    }
+
+    /// Whether a resource of the type is held.
+    pub fn has_value<R: Resource<V>>(&self) -> bool
+        ensures { result ≡ is_some (local_held V.kind_of self.now (id_of R.KIND 0)) }
+    {
+        self.has_value_raw(ResourceId::new::<V, R>())
+    }
+
+    /// Puts the value in the place of the one that is held under the id, as `World::replace_raw` does.
+    pub fn replace_raw(&mut self, id: ResourceId, value: V) -> Result<V, ReplaceError<V>>
+        ensures ok { IfOk result (λ old. (V.kind_of value ≡ id_kind id) × (local_held V.kind_of self.old id ≡ Some old)) }
+        ensures replaced { OnOk result ((q : ResourceId) → local_held V.kind_of self.new q ≡ with_at (local_held V.kind_of self.old) id (Some value) q) }
+        ensures err { OnErr result ((q : ResourceId) → local_held V.kind_of self.new q ≡ local_held V.kind_of self.old q) }
+        ensures wrong_kind { (V.kind_of value ≢ id_kind id) → result ≡ Err (ReplaceError.WrongKind (V.kind_of value) (id_kind id) value) }
+        ensures missing { (V.kind_of value ≡ id_kind id) → IfErr result (λ e. (e ≡ ReplaceError.Missing id value) × (local_held V.kind_of self.old id ≡ None)) }
+    {
+        let asked = value.kind();
+        if asked != id.kind() {
+            return Err(ReplaceError::WrongKind {
+                asked,
+                found: id.kind(),
+                value,
+            });
+        }
+        if !self.has_value_raw(id) {
+            return Err(ReplaceError::Missing { id, value });
+        }
+        match table::replace(&mut self.table, id, value) {
+            Ok(old) => Ok(old),
+            Err(value) => Err(ReplaceError::Missing { id, value }),
+        }
+    }
+
+    /// The resource that is held. `Missing` where none is.
+    pub fn fetch<R: Resource<V>>(&self) -> Result<Fetch<'_, R>, WorldError>
+        ensures shown { IfOk result (λ f. local_held V.kind_of self.now (id_of R.KIND 0) ≡ Some (R.wrapped (fetched f))) }
+        ensures missing { IfErr result (λ e. (e ≡ WorldError.Missing (id_of R.KIND 0)) × (local_held V.kind_of self.now (id_of R.KIND 0) ≡ None)) }
+    {
+        match self.try_fetch() {
+            Some(fetch) => Ok(fetch),
+            None => Err(WorldError::Missing(ResourceId::new::<V, R>())),
+        }
+    }
+
+    /// The resource that is held, if one is.
+    pub fn try_fetch<R: Resource<V>>(&self) -> Option<Fetch<'_, R>>
+        ensures { option_map (λ f. R.wrapped (fetched f)) result ≡ local_held V.kind_of self.now (id_of R.KIND 0) }
+    {
+        match self.try_fetch_by_id(ResourceId::new::<V, R>()) {
+            Ok(found) => found,
+            Err(_) => None,
+        }
+    }
+
+    /// The resource that is held under the id, if one is. `WrongKind` where the id is of another kind.
+    pub fn try_fetch_by_id<R: Resource<V>>(
+        &self,
+        id: ResourceId,
+    ) -> Result<Option<Fetch<'_, R>>, WorldError>
+        ensures ok { IfOk result (λ found. (R.KIND ≡ id_kind id) × (option_map (λ f. R.wrapped (fetched f)) found ≡ local_held V.kind_of self.now id)) }
+        ensures wrong_kind { IfErr result (λ e. (R.KIND ≢ id_kind id) × (e ≡ WorldError.WrongKind R.KIND (id_kind id))) }
+    {
+        test_kind::<V, R>(id)?;
+        let Some(value) = self.table.get(id) else {
+            return Ok(None);
+        };
+        match R::view(value) {
+            Some(resource) => Ok(Some(Fetch { resource })),
+            None => Ok(None),
+        }
+    }
+
+    // The resource that is held under an id of its kind, to write.
+    pub(crate) fn resource_mut<R: Resource<V>>(&mut self, id: ResourceId) -> Option<&mut R>
+        requires kind { R.KIND ≡ id_kind id }
+        ensures shown { option_map (λ r. R.wrapped r.now) result ≡ local_held V.kind_of self.old id }
+        ensures* written { sem 𝓛 (LendsLocalGot V.row R.row V.kind_of R.wrapped self.entry id result) }
+    {
+        table::resource_mut(&mut self.table, id)
+    }
+
+    /// The resource that is held, if one is, to write.
+    pub fn get_mut<R: Resource<V>>(&mut self) -> Option<&mut R>
+        ensures shown { option_map (λ r. R.wrapped r.now) result ≡ local_held V.kind_of self.old (id_of R.KIND 0) }
+        ensures* written { sem 𝓛 (LendsLocalGot V.row R.row V.kind_of R.wrapped self.entry (id_of R.KIND 0) result) }
+    {
+        self.resource_mut(ResourceId::new::<V, R>())
+    }
+
+    /// The resource that is held, if one is, to write.
+    pub fn try_fetch_mut<R: Resource<V>>(&mut self) -> Option<FetchMut<'_, R>>
+        ensures shown { option_map (λ r. R.wrapped r.now) result ≡ local_held V.kind_of self.old (id_of R.KIND 0) }
+        ensures* written { sem 𝓛 (LendsLocalGot V.row R.row V.kind_of R.wrapped self.entry (id_of R.KIND 0) result) }
+    {
+        self.get_mut::<R>()
+    }
+
+    /// The resource that is held, to write. `Missing` where none is.
+    pub fn fetch_mut<R: Resource<V>>(&mut self) -> Result<FetchMut<'_, R>, WorldError>
+        ensures shown { IfOk result (λ r. local_held V.kind_of self.old (id_of R.KIND 0) ≡ Some (R.wrapped r.now)) }
+        ensures missing { IfErr result (λ e. (e ≡ WorldError.Missing (id_of R.KIND 0)) × (local_held V.kind_of self.old (id_of R.KIND 0) ≡ None)) }
+        ensures* written { sem 𝓛 (LendsLocalGotOk V.row R.row V.kind_of R.wrapped self.entry (id_of R.KIND 0) result) }
+    {
+        let Some(resource) = self.get_mut::<R>() else {
+            return Err(WorldError::Missing(ResourceId::new::<V, R>()));
+        };
+        Ok(resource)
+    }
+
+    /// The resource that is held under the id, to write. `WrongKind` where the id is of another kind, tested first;
+    /// `Missing` where nothing is held.
+    pub fn try_fetch_mut_by_id<R: Resource<V>>(
+        &mut self,
+        id: ResourceId,
+    ) -> Result<FetchMut<'_, R>, WorldError>
+        ensures shown { IfOk result (λ r. (R.KIND ≡ id_kind id) × (local_held V.kind_of self.old id ≡ Some (R.wrapped r.now))) }
+        ensures wrong_kind { (R.KIND ≢ id_kind id) → result ≡ Err (WorldError.WrongKind R.KIND (id_kind id)) }
+        ensures missing { (R.KIND ≡ id_kind id) → IfErr result (λ e. (e ≡ WorldError.Missing id) × (local_held V.kind_of self.old id ≡ None)) }
+        ensures* written { sem 𝓛 (LendsLocalGotOk V.row R.row V.kind_of R.wrapped self.entry id result) }
+    {
+        test_kind::<V, R>(id)?;
+        let Some(resource) = self.resource_mut::<R>(id) else {
+            return Err(WorldError::Missing(id));
+        };
+        Ok(resource)
+    }
+
+    /// The view of what is held under the ids: those of `reads` may be read, and those of `writes` be written too.
+    pub fn lend<'b>(
+        &'b mut self,
+        reads: &'b [ResourceId],
+        writes: &'b [ResourceId],
+    ) -> View<'b, 'b, V>
+        ensures reads { (id : ResourceId) → may_read result id ≡ (among reads.now id || among writes.now id) }
+        ensures writes { (id : ResourceId) → may_write result id ≡ among writes.now id }
+        ensures nothing_out { (id : ResourceId) → is_out result id ≡ false }
+        ensures shown { (id : ResourceId) → view_held V.kind_of result id ≡ local_held V.kind_of self.old id }
+        ensures over { IsOverLocal self.old result }
+        ensures* back { sem 𝓛 (LendsLocalWorld V.row self.entry result) }
+    {
+        View::over(reads, writes, &[], &mut self.table)
+    }
+}

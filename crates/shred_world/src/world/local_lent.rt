@@ -1,0 +1,89 @@
+//! Bundles that are taken on a local world, and go back to it.
+ghost use Rattle.std.specs.Prelude.{◌≡◌, IfOk, IfErr};
+ghost use Rattle.std.specs.Borrow.{sem, RestsIfErr};
+ghost use Rattle.shred_world.specs.Bundles.{AreAllOut, IsRefused, after_parts, ids_of};
+ghost use Rattle.shred_world.specs.Executed.{IsTaken};
+ghost use Rattle.shred_world.specs.Grants.{map_grant, given_back};
+ghost use Rattle.shred_world.specs.Lent.{EndsLocalSame};
+ghost use Rattle.shred_world.specs.Worlds.{local_held};
+ghost use Rattle.shred_world.specs.contracts.world.local.LocalWorld.{the_row as local_row};
+
+use crate::world::bundle::SystemData;
+use crate::world::lent::{put_into, take_of};
+use crate::world::local::LocalWorld;
+use crate::world::view::DataError;
+use shred_table::resource::ResourceValue;
+use std::ops::{Deref, DerefMut};
+
+/// A bundle that was taken on a local world. It goes back by `give_back`.
+pub struct LocalLent<'a, V, D> {
+    world: &'a mut LocalWorld<V>,
+    bundle: D,
+}
+
+impl<V, D> Deref for LocalLent<'_, V, D> {
+    ghost use Rattle.shred_world.specs.LentBundles.{local_bundle};
+
+    type Target = D;
+
+    ghost deref_gives = { λ lent bundle. bundle ≡ local_bundle lent };
+
+    fn deref(&self) -> &D {
+        &self.bundle
+    }
+}
+
+impl<V, D> DerefMut for LocalLent<'_, V, D> {
+    ghost use Rattle.shred_world.specs.LentBundles.{local_bundle, LendsLocalBundle};
+
+    ghost deref_mut_gives = { λ lent bundle. bundle ≡ local_bundle lent };
+
+    fn deref_mut(&mut self) -> &mut D
+        ensures* written { sem 𝓛 (LendsLocalBundle V.row D.row self.entry result) }
+        ensures shown { result.now ≡ local_bundle self.old }
+    {
+        &mut self.bundle
+    }
+}
+
+impl<V: ResourceValue, D> LocalLent<'_, V, D> {
+    ghost use Rattle.shred_world.specs.LentBundles.{local_bundle, local_grant};
+
+    /// Gives the bundle back, as `Lent::give_back` does.
+    pub fn give_back<'s>(self)
+    where
+        D: SystemData<'s, V>,
+        V: 's,
+        requires { AreAllOut (local_grant V.kind_of self).out (ids_of (D.moved (local_bundle self))) }
+        ensures { local_held V.kind_of self.exit.0.now ≡ (given_back (local_grant V.kind_of self.entry) (D.moved (local_bundle self.entry))).held }
+    {
+        let LocalLent { world, bundle } = self;
+        put_into(&mut world.table, bundle);
+    }
+}
+
+impl<V: ResourceValue> LocalWorld<V> {
+    ghost use Rattle.shred_world.specs.LentBundles.{local_lender, local_bundle, local_grant};
+
+    /// Takes a bundle, as `World::system_data` does.
+    pub fn system_data<'s, D: SystemData<'s, V>>(
+        &mut self,
+    ) -> Result<LocalLent<'_, V, D>, DataError>
+    where
+        V: 's,
+        ensures refused { IfErr result (IsRefused (map_grant (local_held V.kind_of self.old)) D.parts) }
+        ensures taken { IfOk result (λ lent. IsTaken D.shows D.moved (map_grant (local_held V.kind_of self.old)) D.parts (local_bundle lent)) }
+        ensures left { IfOk result (λ lent. local_grant V.kind_of lent ≡ after_parts (map_grant (local_held V.kind_of self.old)) D.parts) }
+        ensures out { IfOk result (λ lent. AreAllOut (local_grant V.kind_of lent).out (ids_of (D.moved (local_bundle lent)))) }
+        ensures name { IfOk result (λ lent. (local_lender lent).ghost_name ≡ self.entry.ghost_name) }
+        ensures* unchanged { sem 𝓛 (RestsIfErr (local_row V.row) self.entry (λ lent. (local_lender lent).ghost_name) result (EndsLocalSame V.kind_of self.old)) }
+    {
+        match take_of(&mut self.table) {
+            Ok(bundle) => Ok(LocalLent {
+                world: self,
+                bundle,
+            }),
+            Err(error) => Err(error),
+        }
+    }
+}

@@ -1,5 +1,5 @@
 -- What `dispatch` promises: the plan's run, and after it that of the thread-local systems.
-use Rattle.std.specs.Prelude.{◌≡◌, List, Ok, Err, MatchResult}
+use Rattle.std.specs.Prelude.{◌≡◌, ℕ, List, Ok, Err, MatchResult}
 use Rattle.shred_model.specs.Plan as model
 use Rattle.shred_model.specs.Record.{Record, Agent}
 use Rattle.shred_model.specs.Runs.{Answer}
@@ -14,14 +14,15 @@ use Rattle.shred_local.specs.declared.dispatch_error.DispatchError.{DispatchErro
 use Rattle.shred_local.specs.LocalRuns.{LocalsRun}
 use Rattle.shred_stage.specs.Dispatched.{Dispatched, Situation}
 use Rattle.shred.specs.declared.dispatch.dispatcher.Dispatcher.{Dispatcher}
-use Rattle.shred.specs.Dispatchers.{dispatcher_locals, dispatcher_with}
+use Rattle.shred.specs.Dispatchers.{dispatcher_locals, dispatcher_with, dispatcher_workers}
 
--- A plan with its systems and the values of a world, and the thread-local systems.
+-- A plan with its systems and the values of a world, the thread-local systems, and on how many threads a stage runs at most.
 pub record Whole (P V S L : Type 0) : Type 0 where
   pub staged : Situation P V S
   pub locals : List L
+  pub workers : ℕ
 
--- The plan was dispatched. Where that was Done, the thread-local systems ran from what it left, one after the other, up to the first that is not Done; where it was not, they stay, and so do the values, and the answer is the plan's.
+-- The plan was dispatched. Where that was Done, the thread-local systems ran from what it left, one after the other, up to the first that is not Done; where it was not, they stay, and so do the values, and the answer is the plan's. The threads stay.
 pub record FullyDispatched {P V S L O E : Type 0} (kind : V → Kind) (Run : P → List (Record Agent ResourceId V S O) → Answer (DispatchError E) → Type 0) (runs : Step V L E) (before : Whole P V S L) (answer : Answer (DispatchError E)) (after : Whole P V S L) : Type 0 where
   pub of_plan : Answer (DispatchError E)
   pub middle : Held V
@@ -29,10 +30,11 @@ pub record FullyDispatched {P V S L O E : Type 0} (kind : V → Kind) (Run : P �
   pub locals : MatchResult of_plan
       (λ done. LocalsRun kind runs before.locals middle answer after.locals after.staged.values)
       (λ error. (after.locals ≡ before.locals) × (after.staged.values ≡ middle) × (answer ≡ Err error))
+  pub workers : after.workers ≡ before.workers
 
 -- a dispatcher with its systems, over these values
 abbrev pub whole_with : {V S L E X : Type 0} {gv gs gx : _} → Dispatcher V S L E X gv gs gx → Held V → Whole (model.Plan ResourceId) V S L
-whole_with dispatcher values = record { staged = dispatcher_with dispatcher values; locals = dispatcher_locals dispatcher }
+whole_with dispatcher values = record { staged = dispatcher_with dispatcher values; locals = dispatcher_locals dispatcher; workers = dispatcher_workers dispatcher }
 
 -- a dispatcher with its systems, over a world
 abbrev pub whole_over : {V S L E X : Type 0} {gv gs gx : _} → (V → Kind) → Dispatcher V S L E X gv gs gx → World V → Whole (model.Plan ResourceId) V S L

@@ -10,7 +10,7 @@ use Rattle.shred_local.specs.LocalRuns.{LocalsSetup, LocalsDisposal}
 use Rattle.shred_stage.specs.declared.dispatch.stage.Stage.{Stage}
 use Rattle.shred_stage.specs.Setups.{StageSetup, StageDisposal}
 use Rattle.shred.specs.declared.dispatch.dispatcher.Dispatcher.{Dispatcher}
-use Rattle.shred.specs.Dispatchers.{dispatcher_locals}
+use Rattle.shred.specs.Dispatchers.{dispatcher_locals, dispatcher_plan, dispatcher_workers}
 use Rattle.shred.specs.FullRuns.{IsRefusedBy}
 use Rattle.shred.specs.PlanRuns.{dispatch_answer}
 
@@ -32,7 +32,7 @@ module _ {V S E N X : Type 0} {gv gs gx : _} (disposes : S → Held V → Outcom
   abbrev pub StagesDisposal : List (Stage V S N X gv gs gx) → Held V → Answer (DispatchError E) → Held V → Type 0
   StagesDisposal stages before answer after = AllInTurn StageDisposalAt 0 stages before answer after
 
--- The staged systems were set up, in the plan's order, and then the thread-local ones, up to the first that is not Done, whose answer it is; those behind it stay.
+-- The staged systems were set up, in the plan's order, and then the thread-local ones, up to the first that is not Done, whose answer it is; those behind it stay, and so do the plan and the threads.
 pub record IsSetUp {V S L E N X : Type 0} {gv gs gx : _} (staged : Step V S E) (local : Step V L E) (old : Dispatcher V S L N X gv gs gx) (before : Held V) (answer : Answer (DispatchError E)) (new : Dispatcher V S L N X gv gs gx) (after : Held V) : Type 0 where
   pub of_stages : Answer (DispatchError E)
   pub middle : Held V
@@ -40,6 +40,8 @@ pub record IsSetUp {V S L E N X : Type 0} {gv gs gx : _} (staged : Step V S E) (
   pub locals : MatchResult of_stages
       (λ done. LocalsSetup local (dispatcher_locals old) middle answer (dispatcher_locals new) after)
       (λ error. (dispatcher_locals new ≡ dispatcher_locals old) × (after ≡ middle) × (answer ≡ Err error))
+  pub plan : dispatcher_plan new ≡ dispatcher_plan old
+  pub workers : dispatcher_workers new ≡ dispatcher_workers old
 
 -- All staged systems were disposed of, in the plan's order, and then all thread-local ones; the answer is the first that is not Done.
 pub record IsDisposedOf {V S L E N X : Type 0} {gv gs gx : _} (staged : S → Held V → Outcome E → Held V → Type 0) (local : L → Held V → Outcome E → Held V → Type 0) (old : Dispatcher V S L N X gv gs gx) (before : Held V) (answer : Answer (DispatchError E)) (after : Held V) : Type 0 where

@@ -26,7 +26,11 @@ pub record HadNoRoom {V S E : Type 0} (old : S) (before : Held V) (outcome : Out
   pub state : new ≡ old
   pub values : after ≡ before
 
--- a step under the lists that the system declares, or want of memory for these
+-- the system declares the same lists
+abbrev pub KeepsLists : {S : Type 0} → (S → List ResourceId) → (S → List ResourceId) → S → S → Type 0
+KeepsLists reads writes old new = (reads new ≡ reads old) × (writes new ≡ writes old)
+
+-- a step under the lists that the system declares, which stay, or want of memory for these
 abbrev pub StepsAlone : {V S E : Type 0} → (V → Kind) → Step V S E → (S → List ResourceId) → (S → List ResourceId) → Step V S E
 StepsAlone kind step reads writes old before outcome new after =
-    IsStepOver kind step (record { reads = reads old; writes = writes old }) old before outcome new after ⊎ HadNoRoom old before outcome new after
+    (IsStepOver kind step (record { reads = reads old; writes = writes old }) old before outcome new after × KeepsLists reads writes old new) ⊎ HadNoRoom old before outcome new after

@@ -1,3 +1,2 @@
-pub mod Present
 pub mod LocalRuns
 pub mod ThreadLocals

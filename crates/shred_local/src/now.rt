@@ -1,5 +1,5 @@
 //! A system that runs over what it declares of a whole world.
-ghost use Rattle.shred_group.specs.Alone.{StepsAlone};
+ghost use Rattle.shred_group.specs.Alone.{KeepsLists, StepsAlone};
 
 use crate::run_now::RunNow;
 use shred_group::dispatch::alone::run_alone;
@@ -18,7 +18,7 @@ impl<V: ResourceValue + Drop, S: System<V>> RunNow<V> for Now<S> {
 
     ghost runs = { λ before held outcome after left. StepsAlone V.kind_of S.step S.reads S.writes before.0 held outcome after.0 left };
 
-    ghost sets_up = { λ before held outcome after left. S.sets_up before.0 held outcome after.0 left };
+    ghost sets_up = { λ before held outcome after left. S.sets_up before.0 held outcome after.0 left × KeepsLists S.reads S.writes before.0 after.0 };
 
     ghost disposes = { λ before held outcome left. S.disposes before.0 held outcome left };
 

@@ -1,26 +1,20 @@
 //! The thread-local systems of a dispatcher, and their runs, one after the other.
-ghost use Rattle.std.specs.Prelude.{◌≡◌, ◌++◌, ◌∷◌, [], length, All, IsSome, OnOk, OnErr};
+ghost use Rattle.std.specs.Prelude.{◌≡◌, ◌++◌, ◌∷◌, [], length, OnOk, OnErr};
 ghost use Rattle.shred_group.specs.Alone.{KeepsKinds};
 ghost use Rattle.shred_local.specs.LocalRuns.{LocalDisposal, LocalRun, LocalSetup, LocalsDisposal, LocalsRun, LocalsSetup};
-ghost use Rattle.shred_local.specs.Present.{EndsPresent, ForPresent};
-ghost use Rattle.shred_model.specs.InTurn.{AllInTurn, InTurn};
 ghost use Rattle.shred_model.specs.Runs.{first_fault};
 ghost use Rattle.shred_world.specs.Worlds.{local_held, world_held};
 
 use crate::dispatch_error::DispatchError;
 use crate::run_now::RunNow;
 use shred_world::{LocalWorld, OutOfMemory, ResourceValue, World};
-use smallvec::SmallVec;
 use std::alloc::Global;
 use std::thread::Threads;
 
-/// Systems that run over a whole world, in the order in which they were added. Up to four of them stand in the value
-/// itself.
+/// Systems that run over a whole world, in the order in which they were added.
 #[derive(Drop)]
 pub struct ThreadLocal<L> {
-    // Each place of a `SmallVec` needs a value before its own comes; that is none.
-    systems: SmallVec<Option<L>, 4>,
-    ghost all_there: { All IsSome systems.items },
+    systems: Vec<L>,
 }
 
 impl<L: Drop> ThreadLocal<L> {
@@ -31,17 +25,16 @@ impl<L: Drop> ThreadLocal<L> {
         ensures { systems_of result ≡ [] }
     {
         ThreadLocal {
-            systems: SmallVec::new(alloc),
+            systems: Vec::new(alloc),
         }
     }
 
-    /// Puts the system at the end. It takes memory from the fifth on; where that is refused, all is as before, and the
-    /// system is dropped.
+    /// Puts the system at the end. Where memory is refused, all is as before, and the system is dropped.
     pub fn push(&mut self, system: L) -> Result<(), OutOfMemory>
         ensures ok { OnOk result (systems_of self.new ≡ systems_of self.old ++ system ∷ []) }
         ensures err { OnErr result (systems_of self.new ≡ systems_of self.old) }
     {
-        match self.systems.push(Some(system)) {
+        match self.systems.push(system) {
             Ok(()) => Ok(()),
             Err(_) => Err(OutOfMemory),
         }
@@ -89,8 +82,7 @@ impl<L: Drop> ThreadLocal<L> {
         L: RunNow<V, Error = E>,
         ensures { LocalsDisposal L.disposes (systems_of self) (world_held V.kind_of world.old) result (world_held V.kind_of world.new) }
     {
-        let mut systems = self.systems;
-        dispose_of_each(systems.as_mut_slice(), world)
+        dispose_of_each(self.systems, world)
     }
 }
 
@@ -98,32 +90,29 @@ impl<L: Drop> ThreadLocal<L> {
 fn run_one<R: Threads + Sync, V: ResourceValue, L: RunNow<V>>(
     rt: &R,
     index: usize,
-    slot: &mut Option<L>,
+    local: &mut L,
     world: &mut LocalWorld<V>,
 ) -> Result<(), DispatchError<L::Error>>
-    ensures run { ForPresent (LocalRun V.kind_of L.runs) index slot.old (local_held V.kind_of world.old) result slot.new (local_held V.kind_of world.new) }
+    ensures run { LocalRun V.kind_of L.runs index local.old (local_held V.kind_of world.old) result local.new (local_held V.kind_of world.new) }
     ensures kinds { KeepsKinds V.kind_of (local_held V.kind_of world.old) (local_held V.kind_of world.new) }
 {
-    match slot {
-        Some(local) => match local.run_now(rt, world) {
-            Ok(()) => Ok(()),
-            Err(fault) => Err(DispatchError::ThreadLocal { index, fault }),
-        },
-        None => Ok(()),
+    match local.run_now(rt, world) {
+        Ok(()) => Ok(()),
+        Err(fault) => Err(DispatchError::ThreadLocal { index, fault }),
     }
 }
 
 // The runs of the systems, in order, up to the first that is not Done.
 fn run_each<R: Threads + Sync, V: ResourceValue, L: RunNow<V>>(
     rt: &R,
-    slots: &mut [Option<L>],
+    locals: &mut [L],
     world: &mut LocalWorld<V>,
 ) -> Result<(), DispatchError<L::Error>>
-    ensures run { InTurn (ForPresent (LocalRun V.kind_of L.runs)) 0 slots.old (local_held V.kind_of world.old) result slots.new (local_held V.kind_of world.new) }
+    ensures run { LocalsRun V.kind_of L.runs locals.old (local_held V.kind_of world.old) result locals.new (local_held V.kind_of world.new) }
     ensures kinds { KeepsKinds V.kind_of (local_held V.kind_of world.old) (local_held V.kind_of world.new) }
 {
-    for (index, slot) in slots.iter_mut().enumerate() {
-        if let Err(error) = run_one(rt, index, slot, world) {
+    for (index, local) in locals.iter_mut().enumerate() {
+        if let Err(error) = run_one(rt, index, local, world) {
             return Err(error);
         }
     }
@@ -133,29 +122,26 @@ fn run_each<R: Threads + Sync, V: ResourceValue, L: RunNow<V>>(
 // The setup of the system at this place.
 fn set_up_one<V: ResourceValue, L: RunNow<V>>(
     index: usize,
-    slot: &mut Option<L>,
+    local: &mut L,
     world: &mut World<V>,
 ) -> Result<(), DispatchError<L::Error>>
-    ensures { ForPresent (LocalSetup L.sets_up) index slot.old (world_held V.kind_of world.old) result slot.new (world_held V.kind_of world.new) }
+    ensures { LocalSetup L.sets_up index local.old (world_held V.kind_of world.old) result local.new (world_held V.kind_of world.new) }
 {
-    match slot {
-        Some(local) => match local.setup(world) {
-            Ok(()) => Ok(()),
-            Err(fault) => Err(DispatchError::ThreadLocal { index, fault }),
-        },
-        None => Ok(()),
+    match local.setup(world) {
+        Ok(()) => Ok(()),
+        Err(fault) => Err(DispatchError::ThreadLocal { index, fault }),
     }
 }
 
 // The setups of the systems, in order, up to the first that is not Done.
 fn set_up_each<V: ResourceValue, L: RunNow<V>>(
-    slots: &mut [Option<L>],
+    locals: &mut [L],
     world: &mut World<V>,
 ) -> Result<(), DispatchError<L::Error>>
-    ensures { InTurn (ForPresent (LocalSetup L.sets_up)) 0 slots.old (world_held V.kind_of world.old) result slots.new (world_held V.kind_of world.new) }
+    ensures { LocalsSetup L.sets_up locals.old (world_held V.kind_of world.old) result locals.new (world_held V.kind_of world.new) }
 {
-    for (index, slot) in slots.iter_mut().enumerate() {
-        if let Err(error) = set_up_one(index, slot, world) {
+    for (index, local) in locals.iter_mut().enumerate() {
+        if let Err(error) = set_up_one(index, local, world) {
             return Err(error);
         }
     }
@@ -175,33 +161,32 @@ fn first<E: Drop>(
     }
 }
 
-// The disposal of the system at this place, which is taken out of it.
-fn dispose_of<V: ResourceValue, L: RunNow<V> + Drop>(
+// The disposal of the system at this place.
+fn dispose_of<V: ResourceValue, L: RunNow<V>>(
     index: usize,
-    slot: &mut Option<L>,
+    local: L,
     world: &mut World<V>,
 ) -> Result<(), DispatchError<L::Error>>
-    ensures { EndsPresent (LocalDisposal L.disposes) index slot.old (world_held V.kind_of world.old) result (world_held V.kind_of world.new) }
+    ensures { LocalDisposal L.disposes index local (world_held V.kind_of world.old) result (world_held V.kind_of world.new) }
 {
-    match slot.take() {
-        Some(local) => match local.dispose(world) {
-            Ok(()) => Ok(()),
-            Err(fault) => Err(DispatchError::ThreadLocal { index, fault }),
-        },
-        None => Ok(()),
+    match local.dispose(world) {
+        Ok(()) => Ok(()),
+        Err(fault) => Err(DispatchError::ThreadLocal { index, fault }),
     }
 }
 
 // The disposals of all systems, in order.
 fn dispose_of_each<V: ResourceValue, L: RunNow<V, Error = E> + Drop, E: Drop>(
-    slots: &mut [Option<L>],
+    locals: Vec<L>,
     world: &mut World<V>,
 ) -> Result<(), DispatchError<E>>
-    ensures { AllInTurn (EndsPresent (LocalDisposal L.disposes)) 0 slots.old (world_held V.kind_of world.old) result (world_held V.kind_of world.new) }
+    ensures { LocalsDisposal L.disposes locals.items (world_held V.kind_of world.old) result (world_held V.kind_of world.new) }
 {
     let mut answer = Ok(());
-    for (index, slot) in slots.iter_mut().enumerate() {
-        answer = first(answer, dispose_of(index, slot, world));
+    let mut index = 0;
+    for local in locals {
+        answer = first(answer, dispose_of(index, local, world));
+        index += 1;
     }
     answer
 }

@@ -20,7 +20,7 @@ IsFramed {I = I} r = (i : I) → (Contains r.access.writes i → ⊥) → r.left
 abbrev pub Independent : {A I V S O : Type 0} → Record A I V S O → Record A I V S O → Type 0
 Independent r q = (r.agent ≢ q.agent) × (Conflicts r.access q.access → ⊥)
 
--- an agent is a path: a stage, a group of it, a place in the group, and inside a batch a path again; or, as a path of one number, the index of a thread-local system
+-- an agent is a path: a stage, a group of it, a place in the group, and inside a batch a path again
 abbrev pub Agent : Type 0
 Agent = List ℕ
 

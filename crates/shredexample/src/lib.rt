@@ -10,8 +10,9 @@ ghost use Rattle.shred_group.specs.declared.system.RunningTime.TheVariants.{Aver
 ghost use Rattle.shredexample.specs.declared.Value.TheVariants.{Count};
 
 use shred::{
-    BatchAccessor, DataError, Dispatcher, Fault, Kind, OutOfMemory, Resource, ResourceId, ResourceValue,
-    RunningTime, StagesBuilder, System, SystemId, ThreadLocal, View, World, new_dispatcher,
+    BatchAccessor, DataError, Dispatcher, Fault, Kind, OutOfMemory, Resource, ResourceId,
+    ResourceValue, RunningTime, StagesBuilder, System, SystemId, ThreadLocal, View, World,
+    new_dispatcher,
 };
 use std::alloc::Global;
 
@@ -134,8 +135,11 @@ pub fn count_after_dispatch(alloc: Global) -> Option<i64>
     let mut builder: StagesBuilder<Value, SetToSeven> = StagesBuilder::new(alloc);
     builder.insert(&[], SystemId(0), SetToSeven).ok()?;
 
-    let mut dispatcher: Dispatcher<Value, SetToSeven> =
-        new_dispatcher(builder.build(), ThreadLocal::new(alloc), 4);
+    let mut dispatcher: Dispatcher<Value, SetToSeven> = new_dispatcher(
+        builder.build(),
+        ThreadLocal::new(alloc),
+        4,
+    );
     dispatcher.dispatch_seq(&mut world).ok()?;
 
     match world.try_fetch_by_id::<Count>(count_id()) {

@@ -1,8 +1,8 @@
 //! Calls of the library, each for every type of system.
 
 use shred::{
-    AddError, Dispatcher, DispatcherBuilder, OutOfMemory, Stage, StagesBuilder, System, SystemId, ThreadLocal,
-    World, new_dispatcher,
+    AddError, Dispatcher, DispatcherBuilder, OutOfMemory, Stage, StagesBuilder, System, SystemId,
+    ThreadLocal, World, new_dispatcher,
 };
 use shredtest::values::Value;
 use std::alloc::{AllocError, Global};

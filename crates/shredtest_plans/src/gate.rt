@@ -130,7 +130,7 @@ fn expect_meeting(
 }
 
 #[test]
-fn two_halves_run_at_once(rt: HostRuntime) -> Result<(), Fail> {
+fn gate_two_systems(rt: HostRuntime) -> Result<(), Fail> {
     expect_meeting(&rt, TWO, 10_000_000, true, "done")
 }
 

@@ -4,8 +4,9 @@ ghost use Rattle.shred_table.specs.Id.{id_of};
 ghost use Rattle.shredtest.specs.Values.{count_kind};
 
 use shred::{
-    Accessor, BatchAccessor, DataError, Dispatcher, Fault, Kind, OneOf, OutOfMemory, Plain, PlainSystem, Read,
-    ResourceId, StagesBuilder, SystemId, ThreadLocal, View, World, Write, bundle_accessor, new_dispatcher,
+    Accessor, BatchAccessor, DataError, Dispatcher, Fault, Kind, OneOf, OutOfMemory, Plain,
+    PlainSystem, Read, ResourceId, StagesBuilder, SystemId, ThreadLocal, View, World, Write,
+    bundle_accessor, new_dispatcher,
 };
 use shredtest::values::{Count, Flag, Value};
 use std::alloc::Global;
@@ -81,8 +82,11 @@ fn one_of_two_types_is_dispatched(rt: HostRuntime) -> Result<(), Fail> {
     let mut builder = StagesBuilder::new(alloc);
     builder.insert(&[], SystemId(0), OneOf::First(Plain(Adds(3))))?;
     builder.insert(&[], SystemId(1), OneOf::Second(Plain(Doubles)))?;
-    let mut dispatcher: Dispatcher<Value, OneOf<_, _>> =
-        new_dispatcher(builder.build(), ThreadLocal::new(alloc), 4);
+    let mut dispatcher: Dispatcher<Value, OneOf<_, _>> = new_dispatcher(
+        builder.build(),
+        ThreadLocal::new(alloc),
+        4,
+    );
     assert!(rt; dispatcher.dispatch_seq(&mut world).is_ok());
     assert_eq!(rt; world.remove_by_id::<Count>(count_id())?, Some(Count(16)));
     Ok(())

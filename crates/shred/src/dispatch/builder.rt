@@ -121,8 +121,8 @@ impl<V: ResourceValue, S: System<V>, L: Drop> DispatcherBuilder<V, S, L> {
         builder
     }
 
-    /// Puts a thread-local system behind those that are there. It takes memory from the fifth on; where that is refused, the
-    /// builder is as before, and the system is dropped.
+    /// Puts a thread-local system behind those that are there. Where memory is refused, the builder is as before, and the
+    /// system is dropped.
     pub fn add_thread_local(&mut self, system: L) -> Result<(), AddError>
         ensures added { OnOk result (IsLocalAdded (built self.old) (built self.new) system) }
         ensures refused { IfErr result (λ e. e ≡ AddError.OutOfMemory) }

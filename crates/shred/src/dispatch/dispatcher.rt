@@ -245,9 +245,7 @@ impl<
     /// Sets up the staged systems, in the plan's order, and then the thread-local ones, up to the first that is not Done,
     /// which the answer tells. What was done before it stays.
     pub fn setup(&mut self, world: &mut World<V>) -> Result<(), DispatchError<E>>
-        ensures set_up { IsSetUp S.sets_up L.sets_up self.old (world_held V.kind_of world.old) result self.new (world_held V.kind_of world.new) }
-        ensures plan { dispatcher_plan self.new ≡ dispatcher_plan self.old }
-        ensures workers { dispatcher_workers self.new ≡ dispatcher_workers self.old }
+        ensures { IsSetUp S.sets_up L.sets_up self.old (world_held V.kind_of world.old) result self.new (world_held V.kind_of world.new) }
     {
         match set_up_stages(self.stages.as_mut_slice(), world) {
             Ok(()) => self.thread_local.setup(world),
@@ -353,7 +351,6 @@ where
     ) -> Result<(), DispatchError<E>>
         ensures dispatched { FullyDispatched V.kind_of (PlanRun V.kind_of S.step) L.runs (whole_with self.old (local_held V.kind_of world.old)) result (whole_with self.new (local_held V.kind_of world.new)) }
         ensures kinds { KeepsKinds V.kind_of (local_held V.kind_of world.old) (local_held V.kind_of world.new) }
-        ensures workers { dispatcher_workers self.new ≡ dispatcher_workers self.old }
     {
         match fork_stages(rt, self.stages.as_mut_slice(), world, self.workers) {
             Ok(()) => self.thread_local.run(rt, world),
@@ -369,7 +366,6 @@ where
     ) -> Result<(), DispatchError<E>>
         ensures dispatched { FullyDispatched V.kind_of (PlanRun V.kind_of S.step) L.runs (whole_over V.kind_of self.old world.old) result (whole_over V.kind_of self.new world.new) }
         ensures kinds { KeepsKinds V.kind_of (world_held V.kind_of world.old) (world_held V.kind_of world.new) }
-        ensures workers { dispatcher_workers self.new ≡ dispatcher_workers self.old }
     {
         self.dispatch_local(rt, world.local())
     }
@@ -383,7 +379,6 @@ where
     ) -> Result<(), Fault<DispatchError<E>>>
         ensures run { RunsNow V.kind_of (PlanRun V.kind_of S.step) L.runs (whole_with self.old (local_held V.kind_of world.old)) result (whole_with self.new (local_held V.kind_of world.new)) }
         ensures kinds { KeepsKinds V.kind_of (local_held V.kind_of world.old) (local_held V.kind_of world.new) }
-        ensures workers { dispatcher_workers self.new ≡ dispatcher_workers self.old }
     {
         as_run(self.dispatch_local(rt, world))
     }

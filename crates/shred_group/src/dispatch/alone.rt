@@ -1,6 +1,6 @@
 //! One step of a system over all that a table holds, outside of a plan.
 ghost use Rattle.std.specs.Prelude.{◌≡◌, IfOk, false};
-ghost use Rattle.shred_group.specs.Alone.{IsStepOver, KeepsKinds, StepsAlone};
+ghost use Rattle.shred_group.specs.Alone.{IsStepOver, KeepsKinds, KeepsLists, StepsAlone};
 ghost use Rattle.shred_group.specs.declared.dispatch.alone.Room.{Room};
 ghost use Rattle.shred_table.specs.Parting.{IsEmptyHand};
 ghost use Rattle.shred_table.specs.Shown.{shown, IsSameSlots};
@@ -61,6 +61,7 @@ fn step_before<V: ResourceValue, S: System<V>>(
     ensures kinds { (id : ResourceId) → option_map V.kind_of (shown V.kind_of (slot_at table.now) hand.new id) ≡ option_map V.kind_of (shown V.kind_of (slot_at table.now) hand.old id) }
     ensures slots { IsSameSlots hand.old hand.new }
     ensures frame { (id : ResourceId) → among writes.now id ≡ false → shown V.kind_of (slot_at table.now) hand.new id ≡ shown V.kind_of (slot_at table.now) hand.old id }
+    ensures lists { KeepsLists S.reads S.writes system.old system.new }
 {
     let shelf = [Shelf::Last(table)];
     step_over(reads, writes, &shelf, system, hand)
@@ -75,7 +76,8 @@ fn step_in<V: ResourceValue + Drop, S: System<V>>(
     requires reads { room.old.reads.items ≡ S.reads system.old }
     requires writes { room.old.writes.items ≡ S.writes system.old }
     requires hand { IsEmptyHand room.old.writes.items room.old.hand }
-    ensures { IsStepOver V.kind_of S.step (record { reads = S.reads system.old; writes = S.writes system.old }) system.old (held V.kind_of table.old) result system.new (held V.kind_of table.new) }
+    ensures lists { KeepsLists S.reads S.writes system.old system.new }
+    ensures step { IsStepOver V.kind_of S.step (record { reads = S.reads system.old; writes = S.writes system.old }) system.old (held V.kind_of table.old) result system.new (held V.kind_of table.new) }
 {
     move_each(table, room.writes.as_slice(), &mut room.hand);
     let outcome = step_before(

@@ -3,6 +3,7 @@ ghost use Rattle.std.specs.Prelude.{◌≡◌, false, map, All};
 ghost use Rattle.std.specs.Option.{option_map};
 ghost use Rattle.shred_model.specs.Runs.{Ran, first_fault};
 ghost use Rattle.shred_model.specs.States.{configuration_of, listed_states};
+ghost use Rattle.shred_group.specs.Alone.{KeepsLists};
 ghost use Rattle.shred_group.specs.Entries.{EntryRun, GroupRun, entry_states};
 ghost use Rattle.shred_group.specs.Kept.{AreOwnLists};
 ghost use Rattle.shred_group.specs.Hands.{HasEntryRoom, HasPlace};
@@ -50,6 +51,7 @@ pub(crate) fn step_over<'s, V: ResourceValue, S: System<V>>(
     ensures slots { IsSameSlots own.old own.new }
     ensures frame { (id : ResourceId) → among writes.now id ≡ false → shown V.kind_of (lent_slot shelf.now) own.new id ≡ shown V.kind_of (lent_slot shelf.now) own.old id }
     ensures own_lists { AreOwnLists (S.reads system.new) (S.writes system.new) reads.now writes.now }
+    ensures lists { KeepsLists S.reads S.writes system.old system.new }
 {
     let mut view = View::over(reads, writes, shelf, own);
     system.run(&mut view)

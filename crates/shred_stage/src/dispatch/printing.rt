@@ -11,10 +11,10 @@ ghost use Rattle.shred_stage.specs.Prints.{IsPrinted};
 ghost use Rattle.shred_stage.specs.Sinks.{IsPut};
 ghost use Rattle.shred_stage.specs.StagePlan.{plan_of, stage_plan};
 
-use shred_group::dispatch::entry::SystemId;
 use crate::dispatch::sink::{PlanSink, SinkFailed, put_all};
 use crate::dispatch::stage::Stage;
 use crate::dispatch::stages_builder::StagesBuilder;
+use shred_group::dispatch::entry::SystemId;
 use shred_group::system::System;
 use shred_world::ResourceValue;
 use std::collections::HashMap;

@@ -298,6 +298,11 @@ where
         if workers < 2 || self.groups.len() < 2 {
             return self.execute_seq_local(world);
         }
-        turn_beside(rt, self.groups.as_mut_slice(), table_of_local(world), workers)
+        turn_beside(
+            rt,
+            self.groups.as_mut_slice(),
+            table_of_local(world),
+            workers,
+        )
     }
 }

@@ -19,10 +19,10 @@ ghost use Rattle.shred_stage.specs.Search.{OthersDoNotConflict, PlaceIs};
 ghost use Rattle.shred_group.specs.Sides.{stage_side, plan_reads, plan_writes};
 ghost use Rattle.shred_stage.specs.StagePlan.{plan_of};
 
-use shred_group::dispatch::entry::{Side, SystemEntry, SystemId, push_or_drop};
 use crate::dispatch::printing::{PrintError, print};
 use crate::dispatch::sink::PlanSink;
 use crate::dispatch::stage::{Spot, Stage};
+use shred_group::dispatch::entry::{Side, SystemEntry, SystemId, push_or_drop};
 use shred_group::system::System;
 use shred_world::parting::empty_hand;
 use shred_world::{Accessor, OutOfMemory, ResourceId, ResourceValue, Table};

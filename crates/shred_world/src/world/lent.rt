@@ -103,7 +103,10 @@ pub(crate) fn take_of<'s, V: ResourceValue + 's, D: SystemData<'s, V>>(
 }
 
 // Gives a bundle back to the table that it was taken of.
-pub(crate) fn put_into<'s, V: ResourceValue + 's, D: SystemData<'s, V>>(own: &mut Table<V>, bundle: D)
+pub(crate) fn put_into<'s, V: ResourceValue + 's, D: SystemData<'s, V>>(
+    own: &mut Table<V>,
+    bundle: D,
+)
     requires { AreOut (is_out_in own.old) (ids_of (D.moved bundle)) }
     ensures { held V.kind_of own.new ≡ (given_back (table_grant V.kind_of own.old) (D.moved bundle)).held }
 {

@@ -38,7 +38,7 @@ returns-in-Ok-Some c =
     let y = configuration_of (dispatcher_states c.dispatch_seq.new.self) (world_held kind c.dispatch_seq.new.world) in
     let plan = dispatcher_plan c.new_dispatcher-dispatcher.result in
     let inserted = on_ok c.insert.result c.in_ok-ok-2.field-0 c.in_ok-ok-2.ensures.value c.insert.ensures.placed in
-    let ran = at_ok (λ (r : Result (Unit {0}) (DispatchError DataError)). IsSerializable (λ list. PlanRun kind sets plan list r) x y) c.dispatch_seq.result c.in_ok-ok-3.field-0 c.in_ok-ok-3.ensures.value c.dispatch_seq.ensures.ran in
+    let ran = at_ok (λ (r : Result (Unit {0}) (DispatchError DataError)). IsSerializable (λ list. PlanRun kind sets plan list r) x y) c.dispatch_seq.result c.in_ok-ok-3.field-0 c.in_ok-ok-3.ensures.value c.dispatch_seq.ensures.dispatched.ran in
     let held : world_held kind c.dispatch_seq.new.world count_id ≡ Some seven =
     single_leaves kind sets count_id (Some seven) (λ before seen after left is. is) _ plan _ _ inserted.0 x y c.new-builder.ensures.plan c.new-builder.ensures.barrier inserted.2
     (c.new_dispatcher-dispatcher.ensures.plan ∙ c.build.ensures.plan) (subst (λ (ids : List ResourceId). Contains ids count_id) (sym inserted.1.same_writes) (0, omega arith, λ i. count_id)) ran in

@@ -13,7 +13,7 @@ loop-preserved c =
     let after = configuration_of (dispatcher_states c.dispatch_seq.new.self) (world_held kind_of c.dispatch_seq.new.world) in
     record {
       within = omega arith;
-      each = dispatched_again c.args.order.systems c.loop.counter (dispatcher_plan c.loop.dispatcher) (dispatcher_plan c.dispatch_seq.new.self) before after c.dispatch_seq.result c.is_err.ensures.value c.if-is_err.false c.dispatch_seq.ensures.plan c.dispatch_seq.ensures.ran c.loop.invariant.each;
+      each = dispatched_again c.args.order.systems c.loop.counter (dispatcher_plan c.loop.dispatcher) (dispatcher_plan c.dispatch_seq.new.self) before after c.dispatch_seq.result c.is_err.ensures.value c.if-is_err.false c.dispatch_seq.ensures.dispatched.plan c.dispatch_seq.ensures.dispatched.ran c.loop.invariant.each;
     }
 
 pub returns : goal.returns

@@ -13,7 +13,7 @@ loop-preserved g c =
     let after = configuration_of (dispatcher_states c.dispatch_par.new.self) (world_held kind_of c.dispatch_par.new.world) in
     record {
       within = omega arith;
-      each = dispatched_again c.args.order.systems c.loop.counter (dispatcher_plan c.loop.dispatcher) (dispatcher_plan c.dispatch_par.new.self) before after c.dispatch_par.result c.is_err.ensures.value c.if-is_err.false c.dispatch_par.ensures.plan c.dispatch_par.ensures.ran c.loop.invariant.each;
+      each = dispatched_again c.args.order.systems c.loop.counter (dispatcher_plan c.loop.dispatcher) (dispatcher_plan c.dispatch_par.new.self) before after c.dispatch_par.result c.is_err.ensures.value c.if-is_err.false c.dispatch_par.ensures.dispatched.plan c.dispatch_par.ensures.dispatched.ran c.loop.invariant.each;
     }
 
 pub returns : goal.returns

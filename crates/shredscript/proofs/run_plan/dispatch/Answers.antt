@@ -9,7 +9,7 @@ returns-in-Ok-clause-dispatch g c = record {
   answer = c.dispatch_par.result;
   states = dispatcher_states c.dispatch_par.new.self;
   left = world_held kind_of c.dispatch_par.new.world;
-  ran = c.dispatch_par.ensures.ran;
+  ran = c.dispatch_par.ensures.dispatched.ran;
   outcome_is = c.of-outcome.ensures;
   text_is = search rules;
 }

@@ -7,8 +7,8 @@ use Rattle.shred_group.specs.Steps.{declared_of}
 use Rattle.shred_group.proofs.Runs.Alone.{shows-held, held-shows}
 use Rattle.shred_group.proofs.dispatch.alone.step_in.Goals as goal
 
-pub returns : goal.returns
-returns g c =
+pub returns-clause-step : goal.returns-clause-step
+returns-clause-step g c =
     let kind = g.V.ResourceValue.kind_of in
     let room = c.args.room.now in
     let writes = room.writes.items in

@@ -3,8 +3,8 @@ use Rattle.std.proofs.lemmas.List.{with_items_is}
 use Rattle.shred_world.specs.Worlds.{world_held}
 use Rattle.shred.proofs.dispatch.dispatcher.Dispatcher.setup.Goals as goal
 
-pub returns-in-Ok-clause-set_up : goal.returns-in-Ok-clause-set_up
-returns-in-Ok-clause-set_up g c =
+pub returns-in-Ok : goal.returns-in-Ok
+returns-in-Ok g c =
     let old = c.args.self.now.stages in
     let same : length c.set_up_stages.new.stages ≡ old.len = search rules in
     record {
@@ -12,10 +12,12 @@ returns-in-Ok-clause-set_up g c =
       middle = world_held g.V.ResourceValue.kind_of c.set_up_stages.new.world;
       stages = rw (with_items_is old c.set_up_stages.new.stages same) (rw c.as_mut_slice.ensures.value at c.in-Ok.ensures.set_up);
       locals = c.setup.ensures;
+      plan = rw (with_items_is old c.set_up_stages.new.stages same) (rw c.as_mut_slice.ensures.value at c.in-Ok.ensures.plan);
+      workers = refl;
     }
 
-pub returns-in-Err-clause-set_up : goal.returns-in-Err-clause-set_up
-returns-in-Err-clause-set_up g c =
+pub returns-in-Err : goal.returns-in-Err
+returns-in-Err g c =
     let old = c.args.self.now.stages in
     let same : length c.set_up_stages.new.stages ≡ old.len = search rules in
     record {
@@ -23,4 +25,6 @@ returns-in-Err-clause-set_up g c =
       middle = world_held g.V.ResourceValue.kind_of c.set_up_stages.new.world;
       stages = rw (with_items_is old c.set_up_stages.new.stages same) (rw c.as_mut_slice.ensures.value at c.in-Err.ensures.set_up);
       locals = (refl, refl, refl);
+      plan = rw (with_items_is old c.set_up_stages.new.stages same) (rw c.as_mut_slice.ensures.value at c.in-Err.ensures.plan);
+      workers = refl;
     }

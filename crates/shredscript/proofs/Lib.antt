@@ -7,3 +7,6 @@ pub mod Runs
 pub mod Shown
 pub mod Trimmed
 pub mod Written
+pub mod InOrder
+pub mod Rounds
+pub mod SetUp

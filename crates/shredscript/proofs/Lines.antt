@@ -1,7 +1,7 @@
 -- Lines that are taken one after another.
 use Rattle.std.proofs.Common.{◌≡◌, ℕ, List, [], ◌∷◌, ◌++◌, refl, sym, ◌∙◌, ap, subst, append_assoc}
 use Rattle.shred_table.specs.declared.id.ResourceId.{ResourceId}
-use Rattle.shred_local.specs.declared.now.Now.{Now}
+use Rattle.shredscript.specs.declared.local.ScriptLocal.{ScriptLocal}
 use Rattle.shred.specs.Built.{Built, IsAddition, IsNewBuilt, MayAdd}
 use Rattle.shredscript.specs.declared.script.PlanLine.{PlanLine}
 use Rattle.shredscript.specs.declared.script.SystemLine.{SystemLine}
@@ -10,7 +10,7 @@ use Rattle.shredscript.specs.Declares.{read_ids, write_ids}
 use Rattle.shredscript.specs.Lines.{AreTaken, IsLineAdded, IsBuiltBy, IsLineTaken, needed}
 
 -- a system with a line's steps and time was added by what it declares itself
-pub added-by : (line : SystemLine) (old new : Built ScriptSystem (Now ScriptSystem)) (system : ScriptSystem) (needs : List (List ℕ)) (reads writes : List ResourceId) → needs ≡ needed line
+pub added-by : (line : SystemLine) (old new : Built ScriptSystem ScriptLocal) (system : ScriptSystem) (needs : List (List ℕ)) (reads writes : List ResourceId) → needs ≡ needed line
     → system.steps.items ≡ line.steps.items → system.time ≡ line.time → reads ≡ read_ids system.steps.items → writes ≡ write_ids system.steps.items
     → MayAdd old.known old.next line.name.now needs → IsAddition old new line.name.now needs reads writes system.time system → IsLineAdded line old new
 added-by line old new system needs reads writes n s t r w allowed h = record {
@@ -24,16 +24,16 @@ added-by line old new system needs reads writes n s t r w allowed h = record {
       (subst (λ x. IsAddition old new line.name.now x reads writes system.time system) n h)));
 }
 
-taken-more : (lines : List PlanLine) (line : PlanLine) (old mid new : Built ScriptSystem (Now ScriptSystem)) → AreTaken lines old mid → IsLineTaken line mid new → AreTaken (lines ++ line ∷ []) old new
+taken-more : (lines : List PlanLine) (line : PlanLine) (old mid new : Built ScriptSystem ScriptLocal) → AreTaken lines old mid → IsLineTaken line mid new → AreTaken (lines ++ line ∷ []) old new
 taken-more [] line old mid new e h = (new, subst (λ b. IsLineTaken line b new) e h, refl)
 taken-more (x ∷ xs) line old mid new (next, t, rest) h = (next, t, taken-more xs line next mid new rest h)
 
 -- no line is taken yet
-pub built-none : (new : Built ScriptSystem (Now ScriptSystem)) → IsNewBuilt new → IsBuiltBy [] new
+pub built-none : (new : Built ScriptSystem ScriptLocal) → IsNewBuilt new → IsBuiltBy [] new
 built-none new is = (new, is, refl)
 
 -- one more line is taken
-pub built-more : (lines : List PlanLine) (line : PlanLine) (mid new : Built ScriptSystem (Now ScriptSystem)) → IsBuiltBy lines mid → IsLineTaken line mid new → IsBuiltBy (lines ++ line ∷ []) new
+pub built-more : (lines : List PlanLine) (line : PlanLine) (mid new : Built ScriptSystem ScriptLocal) → IsBuiltBy lines mid → IsLineTaken line mid new → IsBuiltBy (lines ++ line ∷ []) new
 built-more lines line mid new (empty, is, taken) h = (empty, is, taken-more lines line empty mid new taken h)
 
 -- what is done and what is left of a list, with one more done

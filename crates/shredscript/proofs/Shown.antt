@@ -14,10 +14,7 @@ use Rattle.shredscript.specs.declared.value.Value.{Value}
 use Rattle.shredscript.specs.Place.{id_at, number_at, seen_through}
 use Rattle.shredscript.specs.Value.{kind_of}
 
--- what an id may do is the same in the same view
-pub may_write-same : (old new : View Value) → IsSameView old new → (id : ResourceId) → may_write new id ≡ may_write old id
-may_write-same old new same id i = same.whole i || (among (same.writes i) id && among (same.owned i) id)
-
+-- what may be read is the same in the same view
 pub may_read-same : (old new : View Value) → IsSameView old new → (id : ResourceId) → may_read new id ≡ may_read old id
 may_read-same old new same id i = among (same.reads i) id || (same.whole i || (among (same.writes i) id && among (same.owned i) id))
 

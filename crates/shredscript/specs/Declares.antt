@@ -40,6 +40,10 @@ abbrev pub write_ids : List Step → List ResourceId
 write_ids [] = []
 write_ids (step ∷ steps) = option_to_list (option_map id_at (write_place step)) ++ write_ids steps
 
+-- the step may write the resource that it declares to write
+abbrev pub AllowsStep : {X : Type 0} → (X → ℕ → Type 0) → X → Step → Type 0
+AllowsStep allows numbers step = IfSome (write_place step) (allows numbers)
+
 -- the view lets the step write the resource that it declares to write
 abbrev pub MayWrite : View Value → Step → Type 0
 MayWrite view step = IfSome (write_place step) (λ place. IsTrue (may_write view (id_at place)))

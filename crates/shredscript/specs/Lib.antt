@@ -1,6 +1,7 @@
 pub mod Operation
 pub mod Value
 pub mod Frame
+pub mod FrameLaws
 pub mod Place
 pub mod Declares
 pub mod Change

@@ -1,7 +1,7 @@
 -- What the lines of a script make of a builder.
 use Rattle.std.specs.Prelude.{◌≡◌, ℕ, List, [], ◌∷◌, ◌++◌}
-use Rattle.shred_local.specs.declared.now.Now.{Now}
-use Rattle.shred.specs.Built.{Built, IsAddition, IsBarrierSet, IsNewBuilt, IsRefusal, MayAdd}
+use Rattle.shredscript.specs.declared.local.ScriptLocal.{ScriptLocal}
+use Rattle.shred.specs.Built.{Built, IsAddition, IsBarrierSet, IsLocalAdded, IsNewBuilt, IsRefusal, MayAdd}
 use Rattle.shred_stage.specs.Known.{texts_of}
 use Rattle.shred.specs.declared.dispatch.add_error.AddError.{AddError}
 use Rattle.shred.specs.declared.dispatch.add_error.AddError.TheVariants as builder
@@ -10,8 +10,9 @@ use Rattle.shredscript.specs.declared.error.AddRefusal.TheVariants.{NoSuchSystem
 use Rattle.shredscript.specs.declared.error.ScriptError.{ScriptError}
 use Rattle.shredscript.specs.declared.error.ScriptError.TheVariants.{TooLong, InputFailed, Line, Refused, Unnamed, OutOfMemory, OutputFailed}
 use Rattle.shredscript.specs.declared.script.PlanLine.{PlanLine}
-use Rattle.shredscript.specs.declared.script.PlanLine.TheVariants.{System, Barrier}
+use Rattle.shredscript.specs.declared.script.PlanLine.TheVariants.{System, Local, Barrier}
 use Rattle.shredscript.specs.declared.script.SystemLine.{SystemLine}
+use Rattle.shredscript.specs.declared.step.Step.{Step}
 use Rattle.shredscript.specs.declared.system.ScriptSystem.{ScriptSystem}
 use Rattle.shredscript.specs.Declares.{read_ids, write_ids}
 
@@ -20,26 +21,31 @@ abbrev pub needed : SystemLine → List (List ℕ)
 needed line = texts_of line.dependencies.items
 
 -- The line's name is new and those that it depends on are known, and a system of its steps and time is added under that name, after them.
-pub record IsLineAdded (line : SystemLine) (old new : Built ScriptSystem (Now ScriptSystem)) : Type 0 where
+pub record IsLineAdded (line : SystemLine) (old new : Built ScriptSystem ScriptLocal) : Type 0 where
   pub system : ScriptSystem
   pub steps : system.steps.items ≡ line.steps.items
   pub time : system.time ≡ line.time
   pub allowed : MayAdd old.known old.next line.name.now (needed line)
   pub addition : IsAddition old new line.name.now (needed line) (read_ids line.steps.items) (write_ids line.steps.items) line.time system
 
--- what a line makes of a builder: its system is added, or the barrier is set
-abbrev pub IsLineTaken : PlanLine → Built ScriptSystem (Now ScriptSystem) → Built ScriptSystem (Now ScriptSystem) → Type 0
+-- a thread-local system of these steps is added
+abbrev pub IsLocalTaken : List Step → Built ScriptSystem ScriptLocal → Built ScriptSystem ScriptLocal → Type 0
+IsLocalTaken steps old new = (system : ScriptLocal) × (system.steps.items ≡ steps) × IsLocalAdded old new system
+
+-- what a line makes of a builder: its system is added, staged or thread-local, or the barrier is set
+abbrev pub IsLineTaken : PlanLine → Built ScriptSystem ScriptLocal → Built ScriptSystem ScriptLocal → Type 0
 IsLineTaken (System line) old new = IsLineAdded line old new
+IsLineTaken (Local steps) old new = IsLocalTaken steps.items old new
 IsLineTaken Barrier old new = IsBarrierSet old new
 
 -- what lines make of a builder, one after another
-abbrev pub AreTaken : List PlanLine → Built ScriptSystem (Now ScriptSystem) → Built ScriptSystem (Now ScriptSystem) → Type 0
+abbrev pub AreTaken : List PlanLine → Built ScriptSystem ScriptLocal → Built ScriptSystem ScriptLocal → Type 0
 AreTaken [] old new = new ≡ old
-AreTaken (line ∷ lines) old new = (next : Built ScriptSystem (Now ScriptSystem)) × IsLineTaken line old next × AreTaken lines next new
+AreTaken (line ∷ lines) old new = (next : Built ScriptSystem ScriptLocal) × IsLineTaken line old next × AreTaken lines next new
 
 -- what lines make of an empty builder
-abbrev pub IsBuiltBy : List PlanLine → Built ScriptSystem (Now ScriptSystem) → Type 0
-IsBuiltBy lines built = (empty : Built ScriptSystem (Now ScriptSystem)) × IsNewBuilt empty × AreTaken lines empty built
+abbrev pub IsBuiltBy : List PlanLine → Built ScriptSystem ScriptLocal → Type 0
+IsBuiltBy lines built = (empty : Built ScriptSystem ScriptLocal) × IsNewBuilt empty × AreTaken lines empty built
 
 -- the builder's answer for each refusal that is told
 abbrev pub answer_of : AddRefusal → AddError
@@ -48,7 +54,7 @@ answer_of NameTaken = builder.NameTaken
 answer_of IdsExhausted = builder.IdsExhausted
 
 -- why a line's system is not added: the builder refuses it, which is told with the line's number; or memory is refused
-abbrev pub IsNotAdded : SystemLine → Built ScriptSystem (Now ScriptSystem) → ScriptError → Type 0
+abbrev pub IsNotAdded : SystemLine → Built ScriptSystem ScriptLocal → ScriptError → Type 0
 IsNotAdded line built (Refused number refusal) = (number ≡ line.line) × IsRefusal built.known built.next line.name.now (needed line) (answer_of refusal)
 IsNotAdded line built OutOfMemory = Unit {0}
 IsNotAdded line built TooLong = ⊥
@@ -57,9 +63,10 @@ IsNotAdded line built (Line number fault) = ⊥
 IsNotAdded line built (Unnamed id) = ⊥
 IsNotAdded line built OutputFailed = ⊥
 
--- why a line is not taken: its system is not added; a barrier always is
-abbrev pub IsNotTaken : PlanLine → Built ScriptSystem (Now ScriptSystem) → ScriptError → Type 0
+-- why a line is not taken: its system is not added, a thread-local one only for want of memory; a barrier always is
+abbrev pub IsNotTaken : PlanLine → Built ScriptSystem ScriptLocal → ScriptError → Type 0
 IsNotTaken (System line) built error = IsNotAdded line built error
+IsNotTaken (Local steps) built error = error ≡ OutOfMemory
 IsNotTaken Barrier built error = ⊥
 
 -- One of the lines is not taken after those before it.
@@ -68,6 +75,6 @@ pub record IsStopped (lines : List PlanLine) (error : ScriptError) : Type 0 wher
   pub line : PlanLine
   pub after : List PlanLine
   pub at : lines ≡ before ++ line ∷ after
-  pub built : Built ScriptSystem (Now ScriptSystem)
+  pub built : Built ScriptSystem ScriptLocal
   pub made : IsBuiltBy before built
   pub stops : IsNotTaken line built error

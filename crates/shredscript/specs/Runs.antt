@@ -1,18 +1,15 @@
 -- Runs of scripts.
-use Rattle.std.specs.Prelude.{◌≡◌, ℕ, ◌≤◌, true, List, ◌++◌, length, Option, Some, Result, Ok, Err, OnOk, IfErr}
+use Rattle.std.specs.Prelude.{◌≡◌, ℕ, zero, suc, ◌≤◌, true, List, ◌++◌, length, Option, Some, Result, Ok, Err, OnOk, IfErr, MatchResult}
 use Rattle.std.specs.Io.KnownBytes.{Appends, Consumes, IsAtEnd, Keeps}
 use Rattle.indexmap.specs.IndexMap.{values}
-use Rattle.shred_model.specs.Serializable.{IsSerializable}
 use Rattle.shred_model.specs.Plan.{Plan, plan_ids}
-use Rattle.shred_model.specs.Record.{Agent}
-use Rattle.shred_model.specs.Replay.{Configuration}
 use Rattle.shred_model.specs.Runs.{Answer}
-use Rattle.shred_model.specs.States.{configuration_of}
 use Rattle.shred_table.specs.declared.id.ResourceId.{ResourceId}
 use Rattle.shred_world.specs.Worked.{Held}
-use Rattle.shred_local.specs.declared.now.Now.{Now}
-use Rattle.shred.specs.Built.{Built}
+use Rattle.shredscript.specs.declared.local.ScriptLocal.{ScriptLocal}
+use Rattle.shred.specs.Built.{Built, IsPoolSet}
 use Rattle.shred_stage.specs.Names.{AreNames, NamedId, first_unnamed}
+use Rattle.shred.specs.FullRuns.{FullyDispatched, Whole}
 use Rattle.shred.specs.PlanRuns.{PlanRun}
 use Rattle.shred_stage.specs.Sinks.{AppendsBeginning}
 use Rattle.shred_group.specs.Steps.{Outcome as Ends}
@@ -38,30 +35,57 @@ use Rattle.shredscript.specs.Value.{kind_of}
 abbrev pub script_step : ScriptSystem → Held Value → Ends Refusal → ScriptSystem → Held Value → Type 0
 script_step before seen outcome after left = (after ≡ before) × (outcome ≡ steps_outcome before.steps.items seen) × (left ≡ steps_left before.steps.items seen)
 
--- The plan runs once from this start, and the text goes on with what the run left and how it ended.
-pub record IsDispatch (plan : Plan ResourceId) (start : Configuration Agent ResourceId Value ScriptSystem) (resources : List (List ℕ)) (begins : List ℕ) (outcome : Outcome) (text : List ℕ) : Type 0 where
-  pub answer : Answer (DispatchError Refusal)
-  pub states : Agent → Option ScriptSystem
-  pub left : Held Value
-  pub ran : IsSerializable (λ list. PlanRun kind_of script_step plan list answer) start (configuration_of states left)
-  pub outcome_is : outcome ≡ outcome_of answer
-  pub text_is : text ≡ begins ++ report resources left outcome
+-- what a run of a script's thread-local system does: its steps, in order, over all that the world holds; the system stays as it was
+abbrev pub local_step : ScriptLocal → Held Value → Ends Refusal → ScriptLocal → Held Value → Type 0
+local_step before held outcome after left = (after ≡ before) × (outcome ≡ steps_outcome before.steps.items held) × (left ≡ steps_left before.steps.items held)
 
--- A script is run: its lines make a plan, which is printed where it is asked for, and which runs over the first values.
+-- a plan of a script's systems, with these and its thread-local ones, and the values of a world
+abbrev pub Program : Type 0
+Program = Whole (Plan ResourceId) Value ScriptSystem ScriptLocal
+
+-- one dispatch: the plan's run, and where it is Done, that of the thread-local systems
+abbrev pub IsOnce : Program → Answer (DispatchError Refusal) → Program → Type 0
+IsOnce before answer after = FullyDispatched kind_of (PlanRun kind_of script_step) local_step before answer after
+
+-- that many dispatches, one after another, up to the first that is not Done, whose answer is the answer; it is Done where there is none
+abbrev pub AreDispatched : ℕ → Program → Answer (DispatchError Refusal) → Program → Type 0
+AreDispatched zero before answer after = (answer ≡ Ok tt) × (after ≡ before)
+AreDispatched (suc n) before answer after = (a : Answer (DispatchError Refusal)) × (middle : Program) × IsOnce before a middle
+    × MatchResult a
+    (λ done. AreDispatched n middle answer after)
+    (λ fault. (after ≡ middle) × (answer ≡ Err fault))
+
+-- The program is dispatched that many times, and the text goes on with what this left and how it ended.
+pub record IsDispatch (before : Program) (times : ℕ) (resources : List (List ℕ)) (begins : List ℕ) (outcome : Outcome) (text : List ℕ) : Type 0 where
+  pub answer : Answer (DispatchError Refusal)
+  pub after : Program
+  pub ran : AreDispatched times before answer after
+  pub outcome_is : outcome ≡ outcome_of answer
+  pub text_is : text ≡ begins ++ report resources after.staged.values outcome
+
+-- what a script's lines make of an empty builder, on as many threads as it asks for
+abbrev pub IsMadeOf : Script → Built ScriptSystem ScriptLocal → Type 0
+IsMadeOf script built = (lines : Built ScriptSystem ScriptLocal) × IsBuiltBy script.plan.items lines × IsPoolSet lines built script.manner.workers
+
+-- what was built, over these values
+abbrev pub program_of : Built ScriptSystem ScriptLocal → Held Value → Program
+program_of built held = record { staged = record { plan = built.plan; states = built.states; values = held }; locals = built.locals; workers = built.workers }
+
+-- A script is run: its lines make a plan, which is printed where it is asked for, and which is dispatched, from the first values on, as often as asked.
 pub record IsRunOf (script : Script) (outcome : Outcome) (text : List ℕ) : Type 0 where
-  pub built : Built ScriptSystem (Now ScriptSystem)
-  pub made : IsBuiltBy script.plan.items built
+  pub built : Built ScriptSystem ScriptLocal
+  pub made : IsMadeOf script built
   pub names : List NamedId
   pub known : AreNames names built.known
   pub begins : List ℕ
   pub planned : IsPlanPart script.prints_plan names built.plan begins
-  pub dispatch : IsDispatch built.plan (configuration_of built.states (first_held (values script.resources))) (resource_names script.resources) begins outcome text
+  pub dispatch : IsDispatch (program_of built (first_held (values script.resources))) script.manner.times (resource_names script.resources) begins outcome text
 
 -- A script is not run, since its plan is asked for and a system has no name, of which the first in the plan's order has this id.
 pub record IsUnnamed (script : Script) (id : ℕ) : Type 0 where
   pub asked : script.prints_plan ≡ true
-  pub built : Built ScriptSystem (Now ScriptSystem)
-  pub made : IsBuiltBy script.plan.items built
+  pub built : Built ScriptSystem ScriptLocal
+  pub made : IsMadeOf script built
   pub names : List NamedId
   pub known : AreNames names built.known
   pub first : Some id ≡ first_unnamed names (plan_ids built.plan)

@@ -1,17 +1,19 @@
 //! The plan that a script's lines make.
-ghost use Rattle.std.specs.Prelude.{OnOk, IfOk, IfErr};
+ghost use Rattle.std.specs.Prelude.{◌≡◌, OnOk, IfOk, IfErr};
 ghost use Rattle.shred.specs.Builders.{built};
-ghost use Rattle.shredscript.specs.Lines.{IsLineAdded, IsBuiltBy, IsNotAdded, IsNotTaken, IsStopped, IsLineTaken};
+ghost use Rattle.shredscript.specs.Lines.{IsLineAdded, IsBuiltBy, IsLocalTaken, IsNotAdded, IsNotTaken, IsStopped, IsLineTaken};
 
 use crate::error::ScriptError;
+use crate::local::ScriptLocal;
 use crate::script::{PlanLine, SystemLine};
+use crate::step::Step;
 use crate::system::ScriptSystem;
 use crate::value::Value;
 use shred::DispatcherBuilder;
 use std::alloc::Global;
 
 /// A builder of plans of a script's systems.
-pub(crate) type ScriptBuilder = DispatcherBuilder<Value, ScriptSystem>;
+pub(crate) type ScriptBuilder = DispatcherBuilder<Value, ScriptSystem, ScriptLocal>;
 
 /// The builder that has taken all lines, in their order.
 pub(crate) fn builder_of(
@@ -40,10 +42,22 @@ fn take_line(
 {
     match line {
         PlanLine::System(line) => add_system(alloc, builder, line),
+        PlanLine::Local(steps) => add_local(builder, steps),
         PlanLine::Barrier => {
             builder.add_barrier();
             Ok(())
         }
+    }
+}
+
+/// Adds the thread-local system of these steps.
+fn add_local(builder: &mut ScriptBuilder, steps: Vec<Step>) -> Result<(), ScriptError>
+    ensures added { OnOk result (IsLocalTaken steps.items (built builder.old) (built builder.new)) }
+    ensures not_added { IfErr result (λ error. error ≡ ScriptError.OutOfMemory) }
+{
+    match builder.add_thread_local(ScriptLocal { steps }) {
+        Ok(()) => Ok(()),
+        Err(_) => Err(ScriptError::OutOfMemory),
     }
 }
 

@@ -4,10 +4,16 @@ ghost use Rattle.shredscript.specs.Input.{IsLineError};
 
 use crate::error::{LineError, LineFault, ScriptError};
 use crate::step::{Resources, Step};
-use crate::words::{Words, integer, resource_name, running_time, system_name};
+use crate::words::{Words, count, integer, resource_name, running_time, system_name};
 use indexmap::IndexMap;
 use shred::RunningTime;
 use std::alloc::Global;
+
+/// The most workers.
+const MOST_WORKERS: u32 = 64;
+
+/// The most times that a plan is dispatched.
+const MOST_TIMES: u32 = 1_000_000;
 
 /// A line that adds a staged system, which runs after those that it depends on.
 #[derive(Debug, Drop)]
@@ -19,11 +25,27 @@ pub(crate) struct SystemLine<'text> {
     pub(crate) steps: Vec<Step>,
 }
 
-/// A line that the plan is made by.
+/// A line that the plan is made by, or the thread-local systems.
 #[derive(Debug, Drop)]
 pub(crate) enum PlanLine<'text> {
     System(SystemLine<'text>),
+    Local(Vec<Step>),
     Barrier,
+}
+
+/// How the staged systems run: their groups beside each other, or one after the other.
+#[derive(Clone, Copy, Debug, PartialEq, Eq)]
+pub(crate) enum Mode {
+    Parallel,
+    Sequential,
+}
+
+/// How often and how a plan is dispatched. Of several lines the last counts.
+#[derive(Clone, Copy, Debug, PartialEq, Eq)]
+pub(crate) struct Manner {
+    pub(crate) workers: usize,
+    pub(crate) times: u32,
+    pub(crate) mode: Mode,
 }
 
 /// What the lines of a script declare, in their order.
@@ -34,6 +56,7 @@ pub(crate) struct Script<'text> {
     pub(crate) plan: Vec<PlanLine<'text>>,
     /// Whether the plan is to be printed.
     pub(crate) prints_plan: bool,
+    pub(crate) manner: Manner,
 }
 
 impl<'text> Script<'text> {
@@ -45,6 +68,11 @@ impl<'text> Script<'text> {
             resources: IndexMap::new(alloc),
             plan: Vec::new(alloc),
             prints_plan: false,
+            manner: Manner {
+                workers: 4,
+                times: 1,
+                mode: Mode::Parallel,
+            },
         };
         for (index, bytes) in text.split(|byte| *byte == b'\n').enumerate() {
             let line = index + 1;
@@ -67,6 +95,10 @@ impl<'text> Script<'text> {
             Some("res") => self.take_resource(words),
             Some("sys") => self.take_system(alloc, line, words),
             Some("barrier") => self.take_barrier(words),
+            Some("local") => self.take_local(alloc, words),
+            Some("workers") => self.take_workers(words),
+            Some("times") => self.take_times(words),
+            Some("mode") => self.take_mode(words),
             Some("plan") => self.take_plan(words),
             Some(word) if word.starts_with('#') => Ok(()),
             Some(_) => Err(LineFault::UnknownLine.into()),
@@ -93,10 +125,7 @@ impl<'text> Script<'text> {
         let name = system_name(words.required()?)?;
         let time = running_time(words.required()?)?;
         let dependencies = dependencies(alloc, words.required()?)?;
-        let mut steps = Vec::new(alloc);
-        for word in words {
-            steps.push(Step::parse(word, &self.resources)?)?;
-        }
+        let steps = self.steps(alloc, words)?;
         self.plan.push(PlanLine::System(SystemLine {
             line,
             name,
@@ -104,6 +133,46 @@ impl<'text> Script<'text> {
             dependencies,
             steps,
         }))?;
+        Ok(())
+    }
+
+    fn take_local(&mut self, alloc: Global, words: Words<'text>) -> Result<(), LineError> {
+        let steps = self.steps(alloc, words)?;
+        self.plan.push(PlanLine::Local(steps))?;
+        Ok(())
+    }
+
+    /// The steps that the words which are left write.
+    fn steps(&self, alloc: Global, words: Words<'text>) -> Result<Vec<Step>, LineError> {
+        let mut steps = Vec::new(alloc);
+        for word in words {
+            steps.push(Step::parse(word, &self.resources)?)?;
+        }
+        Ok(steps)
+    }
+
+    fn take_workers(&mut self, mut words: Words<'text>) -> Result<(), LineError> {
+        let workers = count(words.required()?, MOST_WORKERS)?;
+        words.end()?;
+        self.manner.workers = workers as usize;
+        Ok(())
+    }
+
+    fn take_times(&mut self, mut words: Words<'text>) -> Result<(), LineError> {
+        let times = count(words.required()?, MOST_TIMES)?;
+        words.end()?;
+        self.manner.times = times;
+        Ok(())
+    }
+
+    fn take_mode(&mut self, mut words: Words<'text>) -> Result<(), LineError> {
+        let mode = match words.required()? {
+            "par" => Mode::Parallel,
+            "seq" => Mode::Sequential,
+            _ => return Err(LineFault::BadWord.into()),
+        };
+        words.end()?;
+        self.manner.mode = mode;
         Ok(())
     }
 

@@ -13,6 +13,9 @@ const MOST_NAME_BYTES: usize = 32;
 /// The most digits of a whole number.
 const MOST_DIGITS: usize = 19;
 
+/// The most digits of a count.
+const MOST_COUNT_DIGITS: usize = 7;
+
 /// The words of a line, which one or more spaces separate.
 #[derive(Drop)]
 pub(crate) struct Words<'text> {
@@ -120,6 +123,17 @@ pub(crate) fn integer(word: &str) -> Result<i64, LineFault> {
         return Err(LineFault::BadWord);
     }
     word.parse().map_err(|_| LineFault::BadWord)
+}
+
+/// A count: 1 to 7 digits, and no more than `most`.
+pub(crate) fn count(word: &str, most: u32) -> Result<u32, LineFault> {
+    if !is_digits(word) || word.len() > MOST_COUNT_DIGITS {
+        return Err(LineFault::BadWord);
+    }
+    match word.parse::<u32>() {
+        Ok(count) if count <= most => Ok(count),
+        _ => Err(LineFault::BadWord),
+    }
 }
 
 /// The code of a refusal: digits of a number of 32 bits.

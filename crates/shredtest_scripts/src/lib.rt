@@ -10,4 +10,6 @@ mod readers;
 #[cfg(test)]
 mod runs;
 #[cfg(test)]
+mod turn_cases;
+#[cfg(test)]
 mod writers;

@@ -295,5 +295,5 @@ pub const FAULTY: &[(&str, &str)] = &[
         "sys a average x\nsys b average - Q+=1",
         "line 2: no such resource\n",
     ),
-    ("sys a average x\nlocal", "line 2: unknown line\n"),
+    ("sys a average x\nend", "line 2: unknown line\n"),
 ];

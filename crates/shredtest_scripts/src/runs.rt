@@ -1,7 +1,7 @@
 //! Whole runs, from a script's bytes to what is printed.
 use crate::readers::{FailingReader, InterruptedReader, RepeatingReader};
 use crate::writers::StoppingWriter;
-use crate::{cases, plan_cases};
+use crate::{cases, plan_cases, turn_cases};
 use shredscript::run;
 use std::alloc::{AllocError, Global};
 use std::io::Read;
@@ -80,6 +80,9 @@ fn tells_the_first_fault(rt: HostRuntime) {
     for (script, err) in plan_cases::FAULTY {
         assert_prints(&rt, script, "", err, 1);
     }
+    for (script, err) in turn_cases::FAULTY {
+        assert_prints(&rt, script, "", err, 1);
+    }
 }
 
 /// The printed text of these stages, and the line of the number of threads.
@@ -123,6 +126,13 @@ fn prints_a_plan_as_it_is_written_here(rt: HostRuntime) {
 #[test]
 fn runs_by_dependencies_and_barriers(rt: HostRuntime) {
     for (script, out, status) in plan_cases::RUN {
+        assert_prints(&rt, script, out, "", *status);
+    }
+}
+
+#[test]
+fn runs_thread_local_systems_as_often_as_asked(rt: HostRuntime) {
+    for (script, out, status) in turn_cases::RUN {
         assert_prints(&rt, script, out, "", *status);
     }
 }
@@ -245,7 +255,7 @@ fn tells_a_failed_flush(rt: HostRuntime) {
 #[test]
 fn a_failed_write_of_a_fault_changes_no_status(rt: HostRuntime) {
     for (script, status) in [
-        ("local", 1),
+        ("end", 1),
         ("", 0),
         ("sys a short - refuse:1", 2),
         ("sys a short a", 2),

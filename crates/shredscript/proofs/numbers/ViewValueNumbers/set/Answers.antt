@@ -2,7 +2,7 @@ use Rattle.std.proofs.Common.{◌≡◌, ◌∙◌, ap, arith, w64, is_ok, IsOk,
 use Rattle.std.proofs.lemmas.Int.{ints}
 use Rattle.shredscript.specs.Place.{id_at, seen_through}
 use Rattle.shredscript.proofs.Shown.{shown-written, changes-written, number-held}
-use Rattle.shredscript.proofs.system.write.Goals as goal
+use Rattle.shredscript.proofs.numbers.ViewValueNumbers.set.Goals as goal
 
 pub returns-clause-left : goal.returns-clause-left
 returns-clause-left c =
@@ -10,11 +10,11 @@ returns-clause-left c =
     let wrote : IsOk c.write.result = (λ i. is_ok (c.in-Ok.is i)) in
     let ends = c.write.follows.holds c.args.number wrote in
     ap (λ (number : ℤ). seen_through (c.write.follows.lender number)) same
-    ∙ shown-written c.args.view.now (c.write.follows.lender c.args.number) (id_at c.args.place) (record { 0 = c.args.number }) ends.0 c.requires.writes (rw c.id_at.ensures at ends.1)
+    ∙ shown-written c.args.self.now (c.write.follows.lender c.args.number) (id_at c.args.place) (record { 0 = c.args.number }) ends.0 c.requires.allowed (rw c.id_at.ensures at ends.1)
 
-pub returns-clause-changes : goal.returns-clause-changes
-returns-clause-changes c =
+pub returns-clause-keeps : goal.returns-clause-keeps
+returns-clause-keeps c =
     let number = to_z w64 (of_z w64 c.args.number) in
     let wrote : IsOk c.write.result = (λ i. is_ok (c.in-Ok.is i)) in
     let ends = c.write.follows.holds number wrote in
-    changes-written c.args.view.now (c.write.follows.lender number) (id_at c.args.place) (record { 0 = number }) ends.0 c.requires.writes (number-held c.args.view.now c.args.place c.requires.held) (rw c.id_at.ensures at ends.1)
+    changes-written c.args.self.now (c.write.follows.lender number) (id_at c.args.place) (record { 0 = number }) ends.0 c.requires.allowed (number-held c.args.self.now c.args.place c.requires.held) (rw c.id_at.ensures at ends.1)

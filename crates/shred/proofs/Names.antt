@@ -1,4 +1,3 @@
 -- Names of systems.
 pub mod Consistent
-pub mod Known
 pub mod KnownNames

@@ -1,16 +1,14 @@
 -- What a builder has come to, and the steps of its calls.
-use Rattle.std.specs.Prelude.{◌≡◌, ℕ, ◌<◌, ◌+◌, ◌-◌, ◌^◌, List, [], ◌∷◌, ◌++◌, length, Option, None, Some, IsSome}
+use Rattle.std.specs.Prelude.{◌≡◌, ℕ, ◌<◌, ◌+◌, List, [], ◌∷◌, ◌++◌, length, Option, None, Some}
 use Rattle.shred_table.specs.declared.id.ResourceId.{ResourceId}
 use Rattle.shred_model.specs.Plan.{PlanEntry, Plan}
 use Rattle.shred_model.specs.Record.{Agent}
 use Rattle.shred_stage.specs.Added.{AreSame, IsAdded}
 use Rattle.shred_stage.specs.Earlier.{HasIdAt, IsFromBarrier, StandsAfter, AllBeforeBarrier}
 use Rattle.shred_group.specs.Kept.{IsKept}
-use Rattle.shred_stage.specs.Known.{Known, KnowsAll, IsFirstUnknown, known_ids, with_name}
+use Rattle.shred_stage.specs.Known.{Known, known_ids, with_name}
 use Rattle.shred_stage.specs.Placement.{IsPlaced}
 use Rattle.shred_group.specs.declared.system.RunningTime.{RunningTime}
-use Rattle.shred.specs.declared.dispatch.add_error.AddError.{AddError}
-use Rattle.shred.specs.declared.dispatch.add_error.AddError.TheVariants.{NoSuchSystem, NameTaken, IdsExhausted, OutOfMemory}
 
 -- A plan with its systems, the known names, the barrier, the number of the next id, the thread-local systems, and on how many threads a stage runs at most.
 pub record Built (S L : Type 0) : Type 0 where
@@ -86,19 +84,6 @@ pub record IsAddition {S L : Type 0} (old new : Built S L) (name : List ℕ) (de
   pub next : new.next ≡ old.next + 1
   pub locals : new.locals ≡ old.locals
   pub workers : new.workers ≡ old.workers
-
--- Each dependency is known, the name is not, and there is a next id.
-pub record MayAdd (known : Known) (next : ℕ) (name : List ℕ) (dependencies : List (List ℕ)) : Type 0 where
-  pub all_known : KnowsAll known dependencies
-  pub is_new : known name ≡ None
-  pub ids_left : next < 2 ^ 64 - 1
-
--- the first of the tests that fails, in this order; want of memory only where all are passed
-abbrev pub IsRefusal : Known → ℕ → List ℕ → List (List ℕ) → AddError → Type 0
-IsRefusal known next name dependencies (NoSuchSystem place) = IsFirstUnknown known dependencies place
-IsRefusal known next name dependencies NameTaken = KnowsAll known dependencies × IsSome (known name)
-IsRefusal known next name dependencies IdsExhausted = KnowsAll known dependencies × (known name ≡ None) × (next ≡ 2 ^ 64 - 1)
-IsRefusal known next name dependencies OutOfMemory = MayAdd known next name dependencies
 
 -- The plan's ids are below the next one and each stands at one place; a known name stands for an id below it, no two names for the same id, and the empty name for none.
 pub record IsConsistent {S L : Type 0} (built : Built S L) : Type 0 where

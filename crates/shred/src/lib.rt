@@ -89,11 +89,11 @@
 
 pub mod dispatch;
 
-pub use dispatch::add_error::AddError;
 pub use dispatch::builder::DispatcherBuilder;
 pub use dispatch::dispatcher::{Dispatcher, new_dispatcher};
 pub use dispatch::names::SystemNames;
 pub use shred_local::{DispatchError, Now, RunNow, ThreadLocal};
+pub use shred_names::AddError;
 pub use shred_stage::{
     Fault, PlanSink, PrintError, RunningTime, SinkFailed, Stage, StageFault, StagesBuilder, System,
     SystemId, ToWriter,

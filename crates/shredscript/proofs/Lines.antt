@@ -2,7 +2,8 @@
 use Rattle.std.proofs.Common.{◌≡◌, ℕ, List, [], ◌∷◌, ◌++◌, refl, sym, ◌∙◌, ap, subst, append_assoc}
 use Rattle.shred_table.specs.declared.id.ResourceId.{ResourceId}
 use Rattle.shredscript.specs.declared.local.ScriptLocal.{ScriptLocal}
-use Rattle.shred.specs.Built.{Built, IsAddition, IsNewBuilt, MayAdd}
+use Rattle.shred.specs.Built.{Built, IsAddition, IsNewBuilt}
+use Rattle.shred_names.specs.Refusals.{MayAdd}
 use Rattle.shredscript.specs.declared.script.PlanLine.{PlanLine}
 use Rattle.shredscript.specs.declared.script.SystemLine.{SystemLine}
 use Rattle.shredscript.specs.declared.system.ScriptSystem.{ScriptSystem}

@@ -1,10 +1,11 @@
 -- What the lines of a script make of a builder.
 use Rattle.std.specs.Prelude.{◌≡◌, ℕ, List, [], ◌∷◌, ◌++◌}
 use Rattle.shredscript.specs.declared.local.ScriptLocal.{ScriptLocal}
-use Rattle.shred.specs.Built.{Built, IsAddition, IsBarrierSet, IsLocalAdded, IsNewBuilt, IsRefusal, MayAdd}
+use Rattle.shred.specs.Built.{Built, IsAddition, IsBarrierSet, IsLocalAdded, IsNewBuilt}
+use Rattle.shred_names.specs.Refusals.{IsRefusal, MayAdd}
 use Rattle.shred_stage.specs.Known.{texts_of}
-use Rattle.shred.specs.declared.dispatch.add_error.AddError.{AddError}
-use Rattle.shred.specs.declared.dispatch.add_error.AddError.TheVariants as builder
+use Rattle.shred_names.specs.declared.add_error.AddError.{AddError}
+use Rattle.shred_names.specs.declared.add_error.AddError.TheVariants as builder
 use Rattle.shredscript.specs.declared.error.AddRefusal.{AddRefusal}
 use Rattle.shredscript.specs.declared.error.AddRefusal.TheVariants.{NoSuchSystem, NameTaken, IdsExhausted}
 use Rattle.shredscript.specs.declared.error.ScriptError.{ScriptError}

@@ -2,8 +2,8 @@
 ghost use Rattle.std.specs.Prelude.{[]};
 ghost use Rattle.shred_group.specs.declared.system.RunningTime.TheVariants.{Average};
 
-use crate::ended::{DONE, Ended, ended};
-use shred::{DispatcherBuilder, Fault, OutOfMemory, RunningTime, System, View, World};
+use crate::ended::{DONE, Ended, ended, run_ended};
+use shred::{Dispatcher, DispatcherBuilder, Fault, OutOfMemory, RunningTime, System, View, World};
 use shredtest::values::Value;
 use std::alloc::Global;
 use std::process::Abort;
@@ -73,9 +73,31 @@ impl<'f> System<Value> for Meets<'f> {
     }
 }
 
-/// Four systems stand in one stage, each in a group of its own, and their dispatch on that many workers ends so.
+/// By which call the systems are run.
+#[derive(Clone, Copy)]
+enum Call {
+    Dispatch,
+    DispatchPar,
+    RunNow,
+}
+
+fn called<'f>(
+    rt: &(impl Threads + Sync),
+    dispatcher: &mut Dispatcher<Value, Meets<'f>>,
+    world: &mut World<Value>,
+    call: Call,
+) -> Ended {
+    match call {
+        Call::Dispatch => ended(dispatcher.dispatch(rt, world)),
+        Call::DispatchPar => ended(dispatcher.dispatch_par(rt, world)),
+        Call::RunNow => run_ended(dispatcher.run_now(rt, world.local())),
+    }
+}
+
+/// Four systems stand in one stage, each in a group of its own, and the call of their dispatcher on that many workers ends so.
 fn expect_meeting(
     rt: &(impl Abort + AllocGlobal + Threads + Sync),
+    call: Call,
     workers: usize,
     turns: u32,
     end: Ended,
@@ -95,20 +117,23 @@ fn expect_meeting(
     let mut dispatcher = builder.build();
     let mut world: World<Value> = World::empty(rt.alloc());
     assert_eq!(rt; dispatcher.max_threads(), 4);
-    assert_eq!(rt; ended(dispatcher.dispatch(rt, &mut world)), end);
+    assert_eq!(rt; called(rt, &mut dispatcher, &mut world, call), end);
     Ok(())
 }
 
 #[test]
 fn gate_four(rt: HostRuntime) -> Result<(), Fail> {
-    expect_meeting(&rt, 4, 100_000_000, DONE)
+    for call in [Call::Dispatch, Call::DispatchPar, Call::RunNow] {
+        expect_meeting(&rt, call, 4, 100_000_000, DONE)?;
+    }
+    Ok(())
 }
 
 #[test]
 fn gate_four_on_fewer_workers(rt: HostRuntime) -> Result<(), Fail> {
     // No number of looks would do: a system has not begun.
     for workers in 0..3 {
-        expect_meeting(&rt, workers, 1_000, ("system", 0, 1))?;
+        expect_meeting(&rt, Call::Dispatch, workers, 1_000, ("system", 0, 1))?;
     }
     Ok(())
 }

@@ -10,6 +10,8 @@ mod ended;
 #[cfg(test)]
 mod gate;
 #[cfg(test)]
+mod nested;
+#[cfg(test)]
 mod script;
 #[cfg(test)]
 mod stage;

@@ -6,7 +6,8 @@ ghost use Rattle.std.proofs.Props.{props};
 ghost use Rattle.shred_model.specs.Plan.{plan_ids};
 ghost use Rattle.shred_model.specs.Record.{Agent};
 ghost use Rattle.shred_stage.specs.BuilderPlan.{planned, barrier_of, builder_states};
-ghost use Rattle.shred.specs.Built.{IsAddition, IsBarrierSet, IsConsistent, IsLocalAdded, IsNewBuilt, IsPoolSet, IsRefusal, IsSameBuilt, MayAdd};
+ghost use Rattle.shred.specs.Built.{IsAddition, IsBarrierSet, IsConsistent, IsLocalAdded, IsNewBuilt, IsPoolSet, IsSameBuilt};
+ghost use Rattle.shred_names.specs.Refusals.{IsRefusal, MayAdd};
 ghost use Rattle.shred.specs.Dispatchers.{dispatcher_locals, dispatcher_plan, dispatcher_states, dispatcher_workers};
 ghost use Rattle.shred.specs.SystemNames.{names_known, names_pairs};
 ghost use Rattle.shred_local.specs.ThreadLocals.{systems_of};
@@ -16,19 +17,16 @@ ghost use Rattle.shred_stage.specs.Names.{AreNames, first_unnamed, names_of};
 ghost use Rattle.shred_stage.specs.Printed.{line_feed, plan_text};
 ghost use Rattle.shred_stage.specs.Prints.{IsPrinted};
 
-use crate::dispatch::add_error::AddError;
 use crate::dispatch::dispatcher::{Dispatcher, new_dispatcher};
-use crate::dispatch::look_up::{enter, first_unknown, forget, id_of, ids_of};
 use crate::dispatch::names::SystemNames;
 use shred_local::{Now, ThreadLocal};
+use shred_names::AddError;
+use shred_names::look_up::{enter, forget, ids_of, may_add};
 use shred_stage::dispatch::printing::print_with_end;
 use shred_stage::{PlanSink, PrintError, StagesBuilder, System, SystemId};
 use shred_world::{OutOfMemory, ResourceValue};
 use std::alloc::Global;
 use std::collections::HashMap;
-
-#[cfg(test)]
-mod tests;
 
 /// A plan that grows by one system after another, with names for them.
 #[derive(Drop)]
@@ -51,24 +49,11 @@ impl<V: ResourceValue, S: System<V>, L: Drop> DispatcherBuilder<V, S, L> {
     pub fn new(alloc: Global) -> Self
         ensures { IsNewBuilt (built result) }
     {
-        Self::empty(alloc, 0)
-    }
-
-    // An empty plan, without names, that gives this id next.
-    fn empty(alloc: Global, next: usize) -> Self
-        ensures plan { (built result).plan ≡ [] }
-        ensures states { (path : Agent) → (built result).states path ≡ None }
-        ensures known { (name : List ℕ) → (built result).known name ≡ None }
-        ensures barrier { (built result).barrier ≡ 0 }
-        ensures next { (built result).next ≡ next }
-        ensures locals { (built result).locals ≡ [] }
-        ensures workers { (built result).workers ≡ 4 }
-    {
         DispatcherBuilder {
             alloc,
             stages: StagesBuilder::new(alloc),
             names: HashMap::new(alloc),
-            next,
+            next: 0,
             thread_local: ThreadLocal::new(alloc),
             workers: 4,
         }
@@ -210,7 +195,7 @@ impl<V: ResourceValue, S: System<V>, L: Drop> DispatcherBuilder<V, S, L> {
         ensures refused { IfErr result (IsRefusal (built self.old).known (built self.old).next name.now (texts_of dependencies.now)) }
         ensures unchanged { OnErr result (IsSameBuilt (built self.old) (built self.new)) }
     {
-        self.may_add(name, dependencies)?;
+        may_add(&self.names, self.next, name, dependencies)?;
         match self.accept(system, name, dependencies) {
             Ok(id) => Ok(id),
             Err(_) => Err(AddError::OutOfMemory),
@@ -231,23 +216,6 @@ impl<V: ResourceValue, S: System<V>, L: Drop> DispatcherBuilder<V, S, L> {
             Ok(_) => Ok(builder),
             Err(e) => Err(e),
         }
-    }
-
-    // Whether a system of this name may be added.
-    fn may_add(&self, name: &str, dependencies: &[&str]) -> Result<(), AddError>
-        ensures ok { OnOk result (MayAdd (built self.now).known (built self.now).next name.now (texts_of dependencies.now)) }
-        ensures err { IfErr result (IsRefusal (built self.now).known (built self.now).next name.now (texts_of dependencies.now)) }
-    {
-        if let Some(place) = first_unknown(&self.names, dependencies) {
-            return Err(AddError::NoSuchSystem { place });
-        }
-        if id_of(&self.names, name).is_some() {
-            return Err(AddError::NameTaken);
-        }
-        if self.next == usize::MAX {
-            return Err(AddError::IdsExhausted);
-        }
-        Ok(())
     }
 
     // Adds a system that may be added.

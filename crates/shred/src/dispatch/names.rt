@@ -6,7 +6,7 @@ ghost use Rattle.std.specs.String.{string_eq};
 ghost use Rattle.std.proofs.Props.{props};
 ghost use Rattle.shred_stage.specs.Names.{AreNames, least_name};
 
-use crate::dispatch::look_up;
+use shred_names::look_up;
 use shred_stage::SystemId;
 use shred_stage::dispatch::printing::least_name;
 use std::collections::HashMap;

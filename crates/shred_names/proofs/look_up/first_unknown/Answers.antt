@@ -1,9 +1,9 @@
 use Rattle.std.proofs.Common.{◌<◌, ℕ, List, [], get_or, length, arith}
 use Rattle.shred_stage.specs.Known.{texts_of}
 use Rattle.shred_stage.specs.Names.{names_of}
-use Rattle.shred.proofs.Names.Known.{known-some, known-none, knows-next}
+use Rattle.shred_names.proofs.Names.Known.{known-some, known-none, knows-next}
 use Rattle.shred_stage.proofs.Planner.Searching.{mapped_at}
-use Rattle.shred.proofs.dispatch.look_up.first_unknown.Goals as goal
+use Rattle.shred_names.proofs.look_up.first_unknown.Goals as goal
 use denote.Ref.{Bor}
 use Rattle.std.proofs.lemmas.List.{length-map}
 use Rattle.std.proofs.lemmas.Option.{slice_get_within}

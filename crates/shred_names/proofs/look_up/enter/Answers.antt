@@ -1,7 +1,7 @@
 use Rattle.std.proofs.Common.{◌≡◌, ◌==◌, ◌∙◌, true, false, length, sym, ap}
-use Rattle.shred.proofs.Names.Known.{name-entered}
-use Rattle.shred.proofs.dispatch.look_up.enter.Goals as goal
-use Rattle.shred.proofs.dispatch.look_up.enter.Goals.{in-Ok-insert, in-Err}
+use Rattle.shred_names.proofs.Names.Known.{name-entered}
+use Rattle.shred_names.proofs.look_up.enter.Goals as goal
+use Rattle.shred_names.proofs.look_up.enter.Goals.{in-Ok-insert, in-Err}
 
 pub returns-clause-ok : goal.returns-clause-ok
 returns-clause-ok c =

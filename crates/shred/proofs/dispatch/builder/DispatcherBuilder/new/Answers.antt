@@ -1,7 +1,7 @@
 use Rattle.std.proofs.Common.{◌≡◌, ℕ, List, None, Some, sym, ◌∙◌, rules}
 use Rattle.shred_stage.specs.Names.{names_of}
 use Rattle.shred.proofs.Names.Consistent.{empty-consistent}
-use Rattle.shred.proofs.dispatch.builder.DispatcherBuilder.empty.Goals as goal
+use Rattle.shred.proofs.dispatch.builder.DispatcherBuilder.new.Goals as goal
 
 pub invariant_of-result : goal.invariant_of-result
 invariant_of-result g c =

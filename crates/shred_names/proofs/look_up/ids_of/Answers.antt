@@ -1,9 +1,9 @@
 use Rattle.std.proofs.Common.{◌≡◌, ◌≤◌, ◌∙◌, ap, ℕ, List, [], take, get_or, length, arith}
 use Rattle.shred_stage.specs.Known.{texts_of}
 use Rattle.shred_stage.specs.Names.{names_of}
-use Rattle.shred.proofs.Names.Known.{known-number, ids-next}
+use Rattle.shred_names.proofs.Names.Known.{known-number, ids-next}
 use Rattle.shred_stage.proofs.Planner.Searching.{mapped_at}
-use Rattle.shred.proofs.dispatch.look_up.ids_of.Goals as goal
+use Rattle.shred_names.proofs.look_up.ids_of.Goals as goal
 use denote.Ref.{Bor}
 use Rattle.std.proofs.lemmas.List.{length-map, take_all}
 use Rattle.shred_stage.specs.Known.{known_ids}

@@ -1,0 +1,2 @@
+-- Names of systems.
+pub mod Known

@@ -1,0 +1,9 @@
+//! The names of a builder's systems, and when a system of a name may be added.
+#![tactic(auto)]
+
+pub mod add_error;
+pub mod look_up;
+#[cfg(test)]
+mod tests;
+
+pub use add_error::AddError;

@@ -3,7 +3,7 @@ ghost use Rattle.std.specs.Prelude.{[]};
 ghost use Rattle.shred_group.specs.declared.system.RunningTime.TheVariants.{Average};
 
 use crate::ended::{DONE, Ended, ended, run_ended};
-use shred::{Dispatcher, DispatcherBuilder, Fault, OutOfMemory, RunningTime, System, View, World};
+use shred::{DispatcherBuilder, Fault, OutOfMemory, RunningTime, System, View, World};
 use shredtest::values::Value;
 use std::alloc::Global;
 use std::process::Abort;
@@ -81,19 +81,6 @@ enum Call {
     RunNow,
 }
 
-fn called<'f>(
-    rt: &(impl Threads + Sync),
-    dispatcher: &mut Dispatcher<Value, Meets<'f>>,
-    world: &mut World<Value>,
-    call: Call,
-) -> Ended {
-    match call {
-        Call::Dispatch => ended(dispatcher.dispatch(rt, world)),
-        Call::DispatchPar => ended(dispatcher.dispatch_par(rt, world)),
-        Call::RunNow => run_ended(dispatcher.run_now(rt, world.local())),
-    }
-}
-
 /// Four systems stand in one stage, each in a group of its own, and the call of their dispatcher on that many workers ends so.
 fn expect_meeting(
     rt: &(impl Abort + AllocGlobal + Threads + Sync),
@@ -117,7 +104,12 @@ fn expect_meeting(
     let mut dispatcher = builder.build();
     let mut world: World<Value> = World::empty(rt.alloc());
     assert_eq!(rt; dispatcher.max_threads(), 4);
-    assert_eq!(rt; called(rt, &mut dispatcher, &mut world, call), end);
+    let found = match call {
+        Call::Dispatch => ended(dispatcher.dispatch(rt, &mut world)),
+        Call::DispatchPar => ended(dispatcher.dispatch_par(rt, &mut world)),
+        Call::RunNow => run_ended(dispatcher.run_now(rt, world.local())),
+    };
+    assert_eq!(rt; found, end);
     Ok(())
 }
 

@@ -14,3 +14,4 @@ pub mod Left
 pub mod Touching
 pub mod Setups
 pub mod Alone
+pub mod Texts

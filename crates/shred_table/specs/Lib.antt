@@ -8,3 +8,4 @@ pub mod Parting
 pub mod Shown
 pub mod Parts
 pub mod Accessors
+pub mod Texts

@@ -12,6 +12,11 @@ use std::fmt;
 pub struct Kind(pub u32);
 
 impl fmt::Display for Kind {
+    ghost use Rattle.std.specs.Prelude.{Some};
+    ghost use Rattle.shred_table.specs.Texts.{kind_text};
+
+    ghost output = { λ kind. Some (kind_text kind) };
+
     fn fmt<W: fmt::Write>(&self, f: &mut fmt::Formatter<W>) -> fmt::Result {
         let number = self.0;
         write!(f, "kind {number}")
@@ -26,6 +31,11 @@ pub struct ResourceId {
 }
 
 impl fmt::Display for ResourceId {
+    ghost use Rattle.std.specs.Prelude.{Some};
+    ghost use Rattle.shred_table.specs.Texts.{id_text};
+
+    ghost output = { λ id. Some (id_text id) };
+
     fn fmt<W: fmt::Write>(&self, f: &mut fmt::Formatter<W>) -> fmt::Result {
         let kind = self.kind;
         let number = self.dynamic_id;

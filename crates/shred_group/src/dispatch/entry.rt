@@ -23,6 +23,11 @@ use std::fmt;
 pub struct SystemId(pub usize);
 
 impl fmt::Display for SystemId {
+    ghost use Rattle.std.specs.Prelude.{Some};
+    ghost use Rattle.shred_group.specs.Texts.{system_text};
+
+    ghost output = { λ id. Some (system_text id) };
+
     fn fmt<W: fmt::Write>(&self, f: &mut fmt::Formatter<W>) -> fmt::Result {
         let number = self.0;
         write!(f, "system {number}")

@@ -1,8 +1,15 @@
 #!/usr/bin/env bash
-# examples/compare.sh: runs the built shredrun on each script of this folder, and compares what it prints with the file
-# NAME.stdout, which was worked out by hand; the status has to be 0 where the last line is `ok`, else 2. Then it runs it on
-# each script of random.txt, which says behind it the status, and what is to be printed on standard output and standard
-# error. It prints nothing where all agree.
+# examples/compare.sh: runs the built shredrun on all scripts of this folder, and compares the status, standard output
+# and standard error with what is wanted. It prints nothing where all agree.
+# - NAME.script is to print the file NAME.stdout, which was worked out by hand; the status has to be 0 where the last
+#   line is `ok`, else 2.
+# - rows.txt has a script a line, with its status before it and what it prints behind it, in columns with one tab
+#   between them: STATUS, SCRIPT, STDOUT and, where something is told there, STDERR. All but the first are written as
+#   `printf %b` reads them: \n is a line feed, \t a tab, \r a carriage return, \\ a backslash and \xHH the byte of that
+#   value. A line feed stands at an end only where one is written. Empty lines and lines that begin with # are no rows.
+#   A row without STDOUT is run once more with a standard output that takes nothing, and has to end in the same way.
+# - random.txt has whole scripts, each behind a line `=== NUMBER`. The line `--- STATUS stdout` or `--- STATUS stderr`
+#   ends it, and what is printed there follows; nothing is printed on the other.
 set -euo pipefail
 cd "$(dirname "${BASH_SOURCE[0]}")"
 
@@ -10,33 +17,88 @@ program=../crates/shredrun/out/shredrun
 room=$(mktemp -d)
 trap 'rm -rf "$room"' EXIT
 differ=0
+tab=$'\t'
 
-# ends_so SCRIPT EXPECTED STATUS NAME: the script ends with this status, and prints this file.
-ends_so() {
-    local status=0
-    "$program" <"$1" >"$room/output" 2>"$room/errors" || status=$?
-    cat "$room/errors" >>"$room/output"
-    if [ "$status" -ne "$3" ] || ! cmp "$2" "$room/output" >&2; then
-        echo "examples: $4 ends otherwise, with status $status" >&2
-        differ=1
-    fi
+complain() {
+    echo "examples: $1" >&2
+    differ=1
 }
 
-for script in *.script; do
-    expected=${script%.script}.stdout
-    wanted=2
-    [ "$(tail -n 1 "$expected")" != ok ] || wanted=0
-    ends_so "$script" "$expected" "$wanted" "$script"
-done
+# has_ended NAME WANTED STATUS ERR: the last run ended with STATUS, which is the wanted one, and printed this file on
+# standard error.
+has_ended() {
+    cmp "$4" "$room/stderr" >&2 || complain "$1 is told something else"
+    [ "$3" -eq "$2" ] || complain "$1 ends otherwise, with status $3"
+}
 
-awk -v room="$room" '
-    /^=== / { part = room "/" $2 ".script"; print $2; next }
-    /^--- / { sub(/script$/, "status", part); print $2 > part; close(part); sub(/status$/, "expected", part); printf "" > part; next }
-    { print > part }
-' random.txt >"$room/numbers"
-[ "$(wc -l <"$room/numbers")" -gt 0 ] || { echo "examples: random.txt has no script" >&2; differ=1; }
-while read -r number; do
-    case=$room/$number
-    ends_so "$case.script" "$case.expected" "$(cat "$case.status")" "script $number of random.txt"
-done <"$room/numbers"
+# ends_so NAME SCRIPT STATUS OUT ERR: run on this script, the program ends with this status, and prints these two files.
+ends_so() {
+    local status=0
+    "$program" <"$2" >"$room/stdout" 2>"$room/stderr" || status=$?
+    cmp "$4" "$room/stdout" >&2 || complain "$1 prints something else"
+    has_ended "$1" "$3" "$status" "$5"
+}
+
+# writes_nothing NAME SCRIPT STATUS ERR: it ends so as well where standard output takes nothing.
+writes_nothing() {
+    local status=0
+    "$program" <"$2" >/dev/full 2>"$room/stderr" || status=$?
+    has_ended "$1, without room for its output," "$3" "$status" "$4"
+}
+
+compare_files() {
+    local script expected wanted
+    for script in *.script; do
+        expected=${script%.script}.stdout
+        wanted=2
+        [ "$(tail -n 1 "$expected")" != ok ] || wanted=0
+        ends_so "$script" "$script" "$wanted" "$expected" /dev/null
+    done
+}
+
+compare_rows() {
+    local row number=0 rows=0 name status
+    while IFS= read -r row || [ -n "$row" ]; do
+        number=$((number + 1))
+        case $row in '' | '#'*) continue ;; esac
+        name="line $number of rows.txt"
+        if ! [[ $row =~ ^([0-2])$tab([^$tab]*)$tab([^$tab]*)($tab([^$tab]+))?$ ]]; then
+            complain "$name is no row"
+            continue
+        fi
+        status=${BASH_REMATCH[1]}
+        printf %b "${BASH_REMATCH[2]}" >"$room/script"
+        printf %b "${BASH_REMATCH[3]}" >"$room/wanted-stdout"
+        printf %b "${BASH_REMATCH[5]}" >"$room/wanted-stderr"
+        ends_so "$name" "$room/script" "$status" "$room/wanted-stdout" "$room/wanted-stderr"
+        [ -s "$room/wanted-stdout" ] || writes_nothing "$name" "$room/script" "$status" "$room/wanted-stderr"
+        rows=$((rows + 1))
+    done <rows.txt
+    [ "$rows" -gt 0 ] || complain "rows.txt has no row"
+}
+
+# A script N of random.txt becomes the files N.script, N.status, N.stdout and N.stderr.
+compare_random() {
+    local number status case scripts=0
+    awk -v room="$room/" '
+        function empty(file) { printf "" > file; close(file) }
+        /^=== / {
+            close(part); name = room $2; part = name ".script"; print $2
+            empty(name ".script"); empty(name ".stdout"); empty(name ".stderr"); next
+        }
+        /^--- / { close(part); print $2 > (name ".status"); close(name ".status"); part = name "." $3; next }
+        { print > part }
+    ' random.txt >"$room/numbers"
+    while read -r number; do
+        case=$room/$number
+        read -r status <"$case.status"
+        ends_so "script $number of random.txt" "$case.script" "$status" "$case.stdout" "$case.stderr"
+        scripts=$((scripts + 1))
+    done <"$room/numbers"
+    [ "$scripts" -gt 0 ] || complain "random.txt has no script"
+}
+
+compare_files
+compare_rows
+compare_random
 exit "$differ"

@@ -1,12 +1,10 @@
 //! Whole runs, from a script's bytes to what is printed.
 use crate::readers::{FailingReader, InterruptedReader, RepeatingReader};
 use crate::writers::StoppingWriter;
-use crate::{cases, plan_cases, turn_cases};
 use shredscript::run;
-use std::alloc::{AllocError, Global};
+use std::alloc::Global;
 use std::io::Read;
 use std::process::Abort;
-use std::test::Fail;
 use std::thread::Threads;
 
 /// What a run wrote and answered.
@@ -24,21 +22,6 @@ fn run_on<T: Threads + Sync, R: Read>(rt: &T, alloc: Global, reader: &mut R) -> 
     Printed { out, err, status }
 }
 
-/// The script is read whole, and prints this.
-fn assert_prints(
-    rt: &(impl Abort + AllocGlobal + Threads + Sync),
-    script: &str,
-    out: &str,
-    err: &str,
-    status: u8,
-) {
-    let mut reader = script.as_bytes();
-    let printed = run_on(rt, rt.alloc(), &mut reader);
-    assert_eq!(rt; printed.out.as_slice(), out.as_bytes(), "out of {script:?}");
-    assert_eq!(rt; printed.err.as_slice(), err.as_bytes(), "err of {script:?}");
-    assert_eq!(rt; printed.status, status, "status of {script:?}");
-}
-
 /// Nothing is run, and this is told.
 fn assert_tells<R: Read>(
     rt: &(impl Abort + AllocGlobal + Threads + Sync),
@@ -49,107 +32,6 @@ fn assert_tells<R: Read>(
     assert_eq!(rt; printed.out.len(), 0);
     assert_eq!(rt; printed.err.as_slice(), err.as_bytes());
     assert_eq!(rt; printed.status, 1);
-}
-
-#[test]
-fn prints_what_is_done(rt: HostRuntime) {
-    for (script, out) in cases::DONE {
-        assert_prints(&rt, script, out, "", 0);
-    }
-}
-
-#[test]
-fn prints_what_was_done_before_a_refusal(rt: HostRuntime) {
-    for (script, out) in cases::REFUSED {
-        assert_prints(&rt, script, out, "", 2);
-    }
-}
-
-#[test]
-fn runs_by_the_plan(rt: HostRuntime) {
-    for (script, out, status) in cases::PLANNED {
-        assert_prints(&rt, script, out, "", *status);
-    }
-}
-
-#[test]
-fn tells_the_first_fault(rt: HostRuntime) {
-    for (script, err) in cases::FAULTY {
-        assert_prints(&rt, script, "", err, 1);
-    }
-    for (script, err) in plan_cases::FAULTY {
-        assert_prints(&rt, script, "", err, 1);
-    }
-    for (script, err) in turn_cases::FAULTY {
-        assert_prints(&rt, script, "", err, 1);
-    }
-}
-
-/// The printed text of these stages, and the line of the number of threads.
-fn plan_text(
-    alloc: Global,
-    stages: plan_cases::Stages,
-    threads: usize,
-) -> Result<String, AllocError> {
-    let mut text = String::from_str(alloc, "seq![\n")?;
-    for stage in stages {
-        text.push_str("\tpar![\n")?;
-        for group in *stage {
-            text.push_str("\t\tseq![\n")?;
-            for name in *group {
-                write!(text, "\t\t\t{name},\n")?;
-            }
-            text.push_str("\t\t],\n")?;
-        }
-        text.push_str("\t],\n")?;
-    }
-    write!(text, "]\n\nthreads {threads}\n")?;
-    Ok(text)
-}
-
-#[test]
-fn prints_the_plan_before_the_values(rt: HostRuntime) -> Result<(), Fail> {
-    for (script, stages, threads, rest) in plan_cases::PRINTED {
-        let mut out = plan_text(rt.alloc(), stages, *threads)?;
-        out.push_str(rest)?;
-        let status = if rest.ends_with("ok\n") { 0 } else { 2 };
-        assert_prints(&rt, script, out.as_str(), "", status);
-    }
-    Ok(())
-}
-
-#[test]
-fn prints_a_plan_as_it_is_written_here(rt: HostRuntime) {
-    assert_prints(&rt, FIVE_PLANNED, FIVE_PRINTED, "", 0);
-}
-
-#[test]
-fn runs_by_dependencies_and_barriers(rt: HostRuntime) {
-    for (script, out, status) in plan_cases::RUN {
-        assert_prints(&rt, script, out, "", *status);
-    }
-}
-
-#[test]
-fn runs_thread_local_systems_as_often_as_asked(rt: HostRuntime) {
-    for (script, out, status) in turn_cases::RUN {
-        assert_prints(&rt, script, out, "", *status);
-    }
-}
-
-#[test]
-fn tells_the_line_that_is_refused(rt: HostRuntime) {
-    for (script, err) in plan_cases::REFUSED_LINES {
-        assert_prints(&rt, script, "", err, 2);
-    }
-}
-
-#[test]
-fn tells_bytes_that_are_no_text(rt: HostRuntime) {
-    let mut comment = b"res X 1\n# \xff".as_slice();
-    assert_tells(&rt, &mut comment, "line 2: unknown line\n");
-    let mut lone_byte = b"\x80".as_slice();
-    assert_tells(&rt, &mut lone_byte, "line 1: unknown line\n");
 }
 
 const SCRIPT: &str = "res X 1\nres Y 20\nsys a average - X+=10 refuse:7\n";
@@ -227,18 +109,6 @@ fn tells_a_failed_write_wherever_it_comes(rt: HostRuntime) {
     }
     for after in 0..FIVE_PRINTED.len() {
         assert_fails_after(&rt, FIVE_PLANNED, FIVE_PRINTED, after);
-    }
-}
-
-#[test]
-fn a_refused_line_writes_nothing_to_the_output(rt: HostRuntime) {
-    for (script, err) in plan_cases::REFUSED_LINES {
-        let mut reader = script.as_bytes();
-        let mut out = StoppingWriter::after(rt.alloc(), 0);
-        let mut told = Vec::new(rt.alloc());
-        let status = run(&rt, rt.alloc(), &mut reader, &mut out, &mut told);
-        assert_eq!(rt; told.as_slice(), err.as_bytes(), "err of {script:?}");
-        assert_eq!(rt; status, 2, "status of {script:?}");
     }
 }
 

@@ -1,0 +1,7 @@
+pub mod Standing
+pub mod Interleaved
+pub mod SameRuns
+pub mod OneEnd
+pub mod OwnEnds
+pub mod Made
+pub mod Needed

@@ -1,0 +1,2 @@
+pub mod Interleavings
+pub mod OneEnd

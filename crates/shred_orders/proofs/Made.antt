@@ -1,4 +1,4 @@
--- What is made of deterministic systems is deterministic: one that runs alone, a plain one, and one of two.
+-- Which systems are deterministic: those whose steps are functions, and those made of deterministic ones, as one that runs alone, a plain one and one of two.
 use Rattle.std.proofs.Common.{◌≡◌, Bool, true, false, cond, ◌||◌, List, [], Option, None, Err, inl, inr, refl, sym, ◌∙◌, ap, subst}
 use Rattle.std.proofs.Math.Path.{fun_ext}
 use Rattle.std.specs.Option.{option_map}
@@ -62,6 +62,18 @@ now-deterministic kind step reads writes Admitted never one now held o p new oth
     (end.outcome, (λ i. record { 0 = end.after i }), fun_ext (same_values access held left gone end.left ran.0.frame too.0.frame))
 now-deterministic kind step reads writes Admitted never one now held o p new other left gone admit_o admit_p (inr none) kept too keeps = absurd (never (subst Admitted none.told admit_o))
 now-deterministic kind step reads writes Admitted never one now held o p new other left gone admit_o admit_p (inl ran) kept (inr none) keeps = absurd (never (subst Admitted none.told admit_p))
+
+-- a relation that gives the outcome, the state and the values as functions of what a step begins with allows one end, whatever is admitted
+pub function-deterministic : {V S E : Type 0} (kind : V → Kind) (step : Step V S E) (reads writes : S → List ResourceId) (Admitted : Outcome E → Type 0) (outcome_of : S → Held V → Outcome E) (after_of : S → Held V → S) (left_of : S → Held V → Held V)
+    → ((before : S) (seen : Held V) (outcome : Outcome E) (after : S) (left : Held V) → step before seen outcome after left → (outcome ≡ outcome_of before seen) × (after ≡ after_of before seen) × (left ≡ left_of before seen)) → IsDeterministic kind step reads writes Admitted
+function-deterministic kind step reads writes Admitted outcome_of after_of left_of gives r q of_r of_q before seen admit_r admit_q =
+    let one = gives r.before r.seen r.outcome r.after r.left of_r.lies in
+    let other = gives q.before q.seen q.outcome q.after q.left of_q.lies in
+    record {
+      outcome = other.0 ∙ (λ i. outcome_of (before i) (seen i)) ∙ sym one.0;
+      after = other.1 ∙ (λ i. after_of (before i) (seen i)) ∙ sym one.1;
+      left = other.2 ∙ (λ i. left_of (before i) (seen i)) ∙ sym one.2;
+    }
 
 -- the record, with these states in place of its own
 abbrev with_states : {V X S E : Type 0} → S → S → Written V X E → Written V S E

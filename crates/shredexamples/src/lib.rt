@@ -1,8 +1,10 @@
-//! Examples: a world alone, an enum of systems, systems behind a box, and the text of a plan.
+//! Examples: a world alone, an enum of systems, systems behind a box, the text of a plan, and two dispatches that end the
+//! same.
 #![tactic(auto)]
 
 pub mod boxed_systems;
 pub mod enum_of_systems;
 pub mod plan_text;
+pub mod same_end;
 pub mod two_systems;
 pub mod world_alone;

@@ -16,7 +16,8 @@ use Rattle.shred_systems.specs.declared.one_of.OneOf.{OneOf}
 use Rattle.shred_systems.specs.declared.one_of.OneOf.TheVariants.{First, Second}
 use Rattle.shred_systems.specs.declared.plain.Plain.{Plain}
 use Rattle.shred_systems.specs.Made.{of_either, StepsEither}
-use Rattle.shred_orders.specs.OneEnd.{EndSame, IsDeterministic, IsDeterministicLocal, own_access}
+use Rattle.shred_orders.specs.OneEnd.{AreOfKinds, EndSame, IsDeterministic, IsDeterministicLocal, own_access}
+use Rattle.shred_orders.proofs.OfKinds.{declared-of-kinds}
 
 module _ {V : Type 0} (access : Access ResourceId) where
   shown : (values : Held V) (id : ResourceId) → among access.writes id ≡ true → declared_of access values id ≡ values id
@@ -56,19 +57,19 @@ over-step {V} kind step access old before outcome new after is = record {
 pub now-deterministic : {V S E : Type 0} (kind : V → Kind) (step : Step V S E) (reads writes : S → List ResourceId) (Admitted : Outcome E → Type 0) → (Admitted (Err OutOfMemory) → ⊥) → IsDeterministic kind step reads writes Admitted
     → (now : Now S) → IsDeterministicLocal kind (λ (before : Now S) held outcome (after : Now S) left. StepsAlone kind step reads writes before.0 held outcome after.0 left) Admitted now
 unfolding over
-now-deterministic kind step reads writes Admitted never one now held o p new other left gone admit_o admit_p (inl ran) kept (inl too) keeps =
+now-deterministic kind step reads writes Admitted never one now held o p new other left gone sound admit_o admit_p (inl ran) kept (inl too) keeps =
     let access = own_access reads writes now.0 in
-    let end = one (over access now.0 held o new.0 left) (over access now.0 held p other.0 gone) (over-step kind step access now.0 held o new.0 left ran.0) (over-step kind step access now.0 held p other.0 gone too.0) refl refl admit_o admit_p in
+    let end = one (over access now.0 held o new.0 left) (over access now.0 held p other.0 gone) (over-step kind step access now.0 held o new.0 left ran.0) (over-step kind step access now.0 held p other.0 gone too.0) refl refl (declared-of-kinds kind access held sound) admit_o admit_p in
     (end.outcome, (λ i. record { 0 = end.after i }), fun_ext (same_values access held left gone end.left ran.0.frame too.0.frame))
-now-deterministic kind step reads writes Admitted never one now held o p new other left gone admit_o admit_p (inr none) kept too keeps = absurd (never (subst Admitted none.told admit_o))
-now-deterministic kind step reads writes Admitted never one now held o p new other left gone admit_o admit_p (inl ran) kept (inr none) keeps = absurd (never (subst Admitted none.told admit_p))
+now-deterministic kind step reads writes Admitted never one now held o p new other left gone sound admit_o admit_p (inr none) kept too keeps = absurd (never (subst Admitted none.told admit_o))
+now-deterministic kind step reads writes Admitted never one now held o p new other left gone sound admit_o admit_p (inl ran) kept (inr none) keeps = absurd (never (subst Admitted none.told admit_p))
 
 -- a relation that gives the outcome, the state and the values as functions of what a step begins with allows one end, whatever is admitted
 pub function-deterministic : {V S E : Type 0} (kind : V → Kind) (step : Step V S E) (reads writes : S → List ResourceId) (Admitted : Outcome E → Type 0) (outcome_of : S → Held V → Outcome E) (after_of : S → Held V → S) (left_of : S → Held V → Held V)
-    → ((before : S) (seen : Held V) (outcome : Outcome E) (after : S) (left : Held V) → step before seen outcome after left → (outcome ≡ outcome_of before seen) × (after ≡ after_of before seen) × (left ≡ left_of before seen)) → IsDeterministic kind step reads writes Admitted
-function-deterministic kind step reads writes Admitted outcome_of after_of left_of gives r q of_r of_q before seen admit_r admit_q =
-    let one = gives r.before r.seen r.outcome r.after r.left of_r.lies in
-    let other = gives q.before q.seen q.outcome q.after q.left of_q.lies in
+    → ((before : S) (seen : Held V) (outcome : Outcome E) (after : S) (left : Held V) → AreOfKinds kind seen → step before seen outcome after left → (outcome ≡ outcome_of before seen) × (after ≡ after_of before seen) × (left ≡ left_of before seen)) → IsDeterministic kind step reads writes Admitted
+function-deterministic kind step reads writes Admitted outcome_of after_of left_of gives r q of_r of_q before seen sound admit_r admit_q =
+    let one = gives r.before r.seen r.outcome r.after r.left sound of_r.lies in
+    let other = gives q.before q.seen q.outcome q.after q.left (subst (AreOfKinds kind) (sym seen) sound) of_q.lies in
     record {
       outcome = other.0 ∙ (λ i. outcome_of (before i) (seen i)) ∙ sym one.0;
       after = other.1 ∙ (λ i. after_of (before i) (seen i)) ∙ sym one.1;
@@ -82,8 +83,8 @@ with_states before after r = record { agent = r.agent; access = r.access; before
 -- the system of a plain one is deterministic where that is
 pub plain-deterministic : {V T E : Type 0} (kind : V → Kind) (step : Step V T E) (reads writes : T → List ResourceId) (Admitted : Outcome E → Type 0) → IsDeterministic kind step reads writes Admitted
     → IsDeterministic kind (λ (before : Plain T) seen outcome (after : Plain T) left. step before.0 seen outcome after.0 left) (λ (plain : Plain T). reads plain.0) (λ (plain : Plain T). writes plain.0) Admitted
-plain-deterministic {V} {T} {E} kind step reads writes Admitted one r q of_r of_q before seen admit_r admit_q =
-    let end = one (with_states r.before.0 r.after.0 r) (with_states q.before.0 q.after.0 q) (inside r of_r) (inside q of_q) (ap (λ (plain : Plain T). plain.0) before) seen admit_r admit_q in
+plain-deterministic {V} {T} {E} kind step reads writes Admitted one r q of_r of_q before seen sound admit_r admit_q =
+    let end = one (with_states r.before.0 r.after.0 r) (with_states q.before.0 q.after.0 q) (inside r of_r) (inside q of_q) (ap (λ (plain : Plain T). plain.0) before) seen sound admit_r admit_q in
     record { outcome = end.outcome; after = λ i. record { 0 = end.after i }; left = end.left } where
       inside : (r : Written V (Plain T) E) → IsStep kind (λ (before : Plain T) seen outcome (after : Plain T) left. step before.0 seen outcome after.0 left) (own_access reads writes r.before.0) r → IsStep kind step (own_access reads writes r.before.0) (with_states r.before.0 r.after.0 r)
       inside r is = record { declared = is.declared; lies = is.lies; sees_only = is.sees_only; keeps_kinds = is.keeps_kinds; frame = is.frame }
@@ -97,20 +98,20 @@ module _ {V A B E : Type 0} (kind : V → Kind) (first : Step V A E) (second : S
   is_second r b t is = record { declared = is.declared; lies = is.lies; sees_only = is.sees_only; keeps_kinds = is.keeps_kinds; frame = is.frame }
 
   either : (r q : Written V (OneOf A B) E) (b c t u : OneOf A B) → IsStep kind (StepsEither first second) (own_access (of_either reads its_reads) (of_either writes its_writes) b) (with_states b t r) → IsStep kind (StepsEither first second) (own_access (of_either reads its_reads) (of_either writes its_writes) c) (with_states c u q)
-      → c ≡ b → q.seen ≡ r.seen → Admitted r.outcome → Admitted q.outcome → EndSame (with_states b t r) (with_states c u q)
-  either r q (First b) (First c) (First t) (First u) of_r of_q before seen admit_r admit_q =
-      let end = one (with_states b t r) (with_states c u q) (is_first r b t of_r) (is_first q c u of_q) (let e : c ≡ b = cc in e) seen admit_r admit_q in
+      → c ≡ b → q.seen ≡ r.seen → AreOfKinds kind r.seen → Admitted r.outcome → Admitted q.outcome → EndSame (with_states b t r) (with_states c u q)
+  either r q (First b) (First c) (First t) (First u) of_r of_q before seen sound admit_r admit_q =
+      let end = one (with_states b t r) (with_states c u q) (is_first r b t of_r) (is_first q c u of_q) (let e : c ≡ b = cc in e) seen sound admit_r admit_q in
       record { outcome = end.outcome; after = λ i. First (end.after i); left = end.left }
-  either r q (Second b) (Second c) (Second t) (Second u) of_r of_q before seen admit_r admit_q =
-      let end = other (with_states b t r) (with_states c u q) (is_second r b t of_r) (is_second q c u of_q) (let e : c ≡ b = cc in e) seen admit_r admit_q in
+  either r q (Second b) (Second c) (Second t) (Second u) of_r of_q before seen sound admit_r admit_q =
+      let end = other (with_states b t r) (with_states c u q) (is_second r b t of_r) (is_second q c u of_q) (let e : c ≡ b = cc in e) seen sound admit_r admit_q in
       record { outcome = end.outcome; after = λ i. Second (end.after i); left = end.left }
-  either r q (First b) c (Second t) u of_r of_q before seen admit_r admit_q = absurd of_r.lies
-  either r q (Second b) c (First t) u of_r of_q before seen admit_r admit_q = absurd of_r.lies
-  either r q b (First c) t (Second u) of_r of_q before seen admit_r admit_q = absurd of_q.lies
-  either r q b (Second c) t (First u) of_r of_q before seen admit_r admit_q = absurd of_q.lies
-  either r q (First b) (Second c) (First t) (Second u) of_r of_q before seen admit_r admit_q = absurd (cc)
-  either r q (Second b) (First c) (Second t) (First u) of_r of_q before seen admit_r admit_q = absurd (cc)
+  either r q (First b) c (Second t) u of_r of_q before seen sound admit_r admit_q = absurd of_r.lies
+  either r q (Second b) c (First t) u of_r of_q before seen sound admit_r admit_q = absurd of_r.lies
+  either r q b (First c) t (Second u) of_r of_q before seen sound admit_r admit_q = absurd of_q.lies
+  either r q b (Second c) t (First u) of_r of_q before seen sound admit_r admit_q = absurd of_q.lies
+  either r q (First b) (Second c) (First t) (Second u) of_r of_q before seen sound admit_r admit_q = absurd (cc)
+  either r q (Second b) (First c) (Second t) (First u) of_r of_q before seen sound admit_r admit_q = absurd (cc)
 
   -- one of two systems is deterministic where both are
   pub one-of-deterministic : IsDeterministic kind (StepsEither first second) (of_either reads its_reads) (of_either writes its_writes) Admitted
-  one-of-deterministic r q of_r of_q before seen admit_r admit_q = either r q r.before q.before r.after q.after of_r of_q before seen admit_r admit_q
+  one-of-deterministic r q of_r of_q before seen sound admit_r admit_q = either r q r.before q.before r.after q.after of_r of_q before seen sound admit_r admit_q

@@ -26,7 +26,7 @@ use Rattle.shred.specs.FullRuns.{FullyDispatched, Whole}
 use Rattle.shred.specs.PlanRuns.{PlanRun}
 use Rattle.shred_done.specs.Entries.{entries_of_plan}
 use Rattle.shred_done.proofs.Done.{IsDoneStep, plan_done}
-use Rattle.shred_orders.specs.OneEnd.{HadMemory, IsDeterministic, IsDeterministicLocal, IsDone, IsNotOutOfMemory, IsSameButThreads, SameEnd, TellsNoWant, own_access}
+use Rattle.shred_orders.specs.OneEnd.{AreOfKinds, HadMemory, IsDeterministic, IsDeterministicLocal, IsDone, IsNotOutOfMemory, IsSameButThreads, SameEnd, TellsNoWant, own_access}
 use Rattle.shred_orders.proofs.SameRuns.{EachAdmitted, FitEach, listed-fit}
 use Rattle.shred_orders.proofs.OneEnd.{HasOneStep, HaveOneStep, full-run-deterministic}
 
@@ -53,12 +53,12 @@ module _ {V S E : Type 0} (kind : V → Kind) (step : Step V S E) (reads writes 
 
   module _ (Admitted : Outcome E → Type 0) (one : IsDeterministic kind step reads writes Admitted) where
     entry-fits : (entry : SystemEntry V S) → IsOwnEntry reads writes entry → HasOneStep kind step Admitted (entry_plan entry) (entry_states entry)
-    entry-fits entry own r q found of_r of_q before seen admit_r admit_q =
+    entry-fits entry own r q found of_r of_q before seen sound admit_r admit_q =
         let is_r : entry.system ≡ r.before = cc in
         let own_r : AreOwnLists (reads r.before) (writes r.before) entry.reads.items entry.writes.items = subst (λ (s : S). AreOwnLists (reads s) (writes s) entry.reads.items entry.writes.items) is_r own.lists in
         let own_q : AreOwnLists (reads q.before) (writes q.before) entry.reads.items entry.writes.items = subst (λ (s : S). AreOwnLists (reads s) (writes s) entry.reads.items entry.writes.items) (sym before) own_r in
         let access = (entry_plan entry).access in
-        let end = one (record r { access = own_access reads writes r.before }) (record q { access = own_access reads writes q.before }) (own-step access r own_r of_r) (own-step access q own_q of_q) before seen admit_r admit_q in
+        let end = one (record r { access = own_access reads writes r.before }) (record q { access = own_access reads writes q.before }) (own-step access r own_r of_r) (own-step access q own_q of_q) before seen sound admit_r admit_q in
         record { outcome = end.outcome; after = end.after; left = end.left }
 
     entries-fit : (entries : List (SystemEntry V S)) → AllByRecursion (IsOwnEntry reads writes) entries → AllByRecursion (λ entry. HasOneStep kind step Admitted (entry_plan entry) (entry_states entry)) entries
@@ -96,10 +96,10 @@ done-local n (Err fault) e = absurd (cc)
 module _ {V S L E : Type 0} (kind : V → Kind) (step : Step V S E) (runs : Step V L E) (before other after end : Whole (model.Plan ResourceId) V S L) (answer its : Answer (DispatchError E)) (same : IsSameButThreads before other)
     (ran : FullyDispatched kind (PlanRun kind step) runs before answer after) (too : FullyDispatched kind (PlanRun kind step) runs other its end) where
   -- two full runs in which no memory was wanting
-  pub full-run-alike : HaveOneStep kind step IsNotOutOfMemory before.staged.plan before.staged.states → All (IsDeterministicLocal kind runs IsNotOutOfMemory) before.locals
+  pub full-run-alike : AreOfKinds kind before.staged.values → HaveOneStep kind step IsNotOutOfMemory before.staged.plan before.staged.states → All (IsDeterministicLocal kind runs IsNotOutOfMemory) before.locals
       → HadMemory ran.dispatched.ran.list answer → HadMemory too.dispatched.ran.list its → SameEnd answer its after end
-  full-run-alike one one_local had had_too =
-      full-run-deterministic kind step runs IsNotOutOfMemory TellsNoWant tt (λ n h. h) tells-no-local before other after end answer its same one (recursion_from_All (IsDeterministicLocal kind runs IsNotOutOfMemory) before.locals one_local) had.told had_too.told ran too
+  full-run-alike sound one one_local had had_too =
+      full-run-deterministic kind step runs IsNotOutOfMemory TellsNoWant tt (λ n h. h) tells-no-local before other after end answer its same sound one (recursion_from_All (IsDeterministicLocal kind runs IsNotOutOfMemory) before.locals one_local) had.told had_too.told ran too
       (λ h. recursion_from_All (λ (r : Written V S E). IsNotOutOfMemory r.outcome) ran.dispatched.ran.list had.steps) (λ h. recursion_from_All (λ (r : Written V S E). IsNotOutOfMemory r.outcome) too.dispatched.ran.list had_too.steps)
 
   each-done : (entries : List (model.PlanEntry ResourceId)) (list : List (Written V S E)) → AllZip (IsDoneStep kind step) entries list → EachAdmitted IsDone list
@@ -112,7 +112,7 @@ module _ {V S L E : Type 0} (kind : V → Kind) (step : Step V S E) (runs : Step
   done-list plan list a run is = each-done (entries_of_plan plan) list (plan_done kind step plan list (subst (λ (b : Answer (DispatchError E)). PlanRun kind step plan list b) is run))
 
   -- two full runs that are Done
-  pub full-run-alike-done : HaveOneStep kind step IsDone before.staged.plan before.staged.states → All (IsDeterministicLocal kind runs IsDone) before.locals → answer ≡ Ok tt → its ≡ Ok tt → SameEnd answer its after end
-  full-run-alike-done one one_local done done_too =
-      full-run-deterministic kind step runs IsDone (λ (a : Answer (DispatchError E)). a ≡ Ok tt) refl (λ n e. cc) done-local before other after end answer its same one (recursion_from_All (IsDeterministicLocal kind runs IsDone) before.locals one_local) done done_too ran too
+  pub full-run-alike-done : AreOfKinds kind before.staged.values → HaveOneStep kind step IsDone before.staged.plan before.staged.states → All (IsDeterministicLocal kind runs IsDone) before.locals → answer ≡ Ok tt → its ≡ Ok tt → SameEnd answer its after end
+  full-run-alike-done sound one one_local done done_too =
+      full-run-deterministic kind step runs IsDone (λ (a : Answer (DispatchError E)). a ≡ Ok tt) refl (λ n e. cc) done-local before other after end answer its same sound one (recursion_from_All (IsDeterministicLocal kind runs IsDone) before.locals one_local) done done_too ran too
       (λ is. done-list before.staged.plan ran.dispatched.ran.list ran.of_plan ran.dispatched.ran.run is) (λ is. done-list other.staged.plan too.dispatched.ran.list too.of_plan too.dispatched.ran.run is)

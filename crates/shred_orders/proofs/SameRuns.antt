@@ -18,23 +18,24 @@ moved g r = record r { agent = g r.agent }
 abbrev pub KeepsApart : (Agent → Agent) → Type 0
 KeepsApart g = (a b : Agent) → g a ≡ g b → a ≡ b
 
--- The runs are the same, with the same answer, what comes after them begins at one place, and there the states of all agents but those of g are as before.
-pub record AreSameRuns {I V S O F : Type 0} (g : Agent → Agent) (c : Configuration Agent I V S) (l m rest others : List (Record Agent I V S O)) (a b : Answer F) (y z : Configuration Agent I V S) : Type 0 where
+-- The runs are the same, with the same answer, what comes after them begins at one place, with values that are sound, and there the states of all agents but those of g are as before.
+pub record AreSameRuns {I V S O F : Type 0} (Sound : (I → Option V) → Type 0) (g : Agent → Agent) (c : Configuration Agent I V S) (l m rest others : List (Record Agent I V S O)) (a b : Answer F) (y z : Configuration Agent I V S) : Type 0 where
   pub list : l ≡ m
   pub answer : a ≡ b
   pub middle : Configuration Agent I V S
   pub first : Replays middle rest y
   pub second : Replays middle others z
+  pub sound : Sound middle.values
   pub kept : (w : Agent) → ((v : Agent) → g v ≢ w) → middle.states w ≡ c.states w
 
 -- each outcome is admitted
 abbrev pub EachAdmitted : {I V S O : Type 0} → (O → Type 0) → List (Record Agent I V S O) → Type 0
 EachAdmitted Admitted list = AllByRecursion (λ r. Admitted r.outcome) list
 
--- two runs of an element that fits its states, whose answers are fine and whose outcomes are admitted, with which two replays from one place begin, are the same
-abbrev pub HasOneRun : {X I V S O F : Type 0} → (O → Type 0) → (ℕ → X → List (Record Agent I V S O) → Answer F → Type 0) → (Answer F → Type 0) → (X → (Agent → Option S) → Type 0) → Type 0
-HasOneRun {X} {I} {V} {S} {O} {F} Admitted Run Fine Fits = (n : ℕ) (x : X) (g : Agent → Agent) (c y z : Configuration Agent I V S) (l m rest others : List (Record Agent I V S O)) (a b : Answer F)
-    → KeepsApart g → Fits x (λ w. c.states (g w)) → Fine a → Fine b → EachAdmitted Admitted l → EachAdmitted Admitted m → Run n x l a → Run n x m b → Replays c (map (moved g) l ++ rest) y → Replays c (map (moved g) m ++ others) z → AreSameRuns g c l m rest others a b y z
+-- two runs of an element that fits its states, whose answers are fine and whose outcomes are admitted, with which two replays from one place with sound values begin, are the same
+abbrev pub HasOneRun : {X I V S O F : Type 0} → ((I → Option V) → Type 0) → (O → Type 0) → (ℕ → X → List (Record Agent I V S O) → Answer F → Type 0) → (Answer F → Type 0) → (X → (Agent → Option S) → Type 0) → Type 0
+HasOneRun {X} {I} {V} {S} {O} {F} Sound Admitted Run Fine Fits = (n : ℕ) (x : X) (g : Agent → Agent) (c y z : Configuration Agent I V S) (l m rest others : List (Record Agent I V S O)) (a b : Answer F)
+    → KeepsApart g → Sound c.values → Fits x (λ w. c.states (g w)) → Fine a → Fine b → EachAdmitted Admitted l → EachAdmitted Admitted m → Run n x l a → Run n x m b → Replays c (map (moved g) l ++ rest) y → Replays c (map (moved g) m ++ others) z → AreSameRuns Sound g c l m rest others a b y z
 
 -- each element fits the states below its place; places count from n
 abbrev pub FitEach : {X S : Type 0} → (X → (Agent → Option S) → Type 0) → ℕ → List X → (Agent → Option S) → Type 0
@@ -106,79 +107,83 @@ module _ {I V S O : Type 0} (Admitted : O → Type 0) where
   admitted : (l m : List (Record Agent I V S O)) → l ≡ m → EachAdmitted Admitted l → EachAdmitted Admitted m
   admitted l m same h = subst (λ (w : List (Record Agent I V S O)). EachAdmitted Admitted w) same h
 
-module _ {I V S O F G : Type 0} (g : Agent → Agent) (n : ℕ) (c y z : Configuration Agent I V S) (l m first last : List (Record Agent I V S O)) (d e : Answer F) (a b : Answer G) where
+module _ {I V S O F G : Type 0} (Sound : (I → Option V) → Type 0) (g : Agent → Agent) (n : ℕ) (c y z : Configuration Agent I V S) (l m first last : List (Record Agent I V S O)) (d e : Answer F) (a b : Answer G) where
   -- where the runs of the element at place n are the same, and those of the elements behind it, so are the runs of all
-  followed : (more less rest others behind after : List (Record Agent I V S O)) (their its : Answer F) → (here : AreSameRuns (λ w. g (n ∷ w)) c first last behind after d e y z) → (there : AreSameRuns g here.middle more less rest others their its y z)
-      → l ≡ map (under n) first ++ more → m ≡ map (under n) last ++ less → a ≡ b → AreSameRuns g c l m rest others a b y z
+  followed : (more less rest others behind after : List (Record Agent I V S O)) (their its : Answer F) → (here : AreSameRuns Sound (λ w. g (n ∷ w)) c first last behind after d e y z) → (there : AreSameRuns Sound g here.middle more less rest others their its y z)
+      → l ≡ map (under n) first ++ more → m ≡ map (under n) last ++ less → a ≡ b → AreSameRuns Sound g c l m rest others a b y z
   followed more less rest others behind after their its here there is at answer = record {
     list = is ∙ (λ i. map (under n) (here.list i) ++ there.list i) ∙ sym at;
     answer = answer;
     middle = there.middle;
     first = there.first;
     second = there.second;
+    sound = there.sound;
     kept = λ w out. there.kept w out ∙ here.kept w (λ v. out (n ∷ v));
   }
 
   -- where they are the same, and no element behind it runs, so are the runs of all
-  ended : (rest others : List (Record Agent I V S O)) → (here : AreSameRuns (λ w. g (n ∷ w)) c first last rest others d e y z) → l ≡ map (under n) first → m ≡ map (under n) last → a ≡ b → AreSameRuns g c l m rest others a b y z
+  ended : (rest others : List (Record Agent I V S O)) → (here : AreSameRuns Sound (λ w. g (n ∷ w)) c first last rest others d e y z) → l ≡ map (under n) first → m ≡ map (under n) last → a ≡ b → AreSameRuns Sound g c l m rest others a b y z
   ended rest others here is at answer = record {
     list = is ∙ ap (map (under n)) here.list ∙ sym at;
     answer = answer;
     middle = here.middle;
     first = here.first;
     second = here.second;
+    sound = here.sound;
     kept = λ w out. here.kept w (λ v. out (n ∷ v));
   }
 
-module _ {X I V S O F : Type 0} (Admitted : O → Type 0) (Run : ℕ → X → List (Record Agent I V S O) → Answer F → Type 0) (Fine : Answer F → Type 0) (Fits : X → (Agent → Option S) → Type 0) (fine : Fine (Ok tt)) (one : HasOneRun Admitted Run Fine Fits) where
+module _ {X I V S O F : Type 0} (Sound : (I → Option V) → Type 0) (Admitted : O → Type 0) (Run : ℕ → X → List (Record Agent I V S O) → Answer F → Type 0) (Fine : Answer F → Type 0) (Fits : X → (Agent → Option S) → Type 0) (fine : Fine (Ok tt)) (one : HasOneRun Sound Admitted Run Fine Fits) where
   pub UpToFault-one : (n : ℕ) (xs : List X) (g : Agent → Agent) (c y z : Configuration Agent I V S) (l m rest others : List (Record Agent I V S O)) (a b : Answer F)
-      → KeepsApart g → FitEach Fits n xs (λ w. c.states (g w)) → Fine a → Fine b → EachAdmitted Admitted l → EachAdmitted Admitted m
-      → RunsUpToFault Run n xs l a → RunsUpToFault Run n xs m b → Replays c (map (moved g) l ++ rest) y → Replays c (map (moved g) m ++ others) z → AreSameRuns g c l m rest others a b y z
-  UpToFault-one n [] g c y z l m rest others a b apart fit fa fb al am run other p q = record {
+      → KeepsApart g → Sound c.values → FitEach Fits n xs (λ w. c.states (g w)) → Fine a → Fine b → EachAdmitted Admitted l → EachAdmitted Admitted m
+      → RunsUpToFault Run n xs l a → RunsUpToFault Run n xs m b → Replays c (map (moved g) l ++ rest) y → Replays c (map (moved g) m ++ others) z → AreSameRuns Sound g c l m rest others a b y z
+  UpToFault-one n [] g c y z l m rest others a b apart sound fit fa fb al am run other p q = record {
     list = run.0 ∙ sym other.0;
     answer = run.1 ∙ sym other.1;
     middle = c;
     first = from_none g c y l rest run.0 p;
     second = from_none g c z m others other.0 q;
+    sound = sound;
     kept = λ w out. refl;
   }
-  UpToFault-one n (x ∷ xs) g c y z l m rest others a b apart fit fa fb al am (first, Ok d, run, (more, is, runs)) (last, Ok e, other, (less, at, ends)) p q =
-      let here = one n x (λ w. g (n ∷ w)) c y z first last (map (moved g) more ++ rest) (map (moved g) less ++ others) (Ok d) (Ok e) (apart-below g n apart) fit.0 fine fine
+  UpToFault-one n (x ∷ xs) g c y z l m rest others a b apart sound fit fa fb al am (first, Ok d, run, (more, is, runs)) (last, Ok e, other, (less, at, ends)) p q =
+      let here = one n x (λ w. g (n ∷ w)) c y z first last (map (moved g) more ++ rest) (map (moved g) less ++ others) (Ok d) (Ok e) (apart-below g n apart) sound fit.0 fine fine
       (admitted-first Admitted n first more (admitted Admitted l (map (under n) first ++ more) is al)) (admitted-first Admitted n last less (admitted Admitted m (map (under n) last ++ less) at am)) run other (begins g n c y l first more rest is p) (begins g n c z m last less others at q) in
-      let there = UpToFault-one (suc n) xs g here.middle y z more less rest others a b apart (later-fit Fits n xs g c here.middle apart here.kept fit.1) fa fb
+      let there = UpToFault-one (suc n) xs g here.middle y z more less rest others a b apart here.sound (later-fit Fits n xs g c here.middle apart here.kept fit.1) fa fb
       (admitted-more Admitted n first more (admitted Admitted l (map (under n) first ++ more) is al)) (admitted-more Admitted n last less (admitted Admitted m (map (under n) last ++ less) at am)) runs ends here.first here.second in
-      followed g n c y z l m first last (Ok d) (Ok e) a b more less rest others (map (moved g) more ++ rest) (map (moved g) less ++ others) a b here there is at there.answer
-  UpToFault-one n (x ∷ xs) g c y z l m rest others a b apart fit fa fb al am (first, Ok d, run, (more, is, runs)) (last, Err e, other, (at, same)) p q =
-      let here = one n x (λ w. g (n ∷ w)) c y z first last (map (moved g) more ++ rest) others (Ok d) (Err e) (apart-below g n apart) fit.0 fine (subst Fine same fb)
+      followed Sound g n c y z l m first last (Ok d) (Ok e) a b more less rest others (map (moved g) more ++ rest) (map (moved g) less ++ others) a b here there is at there.answer
+  UpToFault-one n (x ∷ xs) g c y z l m rest others a b apart sound fit fa fb al am (first, Ok d, run, (more, is, runs)) (last, Err e, other, (at, same)) p q =
+      let here = one n x (λ w. g (n ∷ w)) c y z first last (map (moved g) more ++ rest) others (Ok d) (Err e) (apart-below g n apart) sound fit.0 fine (subst Fine same fb)
       (admitted-first Admitted n first more (admitted Admitted l (map (under n) first ++ more) is al)) (admitted-under Admitted n last (admitted Admitted m (map (under n) last) at am)) run other (begins g n c y l first more rest is p) (begins-last g n c z m last others at q) in
       absurd (let no = here.answer in cc)
-  UpToFault-one n (x ∷ xs) g c y z l m rest others a b apart fit fa fb al am (first, Err d, run, (is, is_a)) (last, Ok e, other, (less, at, ends)) p q =
-      let here = one n x (λ w. g (n ∷ w)) c y z first last rest (map (moved g) less ++ others) (Err d) (Ok e) (apart-below g n apart) fit.0 (subst Fine is_a fa) fine
+  UpToFault-one n (x ∷ xs) g c y z l m rest others a b apart sound fit fa fb al am (first, Err d, run, (is, is_a)) (last, Ok e, other, (less, at, ends)) p q =
+      let here = one n x (λ w. g (n ∷ w)) c y z first last rest (map (moved g) less ++ others) (Err d) (Ok e) (apart-below g n apart) sound fit.0 (subst Fine is_a fa) fine
       (admitted-under Admitted n first (admitted Admitted l (map (under n) first) is al)) (admitted-first Admitted n last less (admitted Admitted m (map (under n) last ++ less) at am)) run other (begins-last g n c y l first rest is p) (begins g n c z m last less others at q) in
       absurd (let no = here.answer in cc)
-  UpToFault-one n (x ∷ xs) g c y z l m rest others a b apart fit fa fb al am (first, Err d, run, (is, is_a)) (last, Err e, other, (at, is_b)) p q =
-      let here = one n x (λ w. g (n ∷ w)) c y z first last rest others (Err d) (Err e) (apart-below g n apart) fit.0 (subst Fine is_a fa) (subst Fine is_b fb)
+  UpToFault-one n (x ∷ xs) g c y z l m rest others a b apart sound fit fa fb al am (first, Err d, run, (is, is_a)) (last, Err e, other, (at, is_b)) p q =
+      let here = one n x (λ w. g (n ∷ w)) c y z first last rest others (Err d) (Err e) (apart-below g n apart) sound fit.0 (subst Fine is_a fa) (subst Fine is_b fb)
       (admitted-under Admitted n first (admitted Admitted l (map (under n) first) is al)) (admitted-under Admitted n last (admitted Admitted m (map (under n) last) at am)) run other (begins-last g n c y l first rest is p) (begins-last g n c z m last others at q) in
-      ended g n c y z l m first last (Err d) (Err e) a b rest others here is at (is_a ∙ here.answer ∙ sym is_b)
+      ended Sound g n c y z l m first last (Err d) (Err e) a b rest others here is at (is_a ∙ here.answer ∙ sym is_b)
 
-module _ {X I V S O F : Type 0} (Admitted : O → Type 0) (Run : ℕ → X → List (Record Agent I V S O) → Answer F → Type 0) (Fits : X → (Agent → Option S) → Type 0) (one : HasOneRun Admitted Run (λ a. Unit {0}) Fits) where
+module _ {X I V S O F : Type 0} (Sound : (I → Option V) → Type 0) (Admitted : O → Type 0) (Run : ℕ → X → List (Record Agent I V S O) → Answer F → Type 0) (Fits : X → (Agent → Option S) → Type 0) (one : HasOneRun Sound Admitted Run (λ a. Unit {0}) Fits) where
   pub Each-one : (n : ℕ) (xs : List X) (g : Agent → Agent) (c y z : Configuration Agent I V S) (l m rest others : List (Record Agent I V S O)) (a b : Answer F)
-      → KeepsApart g → FitEach Fits n xs (λ w. c.states (g w)) → EachAdmitted Admitted l → EachAdmitted Admitted m
-      → RunsEach Run n xs l a → RunsEach Run n xs m b → Replays c (map (moved g) l ++ rest) y → Replays c (map (moved g) m ++ others) z → AreSameRuns g c l m rest others a b y z
-  Each-one n [] g c y z l m rest others a b apart fit al am run other p q = record {
+      → KeepsApart g → Sound c.values → FitEach Fits n xs (λ w. c.states (g w)) → EachAdmitted Admitted l → EachAdmitted Admitted m
+      → RunsEach Run n xs l a → RunsEach Run n xs m b → Replays c (map (moved g) l ++ rest) y → Replays c (map (moved g) m ++ others) z → AreSameRuns Sound g c l m rest others a b y z
+  Each-one n [] g c y z l m rest others a b apart sound fit al am run other p q = record {
     list = run.0 ∙ sym other.0;
     answer = run.1 ∙ sym other.1;
     middle = c;
     first = from_none g c y l rest run.0 p;
     second = from_none g c z m others other.0 q;
+    sound = sound;
     kept = λ w out. refl;
   }
-  Each-one n (x ∷ xs) g c y z l m rest others a b apart fit al am (first, more, a1, a2, run, runs, is, is_a) (last, less, b1, b2, other, ends, at, is_b) p q =
-      let here = one n x (λ w. g (n ∷ w)) c y z first last (map (moved g) more ++ rest) (map (moved g) less ++ others) a1 b1 (apart-below g n apart) fit.0 tt tt
+  Each-one n (x ∷ xs) g c y z l m rest others a b apart sound fit al am (first, more, a1, a2, run, runs, is, is_a) (last, less, b1, b2, other, ends, at, is_b) p q =
+      let here = one n x (λ w. g (n ∷ w)) c y z first last (map (moved g) more ++ rest) (map (moved g) less ++ others) a1 b1 (apart-below g n apart) sound fit.0 tt tt
       (admitted-first Admitted n first more (admitted Admitted l (map (under n) first ++ more) is al)) (admitted-first Admitted n last less (admitted Admitted m (map (under n) last ++ less) at am)) run other (begins g n c y l first more rest is p) (begins g n c z m last less others at q) in
-      let there = Each-one (suc n) xs g here.middle y z more less rest others a2 b2 apart (later-fit Fits n xs g c here.middle apart here.kept fit.1)
+      let there = Each-one (suc n) xs g here.middle y z more less rest others a2 b2 apart here.sound (later-fit Fits n xs g c here.middle apart here.kept fit.1)
       (admitted-more Admitted n first more (admitted Admitted l (map (under n) first ++ more) is al)) (admitted-more Admitted n last less (admitted Admitted m (map (under n) last ++ less) at am)) runs ends here.first here.second in
-      followed g n c y z l m first last a1 b1 a b more less rest others (map (moved g) more ++ rest) (map (moved g) less ++ others) a2 b2 here there is at (is_a ∙ (λ i. first_fault (here.answer i) (there.answer i)) ∙ sym is_b)
+      followed Sound g n c y z l m first last a1 b1 a b more less rest others (map (moved g) more ++ rest) (map (moved g) less ++ others) a2 b2 here there is at (is_a ∙ (λ i. first_fault (here.answer i) (there.answer i)) ∙ sym is_b)
 
 module _ {I V S O : Type 0} (tell_ids : Tells I) where
   -- one record leads from one place to one place

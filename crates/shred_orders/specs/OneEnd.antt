@@ -1,10 +1,12 @@
 -- Systems whose relations allow one end, and dispatches that begin and end the same.
-use Rattle.std.specs.Prelude.{◌≡◌, ◌≢◌, List, Ok, Err, All}
+use Rattle.std.specs.Prelude.{◌≡◌, ◌≢◌, List, Some, Ok, Err, All}
+use Rattle.std.specs.Option.{option_map}
 use Rattle.shred_model.specs.Access.{Access}
 use Rattle.shred_model.specs.Plan.{Plan}
 use Rattle.shred_model.specs.Runs.{Answer}
 use Rattle.shred_table.specs.declared.id.Kind.{Kind}
 use Rattle.shred_table.specs.declared.id.ResourceId.{ResourceId}
+use Rattle.shred_table.specs.Id.{id_kind}
 use Rattle.shred_world.specs.Worked.{Held}
 use Rattle.shred_group.specs.declared.system.Fault.TheVariants.{Refused, OutOfMemory}
 use Rattle.shred_group.specs.Alone.{KeepsKinds}
@@ -32,14 +34,18 @@ pub record EndSame {V S E : Type 0} (r q : Written V S E) : Type 0 where
   pub after : q.after ≡ r.after
   pub left : q.left ≡ r.left
 
--- Of the admitted outcomes the systems' relation allows at most one, with one state and one map left, for each state and each map of declared values that a step may begin with.
+-- the kind of each held value is its id's, as in every world
+abbrev pub AreOfKinds : {V : Type 0} → (V → Kind) → Held V → Type 0
+AreOfKinds kind held = (id : ResourceId) (k : Kind) → option_map kind (held id) ≡ Some k → k ≡ id_kind id
+
+-- Of the admitted outcomes the systems' relation allows at most one, with one state and one map left, for each state and each map of declared values of their ids' kinds.
 abbrev pub IsDeterministic : {V S E : Type 0} → (V → Kind) → Step V S E → (S → List ResourceId) → (S → List ResourceId) → (Outcome E → Type 0) → Type 0
 IsDeterministic {V} {S} {E} kind step reads writes Admitted = (r q : Written V S E) → IsStep kind step (own_access reads writes r.before) r → IsStep kind step (own_access reads writes q.before) q
-    → q.before ≡ r.before → q.seen ≡ r.seen → Admitted r.outcome → Admitted q.outcome → EndSame r q
+    → q.before ≡ r.before → q.seen ≡ r.seen → AreOfKinds kind r.seen → Admitted r.outcome → Admitted q.outcome → EndSame r q
 
--- The same of the runs of one thread-local system, for each map that a world may hold.
+-- The same of the runs of one thread-local system, for each map of values of their ids' kinds.
 abbrev pub IsDeterministicLocal : {V L E : Type 0} → (V → Kind) → Step V L E → (Outcome E → Type 0) → L → Type 0
-IsDeterministicLocal {V} {L} {E} kind runs Admitted local = (held : Held V) (o p : Outcome E) (new other : L) (left gone : Held V) → Admitted o → Admitted p
+IsDeterministicLocal {V} {L} {E} kind runs Admitted local = (held : Held V) (o p : Outcome E) (new other : L) (left gone : Held V) → AreOfKinds kind held → Admitted o → Admitted p
     → runs local held o new left → KeepsKinds kind held left → runs local held p other gone → KeepsKinds kind held gone → (p ≡ o) × (other ≡ new) × (gone ≡ left)
 
 -- the answer tells of no want of memory: not of a stage's, nor of a system's

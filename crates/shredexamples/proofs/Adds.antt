@@ -42,7 +42,7 @@ not-written place id ne (k, below, is) = ne (let e : k ≡ 0 = omega (arith, bel
 
 -- a step that adds and is Done has one end
 add-deterministic : IsDeterministic kind_of AddStep (λ add. []) (λ add. number_id add.to ∷ []) IsDone
-add-deterministic r q of_r of_q before seen done_r done_q =
+add-deterministic r q of_r of_q before seen sound done_r done_q =
     let add = r.before in
     let added : IsAdded add r.seen r.left = subst (λ (o : Outcome DataError). IfOk o (λ done. IsAdded add r.seen r.left)) done_r of_r.lies.1 in
     let its : IsAdded q.before q.seen q.left = subst (λ (o : Outcome DataError). IfOk o (λ done. IsAdded q.before q.seen q.left)) done_q of_q.lies.1 in

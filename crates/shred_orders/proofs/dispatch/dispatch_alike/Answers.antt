@@ -1,5 +1,6 @@
 use Rattle.shred.specs.FullRuns.{whole_over}
 use Rattle.shred_orders.specs.OneEnd.{IsDone, IsNotOutOfMemory}
+use Rattle.shred_orders.proofs.OfKinds.{world-of-kinds}
 use Rattle.shred_orders.proofs.OwnEnds.{plan-fits, full-run-alike, full-run-alike-done}
 use Rattle.shred_orders.proofs.dispatch.dispatch_alike.Goals as goal
 
@@ -16,6 +17,6 @@ returns g c =
     record {
       ran = ran;
       other_ran = too;
-      alike = λ same one one_local had had_too. full-run-alike kind step g.L.RunNow.runs before other after end c.dispatch-one.result c.dispatch-two.result same ran too (plan-fits kind step IsNotOutOfMemory c.args.first.now.stages.items one) one_local had had_too;
-      alike_done = λ same one one_local done done_too. full-run-alike-done kind step g.L.RunNow.runs before other after end c.dispatch-one.result c.dispatch-two.result same ran too (plan-fits kind step IsDone c.args.first.now.stages.items one) one_local done done_too;
+      alike = λ same one one_local had had_too. full-run-alike kind step g.L.RunNow.runs before other after end c.dispatch-one.result c.dispatch-two.result same ran too (world-of-kinds kind c.args.world.now) (plan-fits kind step IsNotOutOfMemory c.args.first.now.stages.items one) one_local had had_too;
+      alike_done = λ same one one_local done done_too. full-run-alike-done kind step g.L.RunNow.runs before other after end c.dispatch-one.result c.dispatch-two.result same ran too (world-of-kinds kind c.args.world.now) (plan-fits kind step IsDone c.args.first.now.stages.items one) one_local done done_too;
     }

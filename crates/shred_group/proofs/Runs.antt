@@ -12,3 +12,4 @@ pub mod TakenTurns
 pub mod Viewed
 pub mod Zips
 pub mod Alone
+pub mod Called

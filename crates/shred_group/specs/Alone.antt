@@ -6,7 +6,6 @@ use Rattle.shred_table.specs.declared.id.Kind.{Kind}
 use Rattle.shred_table.specs.declared.id.ResourceId.{ResourceId}
 use Rattle.shred_table.specs.Slots.{among}
 use Rattle.shred_world.specs.Worked.{Held}
-use Rattle.shred_group.specs.declared.system.Fault.{Fault}
 use Rattle.shred_group.specs.declared.system.Fault.TheVariants.{OutOfMemory}
 use Rattle.shred_group.specs.Steps.{Outcome, Step, declared_of}
 

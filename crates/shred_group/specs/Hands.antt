@@ -6,6 +6,7 @@ use Rattle.shred_table.specs.declared.id.ResourceId.{ResourceId}
 use Rattle.shred_table.specs.declared.table.Slot.{Slot}
 use Rattle.shred_table.specs.declared.table.Table.{Table}
 use Rattle.shred_table.specs.Parting.{IsEmptyHand, IsRoom, given, slot_value}
+use Rattle.shred_table.specs.Shown.{Lent}
 use Rattle.shred_table.specs.Slots.{slot_at, among}
 use Rattle.shred_group.specs.OwnSlots.{HasJustSlots, HasOnlySlots}
 use Rattle.shred_group.specs.PlanOf.{group_plan}
@@ -46,21 +47,21 @@ module _ {V S : Type 0} where
   abbrev pub some_writes : List (Group V S) → ResourceId → Bool
   some_writes groups q = list_any (λ g. among g.written.items q) groups
 
-  -- the hand has a slot for each written id, with the value that the table has for it, and no other slot
-  abbrev pub HoldsItsWritten : Table V → Group V S → Type 0
-  HoldsItsWritten table group = (q : ResourceId) → slot_at group.hand q ≡ cond (among group.written.items q) (carried (slot_at table q)) None
+  -- the hand has a slot for each written id, with the value that was in the slot for it, and no other slot
+  abbrev pub HoldsItsWritten : Lent V → Group V S → Type 0
+  HoldsItsWritten slots group = (q : ResourceId) → slot_at group.hand q ≡ cond (among group.written.items q) (carried (slots q)) None
 
   -- the hand has a slot for each written id, and no other slot
   abbrev pub FitsGroup : Group V S → Type 0
   FitsGroup group = HasJustSlots group.written.items group.hand
 
-  -- the table has the hand's values for the written ids, where it has slots for them
-  abbrev pub IsBack : Table V → Table V → Group V S → Type 0
-  IsBack old new group = (q : ResourceId) → IsTrue (among group.written.items q) → slot_at new q ≡ given (slot_value (slot_at group.hand q)) (slot_at old q)
+  -- the slots have the hand's values for the written ids, where there are slots for them
+  abbrev pub IsBack : Lent V → Lent V → Group V S → Type 0
+  IsBack old new group = (q : ResourceId) → IsTrue (among group.written.items q) → new q ≡ given (slot_value (slot_at group.hand q)) (old q)
 
   -- the group is the same but for its hand, which has what it writes
-  abbrev pub IsMovedOut : Table V → Group V S → Group V S → Type 0
-  IsMovedOut table old new = IsSameButHand old new × HoldsItsWritten table new
+  abbrev pub IsMovedOut : Lent V → Group V S → Group V S → Type 0
+  IsMovedOut slots old new = IsSameButHand old new × HoldsItsWritten slots new
 
   -- the group is the same but for its hand, which has empty slots again
   abbrev pub IsLeftEmpty : Group V S → Group V S → Type 0

@@ -1,5 +1,5 @@
 -- Setup and disposal of the systems of entries and groups, over a whole world.
-use Rattle.std.specs.Prelude.{◌≡◌, ℕ, List, map, All}
+use Rattle.std.specs.Prelude.{◌≡◌, List, map, All}
 use Rattle.shred_model.specs.InTurn.{InTurn, AllInTurn}
 use Rattle.shred_model.specs.Runs.{Answer}
 use Rattle.shred_table.specs.declared.id.ResourceId.{ResourceId}

@@ -14,13 +14,14 @@ use Rattle.shred_table.specs.declared.id.ResourceId.{ResourceId}
 use Rattle.shred_table.specs.declared.table.Slot.{Slot}
 use Rattle.shred_table.specs.declared.table.Table.{Table}
 use Rattle.shred_table.specs.Parting.{emptied, given, slot_value}
-use Rattle.shred_table.specs.Shown.{shown, HasOwnSlots, IsSameSlots}
-use Rattle.shred_table.specs.Slots.{slot_at, slot_held, held, among, or_slot}
+use Rattle.shred_table.specs.Shown.{Lent, shown, HasOwnSlots, IsSameSlots}
+use Rattle.shred_table.specs.Slots.{slot_at, slot_held, among, or_slot}
 use Rattle.shred_table.proofs.Tables.Ids.{among-true, among-contains}
 use Rattle.shred_table.proofs.Parted.Pairs.{zip-get}
 use Rattle.shred_group.specs.Hands.{KeepsRoom, IsSameButHand, WriteApart, FitsGroup, IsBack, IsMovedOut, carried, is_single, HasPlace}
 use Rattle.shred_group.specs.Lanes.{IsReady}
-use Rattle.shred_group.specs.OwnLists.{IsOwnEntry, IsOwnGroup}
+use Rattle.shred_group.specs.OwnLists.{IsEntryOf, IsGroupOf}
+use Rattle.shred_group.specs.OwnSlots.{lent_held}
 use Rattle.shred_group.specs.PlanOf.{entry_plan, group_plan, groups_plan}
 use Rattle.shred_group.specs.declared.dispatch.entry.SystemEntry.{SystemEntry}
 use Rattle.shred_group.specs.declared.dispatch.entry.Group.{Group}
@@ -94,61 +95,61 @@ module _ {V S : Type 0} where
       let two = zip-get Same j xs ys d d (omega arith) zip q in
       rw (one, two) (apart i j d lt (omega arith) q)
 
-module _ {V : Type 0} (before after : Table V) (taken : ResourceId → Bool) (left : (q : ResourceId) → slot_at after q ≡ cond (taken q) (emptied (slot_at before q)) (slot_at before q)) where
+module _ {V : Type 0} (before after : Lent V) (taken : ResourceId → Bool) (left : (q : ResourceId) → after q ≡ cond (taken q) (emptied (before q)) (before q)) where
   carried-there : (b : Bool) (s : Option (Slot V)) → is_some (cond b (carried s) None) ≡ b
   carried-there true s = refl
   carried-there false s = refl
 
   -- a group whose values were moved out is ready to run
-  pub is-ready : {S : Type 0} (reads writes : S → List ResourceId) (x y : Group V S) → KeepsRoom x → IsOwnGroup reads writes x → IsMovedOut before x y → IsReady reads writes (slot_at after) y
-  is-ready {S} reads writes x y room own moved = record {
-    just_slots = λ q. ap is_some (moved.1 q) ∙ carried-there (among y.written.items q) (slot_at before q);
+  pub is-ready : {S : Type 0} (own : S → List ResourceId → List ResourceId → Type 0) (x y : Group V S) → KeepsRoom x → IsGroupOf own x → IsMovedOut before x y → IsReady own after y
+  is-ready {S} own x y room owns moved = record {
+    just_slots = λ q. ap is_some (moved.1 q) ∙ carried-there (among y.written.items q) (before q);
     places = subst (λ (items : List (SystemEntry V S)). All (HasPlace (length items == 1) y.hand) items) (ap (λ entries. entries.items) (sym moved.0.entries)) (λ k d below. at k d below (is_single x) refl);
-    own_lists = subst (λ (items : List (SystemEntry V S)). All (IsOwnEntry reads writes) items) (ap (λ entries. entries.items) (sym moved.0.entries)) own;
-    own_slots = subst (λ plan. All (λ e. HasOwnSlots e.access.writes (slot_at after) y.hand) plan) (sym (same-plan x y moved.0)) (λ k d below q there none.
+    own_lists = subst (λ (items : List (SystemEntry V S)). All (IsEntryOf own) items) (ap (λ entries. entries.items) (sym moved.0.entries)) owns;
+    own_slots = subst (λ plan. All (λ e. HasOwnSlots e.access.writes after y.hand) plan) (sym (same-plan x y moved.0)) (λ k d below q there none.
         absurd (let e = sym (there_is q (same-written x y moved.0 q ∙ written_by_group x room k d below q there)) ∙ ap is_some none in cc));
   } where
     there_is : (q : ResourceId) → among y.written.items q ≡ true → is_some (slot_at y.hand q) ≡ true
-    there_is q there = ap is_some (moved.1 q) ∙ ap (λ (b : Bool). is_some (cond b (carried (slot_at before q)) None)) there
+    there_is q there = ap is_some (moved.1 q) ∙ ap (λ (b : Bool). is_some (cond b (carried (before q)) None)) there
 
     at : (k : ℕ) (d : SystemEntry V S) → k < length x.entries.items → (single : Bool) → is_single x ≡ single → HasPlace single y.hand (get_or x.entries.items k d)
     at k d below true one = λ q out.
-        moved.1 q ∙ ap (λ (b : Bool). cond b (carried (slot_at before q)) None) (same-written x y moved.0 q ∙ sym (single-writes x room k d below one q) ∙ out)
+        moved.1 q ∙ ap (λ (b : Bool). cond b (carried (before q)) None) (same-written x y moved.0 q ∙ sym (single-writes x room k d below one q) ∙ out)
     at k d below false several = λ q.
         let e = get_or x.entries.items k d in
-        room-of_empty (among e.writes.items q) (slot_at e.hand q) (slot_at y.hand q) (λ there. there_is q (same-written x y moved.0 q ∙ entry-writes x room k d below q there)) ((own k d below).hand q)
+        room-of_empty (among e.writes.items q) (slot_at e.hand q) (slot_at y.hand q) (λ there. there_is q (same-written x y moved.0 q ∙ entry-writes x room k d below q there)) ((owns k d below).hand q)
 
   -- after the run, its hand has the slots that it had
   pub fits-after : {S : Type 0} (x y z : Group V S) → IsMovedOut before x y → IsSameSlots y.hand z.hand → z.written ≡ y.written → FitsGroup z
   fits-after x y z moved slots written q =
-      slots q ∙ ap is_some (moved.1 q) ∙ carried-there (among y.written.items q) (slot_at before q) ∙ ap (λ ids. among ids.items q) (sym written)
+      slots q ∙ ap is_some (moved.1 q) ∙ carried-there (among y.written.items q) (before q) ∙ ap (λ ids. among ids.items q) (sym written)
 
   -- a hand into which values were moved, beside what is left, shows what was held, where nobody else took it
-  pub hand-shows : (kind : V → Kind) (written : List ResourceId) (hand : Table V) → ((q : ResourceId) → slot_at hand q ≡ cond (among written q) (carried (slot_at before q)) None) → (q : ResourceId) → (among written q ≡ false → taken q ≡ false) → held kind before q ≡ shown kind (slot_at after) hand q
+  pub hand-shows : (kind : V → Kind) (written : List ResourceId) (hand : Table V) → ((q : ResourceId) → slot_at hand q ≡ cond (among written q) (carried (before q)) None) → (q : ResourceId) → (among written q ≡ false → taken q ≡ false) → lent_held kind before q ≡ shown kind after hand q
   hand-shows kind written hand moved q only = told (among written q) refl where
-    told : (b : Bool) → among written q ≡ b → held kind before q ≡ slot_held kind q (or_slot (slot_at hand q) (slot_at after q))
-    told true e = let is : slot_at hand q ≡ carried (slot_at before q) = moved q ∙ ap (λ (b : Bool). cond b (carried (slot_at before q)) None) e in rw is (carried-held kind q (slot_at before q))
+    told : (b : Bool) → among written q ≡ b → lent_held kind before q ≡ slot_held kind q (or_slot (slot_at hand q) (after q))
+    told true e = let is : slot_at hand q ≡ carried (before q) = moved q ∙ ap (λ (b : Bool). cond b (carried (before q)) None) e in rw is (carried-held kind q (before q))
     told false e =
-        let is : slot_at hand q ≡ None = moved q ∙ ap (λ (b : Bool). cond b (carried (slot_at before q)) None) e in
-        rw is (ap (slot_held kind q) (sym (left q ∙ ap (λ (b : Bool). cond b (emptied (slot_at before q)) (slot_at before q)) (only e))))
+        let is : slot_at hand q ≡ None = moved q ∙ ap (λ (b : Bool). cond b (carried (before q)) None) e in
+        rw is (ap (slot_held kind q) (sym (left q ∙ ap (λ (b : Bool). cond b (emptied (before q)) (before q)) (only e))))
 
   -- where the hand is put back, the table holds what was shown
-  pub hand-puts : (kind : V → Kind) (end hand : Table V) (q : ResourceId) → is_some (slot_at hand q) ≡ true → slot_at end q ≡ given (slot_value (slot_at hand q)) (slot_at after q) → taken q ≡ true
-      → option_map kind (shown kind (slot_at after) hand q) ≡ option_map kind (held kind before q) → held kind end q ≡ shown kind (slot_at after) hand q
+  pub hand-puts : (kind : V → Kind) (end : Lent V) (hand : Table V) (q : ResourceId) → is_some (slot_at hand q) ≡ true → end q ≡ given (slot_value (slot_at hand q)) (after q) → taken q ≡ true
+      → option_map kind (shown kind after hand q) ≡ option_map kind (lent_held kind before q) → lent_held kind end q ≡ shown kind after hand q
   hand-puts kind end hand q some back gone kinds =
-      let is : slot_at after q ≡ emptied (slot_at before q) = left q ∙ ap (λ (b : Bool). cond b (emptied (slot_at before q)) (slot_at before q)) gone in
-      let seen : or_slot (slot_at hand q) (slot_at after q) ≡ slot_at hand q = own (slot_at hand q) (slot_at after q) some in
+      let is : after q ≡ emptied (before q) = left q ∙ ap (λ (b : Bool). cond b (emptied (before q)) (before q)) gone in
+      let seen : or_slot (slot_at hand q) (after q) ≡ slot_at hand q = first (slot_at hand q) (after q) some in
       ap (slot_held kind q) (back ∙ ap (given (slot_value (slot_at hand q))) is)
-      ∙ back-held kind q (slot_at hand q) (slot_at before q) some (sym (ap (λ s. option_map kind (slot_held kind q s)) seen) ∙ kinds) ∙ ap (slot_held kind q) (sym seen) where
-        own : (s t : Option (Slot V)) → is_some s ≡ true → or_slot s t ≡ s
-        own (Some s) t e = refl
-        own None t e = absurd (cc)
+      ∙ back-held kind q (slot_at hand q) (before q) some (sym (ap (λ s. option_map kind (slot_held kind q s)) seen) ∙ kinds) ∙ ap (slot_held kind q) (sym seen) where
+        first : (s t : Option (Slot V)) → is_some s ≡ true → or_slot s t ≡ s
+        first (Some s) t e = refl
+        first None t e = absurd (cc)
 
   -- a group's moved hand shows what was held, where no other group took it
-  pub shows : {S : Type 0} (kind : V → Kind) (x y : Group V S) → IsMovedOut before x y → (q : ResourceId) → (among y.written.items q ≡ false → taken q ≡ false) → held kind before q ≡ shown kind (slot_at after) y.hand q
+  pub shows : {S : Type 0} (kind : V → Kind) (x y : Group V S) → IsMovedOut before x y → (q : ResourceId) → (among y.written.items q ≡ false → taken q ≡ false) → lent_held kind before q ≡ shown kind after y.hand q
   shows kind x y moved q only = hand-shows kind y.written.items y.hand moved.1 q only
 
   -- where a group's hand is put back, the table holds what was shown
-  pub puts : {S : Type 0} (kind : V → Kind) (end : Table V) (z : Group V S) → FitsGroup z → IsBack after end z → (q : ResourceId) → among z.written.items q ≡ true → taken q ≡ true
-      → option_map kind (shown kind (slot_at after) z.hand q) ≡ option_map kind (held kind before q) → held kind end q ≡ shown kind (slot_at after) z.hand q
+  pub puts : {S : Type 0} (kind : V → Kind) (end : Lent V) (z : Group V S) → FitsGroup z → IsBack after end z → (q : ResourceId) → among z.written.items q ≡ true → taken q ≡ true
+      → option_map kind (shown kind after z.hand q) ≡ option_map kind (lent_held kind before q) → lent_held kind end q ≡ shown kind after z.hand q
   puts kind end z fit back q there gone kinds = hand-puts kind end z.hand q (fit q ∙ there) (back q there) gone kinds

@@ -17,10 +17,9 @@ use Rattle.shred_model.proofs.Joined.BesideAsOne.{beside_as_one_thread}
 use Rattle.shred_model.proofs.Joined.Ran.{Ran-from_alike, Ran-to_alike, Ran-of_one_thread}
 use Rattle.shred_table.specs.declared.id.Kind.{Kind}
 use Rattle.shred_table.specs.declared.id.ResourceId.{ResourceId}
-use Rattle.shred_table.specs.declared.table.Table.{Table}
 use Rattle.shred_table.specs.Parting.{emptied}
-use Rattle.shred_table.specs.Shown.{shown}
-use Rattle.shred_table.specs.Slots.{slot_at, slot_held, held, among}
+use Rattle.shred_table.specs.Shown.{Lent, shown}
+use Rattle.shred_table.specs.Slots.{slot_held, among}
 use Rattle.shred_table.proofs.Tables.Ids.{tell_ids}
 use Rattle.shred_table.proofs.Parted.Pairs.{zip-length}
 use Rattle.shred_group.specs.declared.dispatch.entry.SystemEntry.{SystemEntry}
@@ -28,8 +27,9 @@ use Rattle.shred_group.specs.declared.dispatch.entry.Group.{Group}
 use Rattle.shred_group.specs.declared.dispatch.run.StageFault.{StageFault}
 use Rattle.shred_group.specs.Entries.{GroupRun, StageRun, group_states}
 use Rattle.shred_group.specs.Hands.{KeepsRoom, IsSameButHand, some_writes, FitsGroup, IsBack, IsMovedOut, IsLeftEmpty, WriteApart}
-use Rattle.shred_group.specs.OwnLists.{IsOwnEntry, IsOwnGroup}
+use Rattle.shred_group.specs.OwnLists.{IsEntryOf, IsGroupOf}
 use Rattle.shred_group.specs.Lanes.{IsReady, GroupWent}
+use Rattle.shred_group.specs.OwnSlots.{lent_held}
 use Rattle.shred_group.specs.PlanOf.{group_plan, groups_plan, group_numbers, numbers_of}
 use Rattle.shred_group.specs.Steps.{Step, Written}
 use Rattle.shred_group.proofs.Runs.Forked.{same-plan, same-written, write-apart, write-apart-same, is-ready, writes_access, access_writes, apart-at, fits-after, shows, puts}
@@ -66,8 +66,8 @@ module _ {V S : Type 0} where
   pub left-states : (xs ys : List (Group V S)) → AllZip IsLeftEmpty xs ys → (p : Agent) → listed_states group_states ys p ≡ listed_states group_states xs p
   left-states xs ys zip = zip-states xs ys (zip-both IsLeftEmpty (λ x. ⊤) (λ x y. (p : Agent) → group_states y p ≡ group_states x p) (λ x y s any. states-left x y s.0) xs ys zip (λ k d below. tt))
 
-  pub own-left : (reads writes : S → List ResourceId) (x y : Group V S) → IsLeftEmpty x y → IsOwnGroup reads writes x → IsOwnGroup reads writes y
-  own-left reads writes x y s own = subst (λ (items : List (SystemEntry V S)). All (IsOwnEntry reads writes) items) (ap (λ entries. entries.items) (sym s.0.entries)) own
+  pub own-left : (own : S → List ResourceId → List ResourceId → Type 0) (x y : Group V S) → IsLeftEmpty x y → IsGroupOf own x → IsGroupOf own y
+  own-left own x y s owns = subst (λ (items : List (SystemEntry V S)). All (IsEntryOf own) items) (ap (λ entries. entries.items) (sym s.0.entries)) owns
 
   pub room-left : (x y : Group V S) → IsLeftEmpty x y → x.written.items ≡ (group_access (group_plan x)).writes → KeepsRoom y
   room-left x y s says = record { same_writes = ap (λ written. written.items) s.0.written ∙ says ∙ ap (λ g. (group_access g).writes) (sym (same-plan x y s.0)); empty = s.1 }
@@ -97,35 +97,35 @@ module _ {V S : Type 0} where
       (k, group_plan some.0, rw (length-map groups group_plan) some.1.1, get_or-map group_plan groups k some.0 (group_plan some.0) some.1.1 ∙ ap group_plan some.1.2, access_writes some.0 (all-at KeepsRoom groups some.0 room some.1) i some.2)
 
 -- groups whose values were moved out are ready to run
-pub ready-all : {V S : Type 0} (reads writes : S → List ResourceId) (before after : Table V) (start out : List (Group V S)) → All KeepsRoom start → All (IsOwnGroup reads writes) start → AllZip (IsMovedOut before) start out
-    → ((q : ResourceId) → slot_at after q ≡ cond (some_writes start q) (emptied (slot_at before q)) (slot_at before q)) → All (IsReady reads writes (slot_at after)) out
-ready-all reads writes before after start out room own moved left =
-    zip-all (IsMovedOut before) (λ x. KeepsRoom x × IsOwnGroup reads writes x) (IsReady reads writes (slot_at after)) (λ x y m h. is-ready before after (some_writes start) left reads writes x y h.0 h.1 m) start out moved
-    (λ k d below. (room k d below, own k d below))
+pub ready-all : {V S : Type 0} (own : S → List ResourceId → List ResourceId → Type 0) (before after : Lent V) (start out : List (Group V S)) → All KeepsRoom start → All (IsGroupOf own) start → AllZip (IsMovedOut before) start out
+    → ((q : ResourceId) → after q ≡ cond (some_writes start q) (emptied (before q)) (before q)) → All (IsReady own after) out
+ready-all own before after start out room owns moved left =
+    zip-all (IsMovedOut before) (λ x. KeepsRoom x × IsGroupOf own x) (IsReady own after) (λ x y m h. is-ready before after (some_writes start) left own x y h.0 h.1 m) start out moved
+    (λ k d below. (room k d below, owns k d below))
 
-module _ {V S E : Type 0} (kind : V → Kind) (step : Step V S E) (reads writes : S → List ResourceId) (before after : Table V) (start out ran : List (Group V S)) (a : Answer (StageFault E))
+module _ {V S E : Type 0} (kind : V → Kind) (step : Step V S E) (own : S → List ResourceId → List ResourceId → Type 0) (before after : Lent V) (start out ran : List (Group V S)) (a : Answer (StageFault E))
     (apart : AreApart group_access (groups_plan start)) (room : All KeepsRoom start) (moved : AllZip (IsMovedOut before) start out)
-    (left : (q : ResourceId) → slot_at after q ≡ cond (some_writes start q) (emptied (slot_at before q)) (slot_at before q))
-    (went : AllWent (GroupWent kind step reads writes (slot_at after)) out a ran) where
+    (left : (q : ResourceId) → after q ≡ cond (some_writes start q) (emptied (before q)) (before q))
+    (went : AllWent (GroupWent kind step own after) out a ran) where
   abbrev Seen : Group V S → ResourceId → Option V
-  Seen g = shown kind (slot_at after) g.hand
+  Seen g = shown kind after g.hand
 
   -- how a group began and ended
   abbrev Ended : Group V S → Group V S → Type 0
-  Ended x z = (y : Group V S) × IsMovedOut before x y × (b : Answer (StageFault E)) × GroupWent kind step reads writes (slot_at after) y b z
+  Ended x z = (y : Group V S) × IsMovedOut before x y × (b : Answer (StageFault E)) × GroupWent kind step own after y b z
 
   ended : AllZip Ended start ran
-  ended = zip-trans (IsMovedOut before) (λ y z. (b : Answer (StageFault E)) × GroupWent kind step reads writes (slot_at after) y b z) Ended (λ x y z one two. (y, one, two.0, two.1)) start out ran moved (went-zip (GroupWent kind step reads writes (slot_at after)) out a ran went)
+  ended = zip-trans (IsMovedOut before) (λ y z. (b : Answer (StageFault E)) × GroupWent kind step own after y b z) Ended (λ x y z one two. (y, one, two.0, two.1)) start out ran moved (went-zip (GroupWent kind step own after) out a ran went)
 
   plans : map group_plan out ≡ groups_plan start
   plans = zip-map (IsMovedOut before) group_plan group_plan (λ x y m. same-plan x y m.0) start out moved
 
-  wrote : (q : ResourceId) → some_writes ran q ≡ some_writes start q
+  pub wrote : (q : ResourceId) → some_writes ran q ≡ some_writes start q
   wrote q = zip-any Ended (λ x. among x.written.items q) (λ z. among z.written.items q) (λ x z e. ap (λ written. among written.items q) e.3.written ∙ same-written x e.0 e.1.0 q) start ran ended
 
-  show : PartsShow group_access Seen (map group_plan out) out (held kind before)
-  show = zip-viewed group_plan (λ x p. (i : ResourceId) → Declares (group_access x) i → held kind before i ≡ Seen p i) out
-      (zip-all (IsMovedOut before) (Alone start) (λ y. (i : ResourceId) → Declares (group_access (group_plan y)) i → held kind before i ≡ Seen y i)
+  show : PartsShow group_access Seen (map group_plan out) out (lent_held kind before)
+  show = zip-viewed group_plan (λ x p. (i : ResourceId) → Declares (group_access x) i → lent_held kind before i ≡ Seen p i) out
+      (zip-all (IsMovedOut before) (Alone start) (λ y. (i : ResourceId) → Declares (group_access (group_plan y)) i → lent_held kind before i ≡ Seen y i)
       (λ x y m only i declared. shows before after (some_writes start) left kind x y m i (λ none. only i (subst (λ (g : model.Group ResourceId). Declares (group_access g) i) (same-plan x y m.0) declared) (sym (same-written x y m.0 i) ∙ none)))
       start out moved (λ k d below. alone-at start room apart k d below))
 
@@ -133,7 +133,7 @@ module _ {V S E : Type 0} (kind : V → Kind) (step : Step V S E) (reads writes 
   record FitsStill (z : Group V S) : Type 0 where
     fit : FitsGroup z
     its_writes : (i : ResourceId) → Contains (group_access (group_plan z)).writes i → among z.written.items i ≡ true
-    its_kinds : (i : ResourceId) → among z.written.items i ≡ true → option_map kind (Seen z i) ≡ option_map kind (held kind before i)
+    its_kinds : (i : ResourceId) → among z.written.items i ≡ true → option_map kind (Seen z i) ≡ option_map kind (lent_held kind before i)
 
   fits : All FitsStill ran
   fits = zip-all Ended KeepsRoom FitsStill (λ x z e keeps. record {
@@ -151,48 +151,48 @@ module _ {V S E : Type 0} (kind : V → Kind) (step : Step V S E) (reads writes 
   pub forked-fits : All FitsGroup ran
   forked-fits k d below = (fits k d below).fit
 
-  module _ (end : Table V) (back : All (IsBack after end) ran) (others : (q : ResourceId) → some_writes ran q ≡ false → slot_at end q ≡ slot_at after q) where
+  module _ (end : Lent V) (back : All (IsBack after end) ran) (others : (q : ResourceId) → some_writes ran q ≡ false → end q ≡ after q) where
     -- the table holds again what a group's hand showed
-    put-at : (k : ℕ) (d : Group V S) → k < length ran → (i : ResourceId) → among (get_or ran k d).written.items i ≡ true → held kind end i ≡ Seen (get_or ran k d) i
+    put-at : (k : ℕ) (d : Group V S) → k < length ran → (i : ResourceId) → among (get_or ran k d).written.items i ≡ true → lent_held kind end i ≡ Seen (get_or ran k d) i
     put-at k d below i there =
         let still = fits k d below in
         puts before after (some_writes start) left kind end (get_or ran k d) still.fit (back k d below) i there (sym (wrote i) ∙ list_any_at (λ g. among g.written.items i) ran k d below there) (still.its_kinds i there)
 
-    put : PartsPut group_access Seen (map group_plan ran) ran (held kind end)
-    put = zip-viewed group_plan (λ x p. (i : ResourceId) → Contains (group_access x).writes i → held kind end i ≡ Seen p i) ran
+    put : PartsPut group_access Seen (map group_plan ran) ran (lent_held kind end)
+    put = zip-viewed group_plan (λ x p. (i : ResourceId) → Contains (group_access x).writes i → lent_held kind end i ≡ Seen p i) ran
         (λ k d below i w. put-at k d below i ((fits k d below).its_writes i w))
 
-    unwritten : (i : ResourceId) → some_writes start i ≡ false → held kind end i ≡ held kind before i
-    unwritten i none = ap (slot_held kind i) (others i (wrote i ∙ none) ∙ left i ∙ ap (λ (b : Bool). cond b (emptied (slot_at before i)) (slot_at before i)) none)
+    unwritten : (i : ResourceId) → some_writes start i ≡ false → lent_held kind end i ≡ lent_held kind before i
+    unwritten i none = ap (slot_held kind i) (others i (wrote i ∙ none) ∙ left i ∙ ap (λ (b : Bool). cond b (emptied (before i)) (before i)) none)
 
-    rest : (i : ResourceId) → (SomeWrites group_access (map group_plan out) i → ⊥) → held kind end i ≡ held kind before i
+    rest : (i : ResourceId) → (SomeWrites group_access (map group_plan out) i → ⊥) → lent_held kind end i ≡ lent_held kind before i
     rest i none = told (some_writes start i) refl where
-      told : (b : Bool) → some_writes start i ≡ b → held kind end i ≡ held kind before i
+      told : (b : Bool) → some_writes start i ≡ b → lent_held kind end i ≡ lent_held kind before i
       told false e = unwritten i e
       told true e = absurd (none (subst (λ (p : List (model.Group ResourceId)). SomeWrites group_access p i) (sym plans) (some-writes start room i e)))
 
     -- the groups' runs are those of one thread
-    pub forked-ran : Ran (StageRun kind step (groups_plan start)) (configuration_of (listed_states group_states start) (held kind before)) a (configuration_of (listed_states group_states ran) (held kind end))
+    pub forked-ran : Ran (StageRun kind step (groups_plan start)) (configuration_of (listed_states group_states start) (lent_held kind before)) a (configuration_of (listed_states group_states ran) (lent_held kind end))
     forked-ran =
         let Run = λ (x : model.Group ResourceId) (list : List (Written V S E)) (b : Answer (StageFault E)). GroupRun kind step 0 x list b in
-        let leaves = beside_as_one_thread tell_ids Run group_plan group_states Seen group_access (group-within kind step) out out a ran ran (held kind before) (held kind end)
-        (RanBeside-from_went Run group_plan group_states Seen (GroupWent kind step reads writes (slot_at after)) (λ y b z w. (w.ran, w.plan)) out a ran went)
+        let leaves = beside_as_one_thread tell_ids Run group_plan group_states Seen group_access (group-within kind step) out out a ran ran (lent_held kind before) (lent_held kind end)
+        (RanBeside-from_went Run group_plan group_states Seen (GroupWent kind step own after) (λ y b z w. (w.ran, w.plan)) out a ran went)
         (subst (λ (p : List (model.Group ResourceId)). AreApart group_access p) (sym plans) apart) show put rest in
-        let one = Ran-of_one_thread (λ list b. StageRun kind step (map group_plan out) list b) (configuration_of (listed_states group_states out) (held kind before)) a (configuration_of (listed_states group_states ran) (held kind end)) leaves in
-        Ran-from_alike (StageRun kind step (groups_plan start)) (configuration_of (listed_states group_states out) (held kind before)) a (configuration_of (listed_states group_states ran) (held kind end)) (configuration_of (listed_states group_states start) (held kind before))
+        let one = Ran-of_one_thread (λ list b. StageRun kind step (map group_plan out) list b) (configuration_of (listed_states group_states out) (lent_held kind before)) a (configuration_of (listed_states group_states ran) (lent_held kind end)) leaves in
+        Ran-from_alike (StageRun kind step (groups_plan start)) (configuration_of (listed_states group_states out) (lent_held kind before)) a (configuration_of (listed_states group_states ran) (lent_held kind end)) (configuration_of (listed_states group_states start) (lent_held kind before))
         (record { values = λ i. refl; states = zip-states start out (zip-both (IsMovedOut before) (λ x. ⊤) (λ x y. (p : Agent) → group_states y p ≡ group_states x p) (λ x y m any. states-left x y m.0) start out moved (λ k d below. tt)) })
-        (subst (λ (p : List (model.Group ResourceId)). Ran (StageRun kind step p) (configuration_of (listed_states group_states out) (held kind before)) a (configuration_of (listed_states group_states ran) (held kind end))) plans one)
+        (subst (λ (p : List (model.Group ResourceId)). Ran (StageRun kind step p) (configuration_of (listed_states group_states out) (lent_held kind before)) a (configuration_of (listed_states group_states ran) (lent_held kind end))) plans one)
 
     -- the kinds of the held values are as before
-    pub forked-kinds : (i : ResourceId) → option_map kind (held kind end i) ≡ option_map kind (held kind before i)
+    pub forked-kinds : (i : ResourceId) → option_map kind (lent_held kind end i) ≡ option_map kind (lent_held kind before i)
     forked-kinds i = told (some_writes ran i) refl where
-      told : (b : Bool) → some_writes ran i ≡ b → option_map kind (held kind end i) ≡ option_map kind (held kind before i)
+      told : (b : Bool) → some_writes ran i ≡ b → option_map kind (lent_held kind end i) ≡ option_map kind (lent_held kind before i)
       told false e = ap (option_map kind) (unwritten i (sym (wrote i) ∙ e))
       told true e =
           let some = (list_any_decides (λ g. among g.written.items i) (λ g. among g.written.items i ≡ true) (λ g. (λ h. h, λ h. h)) ran).0 e in
-          all-at (λ z. (q : ResourceId) → among z.written.items q ≡ true → option_map kind (held kind end q) ≡ option_map kind (held kind before q)) ran some.0 each some.1 i some.2
+          all-at (λ z. (q : ResourceId) → among z.written.items q ≡ true → option_map kind (lent_held kind end q) ≡ option_map kind (lent_held kind before q)) ran some.0 each some.1 i some.2
         where
-          each : All (λ z. (q : ResourceId) → among z.written.items q ≡ true → option_map kind (held kind end q) ≡ option_map kind (held kind before q)) ran
+          each : All (λ z. (q : ResourceId) → among z.written.items q ≡ true → option_map kind (lent_held kind end q) ≡ option_map kind (lent_held kind before q)) ran
           each k d below q w = ap (option_map kind) (put-at k d below q w) ∙ (fits k d below).its_kinds q w
 
     module _ (done : List (Group V S)) (spare : AllZip IsLeftEmpty ran done) where
@@ -205,8 +205,8 @@ module _ {V S E : Type 0} (kind : V → Kind) (step : Step V S E) (reads writes 
           zip-map IsLeftEmpty group_numbers group_numbers (λ z w s. ap (λ ids. numbers_of ids.items) s.0.ids) ran done spare
           ∙ zip-map Ended group_numbers group_numbers (λ x z e. ap (λ ids. numbers_of ids.items) (e.3.ids ∙ e.1.0.ids)) start ran ended
 
-      pub forked-own : All (IsOwnGroup reads writes) done
-      forked-own = zip-all IsLeftEmpty (IsOwnGroup reads writes) (IsOwnGroup reads writes) (own-left reads writes) ran done spare (zip-all Ended KeepsRoom (IsOwnGroup reads writes) (λ x z e keeps. e.3.own_lists) start ran ended room)
+      pub forked-own : All (IsGroupOf own) done
+      forked-own = zip-all IsLeftEmpty (IsGroupOf own) (IsGroupOf own) (own-left own) ran done spare (zip-all Ended KeepsRoom (IsGroupOf own) (λ x z e keeps. e.3.own_lists) start ran ended room)
 
       pub forked-room : All KeepsRoom done
       forked-room = zip-all IsLeftEmpty (λ z. z.written.items ≡ (group_access (group_plan z)).writes) KeepsRoom room-left ran done spare
@@ -214,6 +214,6 @@ module _ {V S E : Type 0} (kind : V → Kind) (step : Step V S E) (reads writes 
           ap (λ written. written.items) (e.3.written ∙ e.1.0.written) ∙ keeps.same_writes ∙ ap (λ g. (group_access g).writes) (sym (e.3.plan ∙ same-plan x e.0 e.1.0))) start ran ended room)
 
       -- the groups' runs, up to where their hands are spare again
-      pub forked-all : Ran (StageRun kind step (groups_plan start)) (configuration_of (listed_states group_states start) (held kind before)) a (configuration_of (listed_states group_states done) (held kind end))
-      forked-all = Ran-to_alike (StageRun kind step (groups_plan start)) (configuration_of (listed_states group_states start) (held kind before)) a (configuration_of (listed_states group_states ran) (held kind end)) (configuration_of (listed_states group_states done) (held kind end))
+      pub forked-all : Ran (StageRun kind step (groups_plan start)) (configuration_of (listed_states group_states start) (lent_held kind before)) a (configuration_of (listed_states group_states done) (lent_held kind end))
+      forked-all = Ran-to_alike (StageRun kind step (groups_plan start)) (configuration_of (listed_states group_states start) (lent_held kind before)) a (configuration_of (listed_states group_states ran) (lent_held kind end)) (configuration_of (listed_states group_states done) (lent_held kind end))
           (record { values = λ i. refl; states = left-states ran done spare }) forked-ran

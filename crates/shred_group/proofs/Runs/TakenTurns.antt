@@ -7,14 +7,14 @@ use Rattle.shred_model.specs.Runs.{Answer}
 use Rattle.shred_model.proofs.Joined.Ran.{Ran-as}
 use Rattle.shred_table.specs.declared.id.Kind.{Kind}
 use Rattle.shred_table.specs.declared.id.ResourceId.{ResourceId}
-use Rattle.shred_table.specs.declared.table.Table.{Table}
 use Rattle.shred_table.specs.Parting.{emptied}
-use Rattle.shred_table.specs.Slots.{slot_at, held}
+use Rattle.shred_table.specs.Shown.{Lent}
 use Rattle.shred_group.specs.declared.dispatch.entry.Group.{Group}
 use Rattle.shred_group.specs.declared.dispatch.run.StageFault.{StageFault}
 use Rattle.shred_group.specs.Entries.{StageRun}
 use Rattle.shred_group.specs.Hands.{KeepsRoom, IsMovedOut, IsLeftEmpty, IsBack, some_writes}
 use Rattle.shred_group.specs.Lanes.{GroupWent}
+use Rattle.shred_group.specs.OwnSlots.{lent_held}
 use Rattle.shred_group.specs.PlanOf.{groups_plan}
 use Rattle.shred_group.specs.Entries.{StageTurn}
 use Rattle.shred_group.specs.Steps.{Step}
@@ -22,18 +22,18 @@ use Rattle.shred_group.specs.Turns.{TookTurn}
 use Rattle.shred_group.proofs.Runs.ForkedRuns.{forked-all, forked-kinds, forked-plan, forked-ids, forked-own, forked-room}
 
 -- all is back
-pub turn-taken : {V S E : Type 0} (kind : V → Kind) (step : Step V S E) (reads writes : S → List ResourceId) (before after : Table V) (start out ran : List (Group V S)) (a : Answer (StageFault E))
+pub turn-taken : {V S E : Type 0} (kind : V → Kind) (step : Step V S E) (own : S → List ResourceId → List ResourceId → Type 0) (before after : Lent V) (start out ran : List (Group V S)) (a : Answer (StageFault E))
     → AreApart group_access (groups_plan start) → All KeepsRoom start → AllZip (IsMovedOut before) start out
-    → ((q : ResourceId) → slot_at after q ≡ cond (some_writes start q) (emptied (slot_at before q)) (slot_at before q))
-    → AllWent (GroupWent kind step reads writes (slot_at after)) out a ran
-    → (end : Table V) (done : List (Group V S)) → All (IsBack after end) ran → ((q : ResourceId) → some_writes ran q ≡ false → slot_at end q ≡ slot_at after q) → AllZip IsLeftEmpty ran done
-    → TookTurn kind step reads writes start (held kind before) a done (held kind end)
-turn-taken kind step reads writes before after start out ran a apart room moved left went end done back others empty = record {
+    → ((q : ResourceId) → after q ≡ cond (some_writes start q) (emptied (before q)) (before q))
+    → AllWent (GroupWent kind step own after) out a ran
+    → (end : Lent V) (done : List (Group V S)) → All (IsBack after end) ran → ((q : ResourceId) → some_writes ran q ≡ false → end q ≡ after q) → AllZip IsLeftEmpty ran done
+    → TookTurn kind step own start (lent_held kind before) a done (lent_held kind end)
+turn-taken kind step own before after start out ran a apart room moved left went end done back others empty = record {
   ran = Ran-as (StageRun kind step (groups_plan start)) _ a _ (StageTurn kind step (groups_plan start)) a (λ list is. inl is)
-      (forked-all kind step reads writes before after start out ran a apart room moved left went end back others done empty);
-  plan = forked-plan kind step reads writes before after start out ran a apart room moved left went end back others done empty;
-  own_lists = forked-own kind step reads writes before after start out ran a apart room moved left went end back others done empty;
-  ids = forked-ids kind step reads writes before after start out ran a apart room moved left went end back others done empty;
-  room = forked-room kind step reads writes before after start out ran a apart room moved left went end back others done empty;
-  kinds = forked-kinds kind step reads writes before after start out ran a apart room moved left went end back others;
+      (forked-all kind step own before after start out ran a apart room moved left went end back others done empty);
+  plan = forked-plan kind step own before after start out ran a apart room moved left went end back others done empty;
+  own_lists = forked-own kind step own before after start out ran a apart room moved left went end back others done empty;
+  ids = forked-ids kind step own before after start out ran a apart room moved left went end back others done empty;
+  room = forked-room kind step own before after start out ran a apart room moved left went end back others done empty;
+  kinds = forked-kinds kind step own before after start out ran a apart room moved left went end back others;
 }

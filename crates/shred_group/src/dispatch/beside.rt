@@ -6,34 +6,34 @@ ghost use Rattle.shred_table.specs.Slots.{slot_at, held};
 ghost use Rattle.shred_world.specs.Views.{lent_slot};
 ghost use Rattle.shred_group.specs.Hands.{KeepsRoom};
 ghost use Rattle.shred_group.specs.Lanes.{IsReady, GroupWent};
-ghost use Rattle.shred_group.specs.OwnLists.{IsOwnGroup};
+ghost use Rattle.shred_group.specs.OwnLists.{declared_lists, IsOwnGroup};
 ghost use Rattle.shred_group.specs.PlanOf.{groups_plan};
 ghost use Rattle.shred_group.specs.Turns.{TookTurn};
 
 use crate::dispatch::entry::Group;
-use crate::dispatch::fork::{Lane, run_each, run_lanes};
+use crate::dispatch::fork::{run_each, run_lanes};
 use crate::dispatch::hands::{move_all_back, move_all_out};
 use crate::dispatch::run::{StageFault, run_entries};
 use crate::system::System;
 use shred_world::{ResourceValue, Shelf, Table};
 use std::thread::Threads;
 
-impl<'s, V: ResourceValue + Drop, S: System<V, Error = E>, E: Drop> Lane<[Shelf<'s, V>; 1], E>
-    for Group<V, S> {
-    ghost fits = { λ shelf group. IsReady S.reads S.writes (lent_slot shelf) group };
-
-    ghost went = { λ shelf old answer new. GroupWent V.kind_of S.step S.reads S.writes (lent_slot shelf) old answer new };
-
-    fn run(&mut self, shelf: &[Shelf<'s, V>; 1]) -> Result<(), StageFault<E>> {
-        let single = self.entries.len() == 1;
-        run_entries(
-            self.entries.as_mut_slice(),
-            single,
-            self.written.as_slice(),
-            shelf,
-            &mut self.hand,
-        )
-    }
+// A group's run, over its hand and what is lent shared.
+fn run_group<V: ResourceValue + Drop, S: System<V, Error = E>, E: Drop>(
+    group: &mut Group<V, S>,
+    shelf: &[Shelf<V>; 1],
+) -> Result<(), StageFault<E>>
+    requires { IsReady (declared_lists S.reads S.writes) (lent_slot shelf.now) group.old }
+    ensures { GroupWent V.kind_of S.step (declared_lists S.reads S.writes) (lent_slot shelf.now) group.old result group.new }
+{
+    let single = group.entries.len() == 1;
+    run_entries(
+        group.entries.as_mut_slice(),
+        single,
+        group.written.as_slice(),
+        shelf,
+        &mut group.hand,
+    )
 }
 
 // The groups, one after the other over the table, which nobody writes.
@@ -41,11 +41,15 @@ fn run_in_order<V: ResourceValue + Drop, S: System<V, Error = E>, E: Drop>(
     table: &Table<V>,
     groups: &mut [Group<V, S>],
 ) -> Result<(), StageFault<E>>
-    requires { All (IsReady S.reads S.writes (slot_at table.now)) groups.old }
-    ensures { AllWent (GroupWent V.kind_of S.step S.reads S.writes (slot_at table.now)) groups.old result groups.new }
+    requires { All (IsReady (declared_lists S.reads S.writes) (slot_at table.now)) groups.old }
+    ensures { AllWent (GroupWent V.kind_of S.step (declared_lists S.reads S.writes) (slot_at table.now)) groups.old result groups.new }
 {
-    let shelf = [Shelf::Last(table)];
-    run_each(&shelf, groups)
+    let shelf = &[Shelf::Last(table)];
+    let run = |group: &mut Group<V, S>| -> Result<(), StageFault<E>>
+        requires { IsReady (declared_lists S.reads S.writes) (lent_slot shelf.now) group.old }
+        ensures { GroupWent V.kind_of S.step (declared_lists S.reads S.writes) (lent_slot shelf.entry.now) group.old result group.new }
+    { run_group(group, shelf) };
+    run_each(&run, groups)
 }
 
 // The groups, beside each other over the table, which nobody writes.
@@ -57,11 +61,15 @@ fn run_beside<
 >(rt: &R, table: &Table<V>, groups: &mut [Group<V, S>], workers: usize) -> Result<(), StageFault<E>>
 where
     S::Accessor: Send,
-    requires { All (IsReady S.reads S.writes (slot_at table.now)) groups.old }
-    ensures { AllWent (GroupWent V.kind_of S.step S.reads S.writes (slot_at table.now)) groups.old result groups.new }
+    requires { All (IsReady (declared_lists S.reads S.writes) (slot_at table.now)) groups.old }
+    ensures { AllWent (GroupWent V.kind_of S.step (declared_lists S.reads S.writes) (slot_at table.now)) groups.old result groups.new }
 {
-    let shelf = [Shelf::Last(table)];
-    run_lanes(rt, &shelf, groups, workers)
+    let shelf = &[Shelf::Last(table)];
+    let run = |group: &mut Group<V, S>| -> Result<(), StageFault<E>>
+        requires { IsReady (declared_lists S.reads S.writes) (lent_slot shelf.now) group.old }
+        ensures { GroupWent V.kind_of S.step (declared_lists S.reads S.writes) (lent_slot shelf.entry.now) group.old result group.new }
+    { run_group(group, shelf) };
+    run_lanes(rt, &run, groups, workers)
 }
 
 // The turn of the groups, one after the other on the caller's thread.
@@ -72,7 +80,7 @@ pub fn turn_in_order<V: ResourceValue + Drop, S: System<V, Error = E>, E: Drop>(
     requires own_lists { All (IsOwnGroup S.reads S.writes) groups.old }
     requires room { All KeepsRoom groups.old }
     requires apart { AreApart group_access (groups_plan groups.old) }
-    ensures { TookTurn V.kind_of S.step S.reads S.writes groups.old (held V.kind_of table.old) result groups.new (held V.kind_of table.new) }
+    ensures { TookTurn V.kind_of S.step (declared_lists S.reads S.writes) groups.old (held V.kind_of table.old) result groups.new (held V.kind_of table.new) }
 {
     move_all_out(groups, table);
     let answer = run_in_order(table, groups);
@@ -97,7 +105,7 @@ where
     requires own_lists { All (IsOwnGroup S.reads S.writes) groups.old }
     requires room { All KeepsRoom groups.old }
     requires apart { AreApart group_access (groups_plan groups.old) }
-    ensures { TookTurn V.kind_of S.step S.reads S.writes groups.old (held V.kind_of table.old) result groups.new (held V.kind_of table.new) }
+    ensures { TookTurn V.kind_of S.step (declared_lists S.reads S.writes) groups.old (held V.kind_of table.old) result groups.new (held V.kind_of table.new) }
 {
     move_all_out(groups, table);
     let answer = run_beside(rt, table, groups, workers);

@@ -2,34 +2,33 @@
 ghost use Rattle.std.specs.Prelude.{◌≡◌, All};
 ghost use Rattle.std.specs.Thread.{IsSync};
 ghost use Rattle.shred_model.specs.Beside.{AllWent};
-ghost use Rattle.shred_model.specs.Runs.{Answer};
-ghost use Rattle.shred_group.specs.declared.dispatch.run.StageFault.{StageFault};
+ghost use Rattle.shred_group.specs.Calls.{Accepts, Calls};
 
 use crate::dispatch::run::{StageFault, first};
 use std::thread::{Threads, join_mut};
 
-/// What may run beside others of its kind, over something that all of them look at.
-pub(crate) trait Lane<K, E> {
-    ghost fits: { K → Self → Type 0 };
-
-    ghost went: { K → Self → Answer (StageFault E) → Self → Type 0 };
-
-    fn run(&mut self, shared: &K) -> Result<(), StageFault<E>>
-        requires { fits shared.now self.old }
-        ensures { went shared.now self.old result self.new };
+// Runs a lane.
+fn run_one<X, E, F: Fn(&mut X) -> Result<(), StageFault<E>>>(
+    run: &F,
+    lane: &mut X,
+) -> Result<(), StageFault<E>>
+    requires { Accepts F.Fn run.now lane.old }
+    ensures { Calls F.Fn run.now lane.old result lane.new }
+{
+    run(lane)
 }
 
 // Runs every lane, one after the other, and answers the first answer that is not Done.
-pub(crate) fn run_each<K, E: Drop, L: Lane<K, E>>(
-    shared: &K,
-    lanes: &mut [L],
+pub fn run_each<X, E: Drop, F: Fn(&mut X) -> Result<(), StageFault<E>>>(
+    run: &F,
+    lanes: &mut [X],
 ) -> Result<(), StageFault<E>>
-    requires { All (L.fits shared.now) lanes.old }
-    ensures { AllWent (L.went shared.now) lanes.old result lanes.new }
+    requires { All (Accepts F.Fn run.now) lanes.old }
+    ensures { AllWent (Calls F.Fn run.now) lanes.old result lanes.new }
 {
     let mut answer = Ok(());
     for lane in lanes.iter_mut() {
-        match lane.run(shared) {
+        match run_one(run, lane) {
             Ok(()) => {}
             Err(fault) => answer = first(answer, Err(fault)),
         }
@@ -38,17 +37,17 @@ pub(crate) fn run_each<K, E: Drop, L: Lane<K, E>>(
 }
 
 // Runs every lane, in halves on up to `workers` threads, and answers the first answer, in order, that is not Done.
-pub(crate) fn run_lanes<R: Threads + Sync, K: Sync, E: Drop + Send, L: Lane<K, E> + Send>(
-    rt: &R,
-    shared: &K,
-    lanes: &mut [L],
-    workers: usize,
-) -> Result<(), StageFault<E>>
-    requires { All (L.fits shared.now) lanes.old }
-    ensures { AllWent (L.went shared.now) lanes.old result lanes.new }
+pub fn run_lanes<
+    R: Threads + Sync,
+    X: Send,
+    E: Drop + Send,
+    F: Fn(&mut X) -> Result<(), StageFault<E>> + Sync,
+>(rt: &R, run: &F, lanes: &mut [X], workers: usize) -> Result<(), StageFault<E>>
+    requires { All (Accepts F.Fn run.now) lanes.old }
+    ensures { AllWent (Calls F.Fn run.now) lanes.old result lanes.new }
 {
     if workers <= 1 || lanes.len() <= 1 {
-        return run_each(shared, lanes);
+        return run_each(run, lanes);
     }
     let middle = lanes.len() / 2;
     let (front, back) = lanes.split_at_mut(middle);
@@ -57,13 +56,13 @@ pub(crate) fn run_lanes<R: Threads + Sync, K: Sync, E: Drop + Send, L: Lane<K, E
     let (a, b) = join_mut(
         rt,
         &mut || -> Result<(), StageFault<E>>
-            requires { IsSync R.row × IsSync K.row × All (L.fits shared.now) front.now }
-            ensures { AllWent (L.went shared.entry.now) front.entry.now result front.exit.now }
-        { run_lanes(rt, shared, front, half) },
+            requires { IsSync R.row × IsSync F.row × All (Accepts F.Fn run.now) front.now }
+            ensures { AllWent (Calls F.Fn run.entry.now) front.entry.now result front.exit.now }
+        { run_lanes(rt, run, front, half) },
         &mut || -> Result<(), StageFault<E>>
-            requires { IsSync R.row × IsSync K.row × All (L.fits shared.now) back.now }
-            ensures { AllWent (L.went shared.entry.now) back.entry.now result back.exit.now }
-        { run_lanes(rt, shared, back, rest) },
+            requires { IsSync R.row × IsSync F.row × All (Accepts F.Fn run.now) back.now }
+            ensures { AllWent (Calls F.Fn run.entry.now) back.entry.now result back.exit.now }
+        { run_lanes(rt, run, back, rest) },
     );
     first(a, b)
 }

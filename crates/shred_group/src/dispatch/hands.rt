@@ -14,7 +14,7 @@ impl<V: Drop, S> Group<V, S> {
     // Moves what the group writes into its hand.
     fn move_out(&mut self, table: &mut Table<V>)
         requires { HasEmptyHand self.old }
-        ensures hand { IsMovedOut table.old self.old self.new }
+        ensures hand { IsMovedOut (slot_at table.old) self.old self.new }
         ensures left { (q : ResourceId) → slot_at table.new q ≡ cond (among self.old.written.items q) (emptied (slot_at table.old q)) (slot_at table.old q) }
     {
         move_each(table, self.written.as_slice(), &mut self.hand);
@@ -31,10 +31,10 @@ impl<V: Drop, S> Group<V, S> {
 }
 
 // Moves what the groups write into their hands; the slots stay, empty.
-pub(crate) fn move_all_out<V: Drop, S>(groups: &mut [Group<V, S>], table: &mut Table<V>)
+pub fn move_all_out<V: Drop, S>(groups: &mut [Group<V, S>], table: &mut Table<V>)
     requires apart { WriteApart groups.old }
     requires empty { All HasEmptyHand groups.old }
-    ensures hands { AllZip (IsMovedOut table.old) groups.old groups.new }
+    ensures hands { AllZip (IsMovedOut (slot_at table.old)) groups.old groups.new }
     ensures left { (q : ResourceId) → slot_at table.new q ≡ cond (some_writes groups.old q) (emptied (slot_at table.old q)) (slot_at table.old q) }
 {
     for group in groups.iter_mut() {
@@ -43,11 +43,11 @@ pub(crate) fn move_all_out<V: Drop, S>(groups: &mut [Group<V, S>], table: &mut T
 }
 
 // Moves what is in the groups' hands back into the slots that it left.
-pub(crate) fn move_all_back<V: Drop, S>(groups: &mut [Group<V, S>], table: &mut Table<V>)
+pub fn move_all_back<V: Drop, S>(groups: &mut [Group<V, S>], table: &mut Table<V>)
     requires apart { WriteApart groups.old }
     requires fit { All FitsGroup groups.old }
     ensures hands { AllZip IsLeftEmpty groups.old groups.new }
-    ensures back { All (IsBack table.old table.new) groups.old }
+    ensures back { All (IsBack (slot_at table.old) (slot_at table.new)) groups.old }
     ensures others { (q : ResourceId) → some_writes groups.old q ≡ false → slot_at table.new q ≡ slot_at table.old q }
 {
     for group in groups.iter_mut() {

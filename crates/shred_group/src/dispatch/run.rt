@@ -58,7 +58,7 @@ pub(crate) fn step_over<'s, V: ResourceValue, S: System<V>>(
 }
 
 // The table before what is lent shared. It has a slot for each id of the list, and no other slot.
-fn before<'s, V>(
+pub fn before<'s, V>(
     own: &'s Table<V>,
     written: &'s [ResourceId],
     shelf: &'s [Shelf<'s, V>; 1],
@@ -231,7 +231,7 @@ pub(crate) fn run_entries<V: ResourceValue + Drop, S: System<V>>(
 }
 
 // The first answer that is not Done.
-pub(crate) fn first<E: Drop>(
+pub fn first<E: Drop>(
     a: Result<(), StageFault<E>>,
     b: Result<(), StageFault<E>>,
 ) -> Result<(), StageFault<E>>

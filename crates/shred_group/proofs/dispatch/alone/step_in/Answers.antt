@@ -1,4 +1,4 @@
-use Rattle.std.proofs.Common.{◌≡◌, Bool, false, List, refl, sym, ◌∙◌, ap, subst}
+use Rattle.std.proofs.Common.{◌≡◌, List, sym, ◌∙◌, ap, subst}
 use Rattle.std.specs.Option.{option_map}
 use Rattle.shred_table.specs.declared.id.ResourceId.{ResourceId}
 use Rattle.shred_table.specs.Shown.{shown}
@@ -18,8 +18,8 @@ returns-clause-step g c =
     let ran = c.step_before-outcome in
     let r : c.as_slice-2.result.now ≡ g.S.System.reads c.args.system.now = c.as_slice-2.ensures.value ∙ c.requires.reads in
     let w : c.as_slice-3.result.now ≡ g.S.System.writes c.args.system.now = c.as_slice-3.ensures.value ∙ c.requires.writes in
-    let shows = shows-held c.args.table.now c.move_each.new.from writes room.hand c.move_each.new.to c.requires.hand from to kind in
-    let ends = held-shows c.args.table.now c.move_each.new.from writes room.hand c.move_each.new.to c.requires.hand from to ran.new.hand c.move_each-2.new.to ran.ensures.slots back kind ran.ensures.kinds in
+    let shows = shows-held (slot_at c.args.table.now) (slot_at c.move_each.new.from) writes room.hand c.move_each.new.to c.requires.hand from to kind in
+    let ends = held-shows (slot_at c.args.table.now) (slot_at c.move_each.new.from) writes room.hand c.move_each.new.to c.requires.hand from to ran.new.hand (slot_at c.move_each-2.new.to) ran.ensures.slots back kind ran.ensures.kinds in
     let seen = declared_of (record { reads = c.as_slice-2.result.now; writes = c.as_slice-3.result.now }) (shown kind (slot_at c.move_each.new.from) c.move_each.new.to) in
     record {
       lies = subst (λ seen. g.S.System.step c.args.system.now seen ran.result ran.new.system (declared_of (record { reads = g.S.System.reads c.args.system.now; writes = g.S.System.writes c.args.system.now }) (held kind c.move_each-2.new.to)))

@@ -3,6 +3,7 @@ use Rattle.std.proofs.lemmas.List.{with_items_is}
 use Rattle.shred_model.specs.Beside.{AreApart}
 use Rattle.shred_model.specs.Plan.{group_access}
 use Rattle.shred_table.specs.Slots.{held}
+use Rattle.shred_group.specs.OwnLists.{declared_lists}
 use Rattle.shred_group.specs.PlanOf.{groups_plan}
 use Rattle.shred_group.specs.declared.dispatch.entry.Group.{Group}
 use Rattle.shred_group.specs.Turns.{TookTurn}
@@ -29,6 +30,6 @@ returns g c =
     let old = c.args.self.now in
     let same : length c.turn_beside.new.groups ≡ old.groups.len = search rules in
     let took = rw c.as_mut_slice.ensures.value at c.turn_beside.ensures in
-    let whole = subst (λ groups. TookTurn kind g.S.System.step g.S.System.reads g.S.System.writes old.groups.items (held kind c.table_of_local.result.now) c.turn_beside.result groups (held kind c.turn_beside.new.table))
+    let whole = subst (λ groups. TookTurn kind g.S.System.step (declared_lists g.S.System.reads g.S.System.writes) old.groups.items (held kind c.table_of_local.result.now) c.turn_beside.result groups (held kind c.turn_beside.new.table))
     (sym (with_items_is old.groups c.turn_beside.new.groups same)) took in
     rw c.table_of_local.ensures.shown at (turn-dispatched kind g.S.System.step g.S.System.reads g.S.System.writes _ _ _ _ c.turn_beside.result whole)

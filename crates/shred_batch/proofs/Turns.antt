@@ -1,0 +1,4 @@
+pub mod Behind
+pub mod Handed
+pub mod Rounds
+pub mod Tiers

@@ -1,0 +1,51 @@
+-- Tiers that took their turn are within the lists still, and leave what is not written.
+use Rattle.std.proofs.Common.{◌≡◌, Bool, true, false, ◌||◌, List, [], ◌∷◌, refl, sym, ◌∙◌, ap, subst}
+use Rattle.std.specs.List.{All, AllByRecursion, list_any}
+use Rattle.std.proofs.lemmas.List.Elements.{recursion_from_All}
+use Rattle.shred_model.specs.Beside.{AreApart}
+use Rattle.shred_model.specs.Plan as model
+use Rattle.shred_model.specs.Plan.{group_access}
+use Rattle.shred_table.specs.declared.id.Kind.{Kind}
+use Rattle.shred_table.specs.declared.id.ResourceId.{ResourceId}
+use Rattle.shred_table.specs.declared.table.Table.{Table}
+use Rattle.shred_table.specs.Shown.{Lent, shown}
+use Rattle.shred_table.specs.Slots.{slot_held, or_slot, among}
+use Rattle.shred_model.specs.Runs.{Answer}
+use Rattle.shred_group.specs.declared.dispatch.entry.Group.{Group}
+use Rattle.shred_group.specs.declared.dispatch.run.StageFault.{StageFault}
+use Rattle.shred_group.specs.Hands.{KeepsRoom, some_writes}
+use Rattle.shred_group.specs.PlanOf.{groups_plan}
+use Rattle.shred_group.specs.Sides.{stage_side}
+use Rattle.shred_group.specs.declared.dispatch.entry.Side.TheVariants.{Reads}
+use Rattle.shred_group.specs.Steps.{Step}
+use Rattle.shred_batch.specs.TierTurns.{TookTierTurn}
+use Rattle.shred_batch.specs.Works.{IsTierWithin}
+use Rattle.shred_batch.specs.declared.work.Tier.{Tier}
+
+-- what groups with their hands write is what their plan writes
+written-by_plan : {V X : Type 0} (groups : List (Group V X)) → AllByRecursion KeepsRoom groups → (q : ResourceId) → some_writes groups q ≡ list_any (λ (p : model.Group ResourceId). among (group_access p).writes q) (groups_plan groups)
+written-by_plan [] room q = refl
+written-by_plan (g ∷ rest) room q = λ i. among (room.0.same_writes i) q || written-by_plan rest room.1 q i
+
+pub same-written_plan : {V X : Type 0} (old new : List (Group V X)) → All KeepsRoom old → All KeepsRoom new → groups_plan new ≡ groups_plan old → (q : ResourceId) → some_writes new q ≡ some_writes old q
+same-written_plan old new room left same q =
+    written-by_plan new (recursion_from_All KeepsRoom new left) q ∙ ap (list_any (λ (p : model.Group ResourceId). among (group_access p).writes q)) same ∙ sym (written-by_plan old (recursion_from_All KeepsRoom old room) q)
+
+module _ {V X E : Type 0} (kind : V → Kind) (own : X → List ResourceId → List ResourceId → Type 0) (step : Step V X E) (reads writes : List ResourceId) (lent : Lent V) (old : Tier V X) (before : Table V) (answer : Answer (StageFault E)) (new : Tier V X) (after : Table V)
+    (within : IsTierWithin own reads writes old) (turn : TookTierTurn kind own step lent old before answer new after) where
+  -- a tier that took its turn is within the lists still
+  pub within-after : IsTierWithin own reads writes new
+  within-after = record {
+    owns = turn.took.own_lists;
+    room = turn.took.room;
+    apart = subst (AreApart group_access) (sym turn.took.plan) within.apart;
+    reads_within = λ id some. within.reads_within id (ap (λ (plan : model.Stage ResourceId). among (stage_side Reads plan) id) (sym turn.took.plan) ∙ some);
+    writes_within = λ id some. within.writes_within id (sym (same-written_plan old.groups.items new.groups.items within.room turn.took.room turn.took.plan id) ∙ some);
+  }
+
+  -- what is not among the written ids is shown as before
+  pub frame-after : (id : ResourceId) → among writes id ≡ false → shown kind lent after id ≡ shown kind lent before id
+  frame-after id out = ap (λ s. slot_held kind id (or_slot s (lent id))) (turn.others id (told (some_writes old.groups.items id) refl)) where
+    told : (b : Bool) → some_writes old.groups.items id ≡ b → some_writes old.groups.items id ≡ false
+    told false e = e
+    told true e = absurd (let f : true ≡ false = sym (within.writes_within id e) ∙ out in cc)

@@ -1,0 +1,55 @@
+use Rattle.std.proofs.Common.{◌≡◌, true, List, length, sym, subst, arith, rules}
+use Rattle.std.specs.List.{All}
+use Rattle.std.proofs.lemmas.List.{with_items_is}
+use Rattle.shred_model.specs.Beside.{AreApart}
+use Rattle.shred_model.specs.Plan.{group_access}
+use Rattle.shred_table.specs.declared.id.ResourceId.{ResourceId}
+use Rattle.shred_table.specs.Shown.{shown}
+use Rattle.shred_table.specs.Slots.{among}
+use Rattle.shred_world.specs.Views.{lent_slot}
+use Rattle.shred_group.specs.declared.dispatch.entry.Group.{Group}
+use Rattle.shred_group.specs.Hands.{KeepsRoom, some_writes}
+use Rattle.shred_group.specs.OwnLists.{IsGroupOf}
+use Rattle.shred_group.specs.PlanOf.{groups_plan}
+use Rattle.shred_group.specs.Turns.{TookTurn}
+use Rattle.shred_batch.specs.declared.work.Work.{Work}
+use Rattle.shred_batch.proofs.tiers.tier_in_order.Goals as goal
+
+pub turn_in_order-requires : goal.turn_in_order-requires
+turn_in_order-requires g c =
+    let same = sym c.as_mut_slice.ensures.value in
+    let tier = c.requires.within in (
+      omega arith,
+      (
+        c.requires.stepper,
+        (
+          c.requires.own_slots,
+          (
+            c.requires.only_own,
+            (
+              subst (All (IsGroupOf (g.T.Rules.own c.args.rules.now))) same tier.owns,
+              (
+                subst (All KeepsRoom) same tier.room,
+                (
+                  subst (λ (groups : List (Group g.row.V.Denot (Work g.row.V.Denot g.row.S.Denot g.row.C.Denot))). AreApart group_access (groups_plan groups)) same tier.apart,
+                  subst (λ (groups : List (Group g.row.V.Denot (Work g.row.V.Denot g.row.S.Denot g.row.C.Denot))). (id : ResourceId) → some_writes groups id ≡ true → among c.args.writes.now id ≡ true) same tier.writes_within,
+                ),
+              ),
+            ),
+          ),
+        ),
+      ),
+    )
+
+pub returns : goal.returns
+returns g c =
+    let was = c.args.tier.now.groups in
+    let seen = shown g.V.ResourceValue.kind_of (lent_slot c.args.shelf.now) in
+    let same : length c.turn_in_order.new.groups ≡ was.len = search rules in
+    let put = with_items_is was c.turn_in_order.new.groups same in
+    let went = rw c.as_mut_slice.ensures.value at c.turn_in_order.ensures in
+    record {
+      took = subst (λ groups. TookTurn g.V.ResourceValue.kind_of (g.T.Rules.step c.args.rules.now) (g.T.Rules.own c.args.rules.now) was.items (seen c.args.own.now) c.turn_in_order.result groups (seen c.turn_in_order.new.own)) (sym put) went.took;
+      slots = went.slots;
+      others = went.others;
+    }

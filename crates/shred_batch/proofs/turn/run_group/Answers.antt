@@ -1,0 +1,30 @@
+use Rattle.std.proofs.Common.{◌≡◌, List, length, map, refl, sym, ◌∙◌, ap, subst, rules}
+use Rattle.std.specs.List.{All}
+use Rattle.std.proofs.lemmas.List.{with_items_is}
+use Rattle.shred_model.specs.Runs.{Ran}
+use Rattle.shred_model.specs.States.{configuration_of, listed_states}
+use Rattle.shred_table.specs.Shown.{shown}
+use Rattle.shred_world.specs.Views.{lent_slot}
+use Rattle.shred_group.specs.declared.dispatch.entry.SystemEntry.{SystemEntry}
+use Rattle.shred_group.specs.Entries.{GroupRun, entry_states}
+use Rattle.shred_group.specs.OwnLists.{IsEntryOf}
+use Rattle.shred_group.specs.PlanOf.{entry_plan, group_plan}
+use Rattle.shred_batch.specs.declared.work.Work.{Work}
+use Rattle.shred_batch.proofs.turn.run_group.Goals as goal
+
+pub returns : goal.returns
+returns g c =
+    let was = c.args.group.now.entries in
+    let seen = shown g.V.ResourceValue.kind_of (lent_slot c.args.shelf.now) in
+    let same : length c.run_entries.new.entries ≡ was.len = search rules in
+    let put = with_items_is was c.run_entries.new.entries same in
+    let went = rw c.as_mut_slice.ensures.value at c.run_entries.ensures in
+    record {
+      ran = subst (λ (items : List (SystemEntry g.row.V.Denot (Work g.row.V.Denot g.row.S.Denot g.row.C.Denot))). Ran (GroupRun g.V.ResourceValue.kind_of (g.T.Rules.step c.args.rules.now) 0 (group_plan c.args.group.now)) (configuration_of (listed_states entry_states was.items) (seen c.args.group.now.hand)) c.run_entries.result (configuration_of (listed_states entry_states items) (seen c.run_entries.new.own))) (sym put) went.ran;
+      plan = ap (map entry_plan) put ∙ went.plan;
+      own_lists = subst (All (IsEntryOf (g.T.Rules.own c.args.rules.now))) (sym put) went.own_lists;
+      ids = refl;
+      written = refl;
+      kinds = went.kinds;
+      slots = went.slots;
+    }

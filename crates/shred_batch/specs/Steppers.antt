@@ -1,0 +1,30 @@
+-- Closures that make the steps of what stands in entries.
+use Rattle.std.specs.Prelude.{◌≡◌, false, List}
+use Rattle.std.specs.Borrow.{Bor, MutBor}
+use Rattle.std.specs.Option.{option_map}
+use Rattle.shred_group.specs.OwnSlots.{HasOnlySlots}
+use Rattle.shred_group.specs.Steps.{Outcome, Step, declared_of}
+use Rattle.shred_table.specs.declared.id.Kind.{Kind}
+use Rattle.shred_table.specs.declared.id.ResourceId.{ResourceId}
+use Rattle.shred_table.specs.declared.table.Table.{Table}
+use Rattle.shred_table.specs.Shown.{Lent, shown, HasOwnSlots, IsSameSlots}
+use Rattle.shred_table.specs.Slots.{among}
+use Rattle.shred_world.specs.Views.{lent_slot}
+use Rattle.shred_world.specs.declared.world.view.Shelf.{Shelf}
+
+-- The step lies in the relation on what the two lists show; it keeps kinds, slots, the lists, and each value that is not written.
+pub record IsStepBy {V X E : Type 0} (kind : V → Kind) (own : X → List ResourceId → List ResourceId → Type 0) (step : Step V X E) (reads writes : List ResourceId) (lent : Lent V)
+    (old : X) (before : Table V) (outcome : Outcome E) (new : X) (after : Table V) : Type 0 where
+  pub lies : step old (declared_of (record { reads = reads; writes = writes }) (shown kind lent before)) outcome new (declared_of (record { reads = reads; writes = writes }) (shown kind lent after))
+  pub kinds : (id : ResourceId) → option_map kind (shown kind lent after id) ≡ option_map kind (shown kind lent before id)
+  pub slots : IsSameSlots before after
+  pub frame : (id : ResourceId) → among writes id ≡ false → shown kind lent after id ≡ shown kind lent before id
+  pub own_lists : own new reads writes
+
+module _ (V X E : Type 0) (kind : V → Kind) (own : X → List ResourceId → List ResourceId → Type 0) (step : Step V X E) where
+  -- The closure may be called over a table that has a slot for each written id, and no other, and each call is a step.
+  pub record IsStepper (pre : MutBor X → Bor (List ResourceId) → Bor (List ResourceId) → Bor (List (Shelf V)) → MutBor (Table V) → Type 0)
+      (post : MutBor X → Bor (List ResourceId) → Bor (List ResourceId) → Bor (List (Shelf V)) → MutBor (Table V) → Outcome E → MutBor X → MutBor (Table V) → Type 0) : Type 0 where
+    pub accepts : (x : MutBor X) (r w : Bor (List ResourceId)) (shelf : Bor (List (Shelf V))) (t : MutBor (Table V)) → own x.now r.now w.now → HasOwnSlots w.now (lent_slot shelf.now) t.now → HasOnlySlots w.now t.now → pre x r w shelf t
+    pub steps : (x y : MutBor X) (r w : Bor (List ResourceId)) (shelf : Bor (List (Shelf V))) (t u : MutBor (Table V)) (o : Outcome E) → own x.now r.now w.now → HasOwnSlots w.now (lent_slot shelf.now) t.now → HasOnlySlots w.now t.now
+        → post x r w shelf t o y u → IsStepBy kind own step r.now w.now (lent_slot shelf.now) x.now t.now o y.now u.now

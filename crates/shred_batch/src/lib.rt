@@ -1,0 +1,18 @@
+//! Batches: a controller and an inner plan, which stand in a plan as one entry, and their runs. What makes one step of what
+//! stands in an entry of the inner plan, a system or a batch again, is a closure that is passed in.
+#![tactic(auto)]
+
+pub mod beside;
+pub mod control;
+pub mod controller;
+pub mod multi;
+pub mod rounds;
+pub mod rules;
+pub mod step;
+pub mod tiers;
+pub mod turn;
+pub mod work;
+
+pub use controller::BatchController;
+pub use multi::{MultiDispatchController, MultiDispatcher};
+pub use work::{Batch, Tier, Work};

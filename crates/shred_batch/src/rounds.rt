@@ -1,0 +1,173 @@
+//! Runs of a batch: its controller begins, and then the rounds follow, on the caller's thread.
+ghost use Rattle.std.specs.Prelude.{◌≡◌, ◌||◌, All, false, true};
+ghost use Rattle.std.specs.Option.{option_map};
+ghost use Rattle.shred_batch.specs.ControlEntries.{control_access, IsOwnControl};
+ghost use Rattle.shred_batch.specs.Rounds.{BatchRun, Rounds, fault_within};
+ghost use Rattle.shred_batch.specs.BatchRuns.{RanAsBatch};
+ghost use Rattle.shred_batch.specs.Steppers.{IsStepper};
+ghost use Rattle.shred_batch.specs.Works.{InnerRun, IsBatchWithin, IsTierWithin, tiers_plan};
+ghost use Rattle.shred_batch.specs.declared.work.Work.{Work};
+ghost use Rattle.shred_group.specs.OwnSlots.{HasOnlySlots};
+ghost use Rattle.shred_table.specs.declared.id.ResourceId.{ResourceId};
+ghost use Rattle.shred_table.specs.Shown.{shown, HasOwnSlots, IsSameSlots};
+ghost use Rattle.shred_table.specs.Slots.{among};
+ghost use Rattle.shred_world.specs.Views.{lent_slot};
+
+use crate::control::ControlEntry;
+use crate::controller::BatchController;
+use crate::rules::Rules;
+use crate::tiers::tiers_in_order;
+use crate::work::{Batch, Tier, Work};
+use shred_group::{Fault, StageFault};
+use shred_world::{ResourceId, ResourceValue, Shelf, Table};
+
+// A fault of the inner plan, as the batch's own.
+pub(crate) fn within<E>(fault: StageFault<E>) -> Fault<E>
+    ensures { result ≡ fault_within fault }
+{
+    match fault {
+        StageFault::System { id: _, fault } => fault,
+        StageFault::Memory => Fault::OutOfMemory,
+    }
+}
+
+// At most that many rounds.
+fn rounds_in_order<
+    V: ResourceValue + Drop,
+    S,
+    C: BatchController<V, Error = E>,
+    E: Drop,
+    T: Rules<V, Work<V, S, C>, E>,
+    F: Fn(
+        &mut Work<V, S, C>,
+        &[ResourceId],
+        &[ResourceId],
+        &[Shelf<'_, V>; 1],
+        &mut Table<V>,
+    ) -> Result<(), Fault<E>>,
+>(
+    rules: &T,
+    run: &F,
+    reads: &[ResourceId],
+    writes: &[ResourceId],
+    shelf: &[Shelf<V>; 1],
+    control: &mut ControlEntry<V, C>,
+    tiers: &mut [Tier<V, Work<V, S, C>>],
+    own: &mut Table<V>,
+    most: usize,
+) -> Result<(), Fault<E>>
+    requires stepper { IsStepper V (Work V S C) E V.kind_of (T.own rules.now) (T.step rules.now) (F.pre run.now) (F.post run.now) }
+    requires own_slots { HasOwnSlots writes.now (lent_slot shelf.now) own.old }
+    requires only_own { HasOnlySlots writes.now own.old }
+    requires control { IsOwnControl C.reads C.writes control.old }
+    requires writes_within { (id : ResourceId) → among control.old.writes.items id ≡ true → among writes.now id ≡ true }
+    requires within { All (IsTierWithin (T.own rules.now) reads.now writes.now) tiers.old }
+    ensures ran { Rounds V.kind_of C.asks (control_access control.old) (InnerRun V.kind_of (T.step rules.now)) most control.old.controller tiers.old (shown V.kind_of (lent_slot shelf.now) own.old) result control.new.controller tiers.new (shown V.kind_of (lent_slot shelf.now) own.new) }
+    ensures plan { tiers_plan tiers.new ≡ tiers_plan tiers.old }
+    ensures access { control_access control.new ≡ control_access control.old }
+    ensures control { IsOwnControl C.reads C.writes control.new }
+    ensures within { All (IsTierWithin (T.own rules.now) reads.now writes.now) tiers.new }
+    ensures kinds { (id : ResourceId) → option_map V.kind_of (shown V.kind_of (lent_slot shelf.now) own.new id) ≡ option_map V.kind_of (shown V.kind_of (lent_slot shelf.now) own.old id) }
+    ensures slots { IsSameSlots own.old own.new }
+    ensures frame { (id : ResourceId) → among writes.now id ≡ false → shown V.kind_of (lent_slot shelf.now) own.new id ≡ shown V.kind_of (lent_slot shelf.now) own.old id }
+{
+    for round in 0..most {
+        match control.ask(writes, shelf, own) {
+            Ok(true) => {
+                if let Err(fault) = tiers_in_order(rules, run, reads, writes, shelf, tiers, own) {
+                    return Err(within(fault));
+                }
+            }
+            Ok(false) => return Ok(()),
+            Err(fault) => return Err(fault),
+        }
+    }
+    Ok(())
+}
+
+// A run of a batch.
+fn run_in_order<
+    V: ResourceValue + Drop,
+    S,
+    C: BatchController<V, Error = E>,
+    E: Drop,
+    T: Rules<V, Work<V, S, C>, E>,
+    F: Fn(
+        &mut Work<V, S, C>,
+        &[ResourceId],
+        &[ResourceId],
+        &[Shelf<'_, V>; 1],
+        &mut Table<V>,
+    ) -> Result<(), Fault<E>>,
+>(
+    rules: &T,
+    run: &F,
+    reads: &[ResourceId],
+    writes: &[ResourceId],
+    shelf: &[Shelf<V>; 1],
+    control: &mut ControlEntry<V, C>,
+    tiers: &mut [Tier<V, Work<V, S, C>>],
+    own: &mut Table<V>,
+) -> Result<(), Fault<E>>
+    requires stepper { IsStepper V (Work V S C) E V.kind_of (T.own rules.now) (T.step rules.now) (F.pre run.now) (F.post run.now) }
+    requires own_slots { HasOwnSlots writes.now (lent_slot shelf.now) own.old }
+    requires only_own { HasOnlySlots writes.now own.old }
+    requires control { IsOwnControl C.reads C.writes control.old }
+    requires writes_within { (id : ResourceId) → among control.old.writes.items id ≡ true → among writes.now id ≡ true }
+    requires within { All (IsTierWithin (T.own rules.now) reads.now writes.now) tiers.old }
+    ensures ran { BatchRun V.kind_of C.asks (control_access control.old) (InnerRun V.kind_of (T.step rules.now)) C.begins control.old.controller tiers.old (shown V.kind_of (lent_slot shelf.now) own.old) result control.new.controller tiers.new (shown V.kind_of (lent_slot shelf.now) own.new) }
+    ensures plan { tiers_plan tiers.new ≡ tiers_plan tiers.old }
+    ensures access { control_access control.new ≡ control_access control.old }
+    ensures control { IsOwnControl C.reads C.writes control.new }
+    ensures within { All (IsTierWithin (T.own rules.now) reads.now writes.now) tiers.new }
+    ensures kinds { (id : ResourceId) → option_map V.kind_of (shown V.kind_of (lent_slot shelf.now) own.new id) ≡ option_map V.kind_of (shown V.kind_of (lent_slot shelf.now) own.old id) }
+    ensures slots { IsSameSlots own.old own.new }
+    ensures frame { (id : ResourceId) → among writes.now id ≡ false → shown V.kind_of (lent_slot shelf.now) own.new id ≡ shown V.kind_of (lent_slot shelf.now) own.old id }
+{
+    match control.begin(writes, shelf, own) {
+        Ok(most) => rounds_in_order(rules, run, reads, writes, shelf, control, tiers, own, most),
+        Err(fault) => Err(fault),
+    }
+}
+
+/// A run of a batch, the groups of its tiers one after the other on the caller's thread. What makes one step of what stands in
+/// an entry is `run`.
+pub fn batch_in_order<
+    V: ResourceValue + Drop,
+    S,
+    C: BatchController<V, Error = E>,
+    E: Drop,
+    T: Rules<V, Work<V, S, C>, E>,
+    F: Fn(
+        &mut Work<V, S, C>,
+        &[ResourceId],
+        &[ResourceId],
+        &[Shelf<'_, V>; 1],
+        &mut Table<V>,
+    ) -> Result<(), Fault<E>>,
+>(
+    rules: &T,
+    run: &F,
+    reads: &[ResourceId],
+    writes: &[ResourceId],
+    shelf: &[Shelf<V>; 1],
+    batch: &mut Batch<V, S, C>,
+    own: &mut Table<V>,
+) -> Result<(), Fault<E>>
+    requires stepper { IsStepper V (Work V S C) E V.kind_of (T.own rules.now) (T.step rules.now) (F.pre run.now) (F.post run.now) }
+    requires own_slots { HasOwnSlots writes.now (lent_slot shelf.now) own.old }
+    requires only_own { HasOnlySlots writes.now own.old }
+    requires within { IsBatchWithin C.reads C.writes (T.own rules.now) reads.now writes.now batch.old }
+    ensures { RanAsBatch V.kind_of (T.own rules.now) (T.step rules.now) C.reads C.writes C.begins C.asks reads.now writes.now (lent_slot shelf.now) batch.old own.old result batch.new own.new }
+{
+    run_in_order(
+        rules,
+        run,
+        reads,
+        writes,
+        shelf,
+        &mut batch.control,
+        batch.tiers.as_mut_slice(),
+        own,
+    )
+}

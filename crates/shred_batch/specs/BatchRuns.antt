@@ -12,12 +12,11 @@ use Rattle.shred_batch.specs.Controls.{Control}
 use Rattle.shred_batch.specs.Rounds.{BatchRun}
 use Rattle.shred_batch.specs.Works.{InnerRun, IsBatchWithin, tiers_plan}
 use Rattle.shred_batch.specs.declared.work.Batch.{Batch}
-use Rattle.shred_batch.specs.declared.work.Work.{Work}
 
 -- The batch ran over what the table and what is lent behind it show. What was kept of it stays and is within the lists still; kinds and slots stay, and each value that is not written.
-pub record RanAsBatch {V S C E : Type 0} (kind : V → Kind) (own : Work V S C → List ResourceId → List ResourceId → Type 0) (step : Step V (Work V S C) E)
+pub record RanAsBatch {V C X E : Type 0} (kind : V → Kind) (own : X → List ResourceId → List ResourceId → Type 0) (step : Step V X E)
     (control_reads control_writes : C → List ResourceId) (begins : Control V C ℕ E) (asks : Control V C Bool E) (reads writes : List ResourceId) (lent : Lent V)
-    (old : Batch V S C) (before : Table V) (outcome : Outcome E) (new : Batch V S C) (after : Table V) : Type 0 where
+    (old : Batch V C X) (before : Table V) (outcome : Outcome E) (new : Batch V C X) (after : Table V) : Type 0 where
   pub run : BatchRun kind asks (control_access old.control) (InnerRun kind step) begins old.control.controller old.tiers.items (shown kind lent before) outcome new.control.controller new.tiers.items (shown kind lent after)
   pub same_access : control_access new.control ≡ control_access old.control
   pub same_plan : tiers_plan new.tiers.items ≡ tiers_plan old.tiers.items

@@ -1,6 +1,7 @@
 pub mod BatchRuns
 pub mod Controls
 pub mod ControlEntries
+pub mod Depths
 pub mod Multi
 pub mod Rounds
 pub mod Steppers

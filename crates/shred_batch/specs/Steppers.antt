@@ -10,7 +10,7 @@ use Rattle.shred_table.specs.declared.table.Table.{Table}
 use Rattle.shred_table.specs.Shown.{Lent, shown, HasOwnSlots, IsSameSlots}
 use Rattle.shred_table.specs.Slots.{among}
 use Rattle.shred_world.specs.Views.{lent_slot}
-use Rattle.shred_world.specs.declared.world.view.Shelf.{Shelf}
+use Rattle.shred_batch.specs.declared.rules.Place.{Place}
 
 -- The step lies in the relation on what the two lists show; it keeps kinds, slots, the lists, and each value that is not written.
 pub record IsStepBy {V X E : Type 0} (kind : V → Kind) (own : X → List ResourceId → List ResourceId → Type 0) (step : Step V X E) (reads writes : List ResourceId) (lent : Lent V)
@@ -23,8 +23,7 @@ pub record IsStepBy {V X E : Type 0} (kind : V → Kind) (own : X → List Resou
 
 module _ (V X E : Type 0) (kind : V → Kind) (own : X → List ResourceId → List ResourceId → Type 0) (step : Step V X E) where
   -- The closure may be called over a table that has a slot for each written id, and no other, and each call is a step.
-  pub record IsStepper (pre : MutBor X → Bor (List ResourceId) → Bor (List ResourceId) → Bor (List (Shelf V)) → MutBor (Table V) → Type 0)
-      (post : MutBor X → Bor (List ResourceId) → Bor (List ResourceId) → Bor (List (Shelf V)) → MutBor (Table V) → Outcome E → MutBor X → MutBor (Table V) → Type 0) : Type 0 where
-    pub accepts : (x : MutBor X) (r w : Bor (List ResourceId)) (shelf : Bor (List (Shelf V))) (t : MutBor (Table V)) → own x.now r.now w.now → HasOwnSlots w.now (lent_slot shelf.now) t.now → HasOnlySlots w.now t.now → pre x r w shelf t
-    pub steps : (x y : MutBor X) (r w : Bor (List ResourceId)) (shelf : Bor (List (Shelf V))) (t u : MutBor (Table V)) (o : Outcome E) → own x.now r.now w.now → HasOwnSlots w.now (lent_slot shelf.now) t.now → HasOnlySlots w.now t.now
-        → post x r w shelf t o y u → IsStepBy kind own step r.now w.now (lent_slot shelf.now) x.now t.now o y.now u.now
+  pub record IsStepper (pre : MutBor X → Bor (Place V) → MutBor (Table V) → Type 0) (post : MutBor X → Bor (Place V) → MutBor (Table V) → Outcome E → MutBor X → MutBor (Table V) → Type 0) : Type 0 where
+    pub accepts : (x : MutBor X) (p : Bor (Place V)) (t : MutBor (Table V)) → own x.now p.now.reads.now p.now.writes.now → HasOwnSlots p.now.writes.now (lent_slot p.now.shelf.now) t.now → HasOnlySlots p.now.writes.now t.now → pre x p t
+    pub steps : (x y : MutBor X) (p : Bor (Place V)) (t u : MutBor (Table V)) (o : Outcome E) → own x.now p.now.reads.now p.now.writes.now → HasOwnSlots p.now.writes.now (lent_slot p.now.shelf.now) t.now → HasOnlySlots p.now.writes.now t.now
+        → post x p t o y u → IsStepBy kind own step p.now.reads.now p.now.writes.now (lent_slot p.now.shelf.now) x.now t.now o y.now u.now

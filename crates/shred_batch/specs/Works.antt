@@ -20,9 +20,8 @@ use Rattle.shred_group.specs.Sides.{stage_side}
 use Rattle.shred_group.specs.declared.dispatch.entry.Side.TheVariants.{Reads}
 use Rattle.shred_group.specs.Steps.{Step}
 use Rattle.shred_batch.specs.ControlEntries.{IsOwnControl}
-use Rattle.shred_batch.specs.declared.work.Batch.{Batch as TheBatch}
+use Rattle.shred_batch.specs.declared.work.Batch.{Batch}
 use Rattle.shred_batch.specs.declared.work.Tier.{Tier}
-use Rattle.shred_batch.specs.declared.work.Work.{Work}
 
 -- a tier's groups, as plain data
 abbrev pub tier_plan : {V X : Type 0} → Tier V X → model.Stage ResourceId
@@ -45,14 +44,15 @@ module _ {V X : Type 0} (own : X → List ResourceId → List ResourceId → Typ
     pub reads_within : (id : ResourceId) → among (stage_side Reads (tier_plan tier)) id ≡ true → (among reads id || among writes id) ≡ true
     pub writes_within : (id : ResourceId) → some_writes tier.groups.items id ≡ true → among writes id ≡ true
 
-module _ {V S C : Type 0} (control_reads control_writes : C → List ResourceId) (own : Work V S C → List ResourceId → List ResourceId → Type 0) (reads writes : List ResourceId) where
+module _ {V C X : Type 0} (control_reads control_writes : C → List ResourceId) (own : X → List ResourceId → List ResourceId → Type 0) (reads writes : List ResourceId) where
   -- The lists kept of a batch's controller are those that it declares, they are within the batch's own, and so is the inner plan.
-  pub record IsBatchWithin (batch : TheBatch V S C) : Type 0 where
+  pub record IsBatchWithin (batch : Batch V C X) : Type 0 where
     pub control : IsOwnControl control_reads control_writes batch.control
     pub reads_within : (id : ResourceId) → among batch.control.reads.items id ≡ true → (among reads id || among writes id) ≡ true
     pub writes_within : (id : ResourceId) → among batch.control.writes.items id ≡ true → among writes id ≡ true
     pub tiers : All (IsTierWithin own reads writes) batch.tiers.items
 
--- a run of an inner plan: its tiers' turns, in order, up to the first that is not Done
-abbrev pub InnerRun : {V X E : Type 0} → (V → Kind) → Step V X E → List (Tier V X) → Held V → Answer (StageFault E) → List (Tier V X) → Held V → Type 0
-InnerRun kind step tiers before answer news after = Ran (RunsUpToFault (λ place. StageTurn kind step) 0 (tiers_plan tiers)) (configuration_of (listed_states tier_states tiers) before) answer (configuration_of (listed_states tier_states news) after)
+-- A run of an inner plan: its tiers' turns, in order, up to the first that is not Done. The plan stays.
+pub record InnerRun {V X E : Type 0} (kind : V → Kind) (step : Step V X E) (tiers : List (Tier V X)) (before : Held V) (answer : Answer (StageFault E)) (news : List (Tier V X)) (after : Held V) : Type 0 where
+  pub ran : Ran (RunsUpToFault (λ place. StageTurn kind step) 0 (tiers_plan tiers)) (configuration_of (listed_states tier_states tiers) before) answer (configuration_of (listed_states tier_states news) after)
+  pub same_plan : tiers_plan news ≡ tiers_plan tiers

@@ -6,6 +6,7 @@ ghost use Rattle.shred_batch.specs.Rounds.{BatchRun, Rounds};
 ghost use Rattle.shred_batch.specs.BatchRuns.{RanAsBatch};
 ghost use Rattle.shred_batch.specs.Steppers.{IsStepper};
 ghost use Rattle.shred_batch.specs.Works.{InnerRun, IsBatchWithin, IsTierWithin, tiers_plan};
+ghost use Rattle.shred_batch.specs.declared.work.Nested.{Nested};
 ghost use Rattle.shred_batch.specs.declared.work.Work.{Work};
 ghost use Rattle.shred_group.specs.OwnSlots.{HasOnlySlots};
 ghost use Rattle.shred_table.specs.declared.id.ResourceId.{ResourceId};
@@ -13,12 +14,12 @@ ghost use Rattle.shred_table.specs.Shown.{shown, HasOwnSlots, IsSameSlots};
 ghost use Rattle.shred_table.specs.Slots.{among};
 ghost use Rattle.shred_world.specs.Views.{lent_slot};
 
+use crate::by_error::Steers;
 use crate::control::ControlEntry;
-use crate::controller::BatchController;
 use crate::rounds::within;
-use crate::rules::Rules;
+use crate::rules::{Place, Rules};
 use crate::tiers::tiers_beside;
-use crate::work::{Batch, Tier, Work};
+use crate::work::{Batch, Nested, Tier, Work};
 use shred_group::Fault;
 use shred_world::{ResourceId, ResourceValue, Shelf, Table};
 use std::thread::Threads;
@@ -28,16 +29,10 @@ fn rounds_beside<
     R: Threads + Sync,
     V: ResourceValue + Drop + Send + Sync,
     S: Send,
-    C: BatchController<V, Error = E> + Send,
+    C: Steers<V, E> + Send,
     E: Drop + Send,
-    T: Rules<V, Work<V, S, C>, E> + Sync,
-    F: Fn(
-        &mut Work<V, S, C>,
-        &[ResourceId],
-        &[ResourceId],
-        &[Shelf<'_, V>; 1],
-        &mut Table<V>,
-    ) -> Result<(), Fault<E>>
+    T: Rules<V, Work<S, Nested<V, S, C>>, E> + Sync,
+    F: Fn(&mut Work<S, Nested<V, S, C>>, &Place<'_, V>, &mut Table<V>) -> Result<(), Fault<E>>
         + Sync,
 >(
     rt: &R,
@@ -47,21 +42,21 @@ fn rounds_beside<
     writes: &[ResourceId],
     shelf: &[Shelf<V>; 1],
     control: &mut ControlEntry<V, C>,
-    tiers: &mut [Tier<V, Work<V, S, C>>],
+    tiers: &mut [Tier<V, Work<S, Nested<V, S, C>>>],
     own: &mut Table<V>,
     workers: usize,
     most: usize,
 ) -> Result<(), Fault<E>>
-    requires stepper { IsStepper V (Work V S C) E V.kind_of (T.own rules.now) (T.step rules.now) (F.pre run.now) (F.post run.now) }
+    requires stepper { IsStepper V (Work S (Nested V S C)) E V.kind_of (T.own rules.now) (T.step rules.now) (F.pre run.now) (F.post run.now) }
     requires own_slots { HasOwnSlots writes.now (lent_slot shelf.now) own.old }
     requires only_own { HasOnlySlots writes.now own.old }
-    requires control { IsOwnControl C.reads C.writes control.old }
+    requires control { IsOwnControl C.its_reads C.its_writes control.old }
     requires writes_within { (id : ResourceId) → among control.old.writes.items id ≡ true → among writes.now id ≡ true }
     requires within { All (IsTierWithin (T.own rules.now) reads.now writes.now) tiers.old }
     ensures ran { Rounds V.kind_of C.asks (control_access control.old) (InnerRun V.kind_of (T.step rules.now)) most control.old.controller tiers.old (shown V.kind_of (lent_slot shelf.now) own.old) result control.new.controller tiers.new (shown V.kind_of (lent_slot shelf.now) own.new) }
     ensures plan { tiers_plan tiers.new ≡ tiers_plan tiers.old }
     ensures access { control_access control.new ≡ control_access control.old }
-    ensures control { IsOwnControl C.reads C.writes control.new }
+    ensures control { IsOwnControl C.its_reads C.its_writes control.new }
     ensures within { All (IsTierWithin (T.own rules.now) reads.now writes.now) tiers.new }
     ensures kinds { (id : ResourceId) → option_map V.kind_of (shown V.kind_of (lent_slot shelf.now) own.new id) ≡ option_map V.kind_of (shown V.kind_of (lent_slot shelf.now) own.old id) }
     ensures slots { IsSameSlots own.old own.new }
@@ -88,16 +83,10 @@ fn run_beside<
     R: Threads + Sync,
     V: ResourceValue + Drop + Send + Sync,
     S: Send,
-    C: BatchController<V, Error = E> + Send,
+    C: Steers<V, E> + Send,
     E: Drop + Send,
-    T: Rules<V, Work<V, S, C>, E> + Sync,
-    F: Fn(
-        &mut Work<V, S, C>,
-        &[ResourceId],
-        &[ResourceId],
-        &[Shelf<'_, V>; 1],
-        &mut Table<V>,
-    ) -> Result<(), Fault<E>>
+    T: Rules<V, Work<S, Nested<V, S, C>>, E> + Sync,
+    F: Fn(&mut Work<S, Nested<V, S, C>>, &Place<'_, V>, &mut Table<V>) -> Result<(), Fault<E>>
         + Sync,
 >(
     rt: &R,
@@ -107,20 +96,20 @@ fn run_beside<
     writes: &[ResourceId],
     shelf: &[Shelf<V>; 1],
     control: &mut ControlEntry<V, C>,
-    tiers: &mut [Tier<V, Work<V, S, C>>],
+    tiers: &mut [Tier<V, Work<S, Nested<V, S, C>>>],
     own: &mut Table<V>,
     workers: usize,
 ) -> Result<(), Fault<E>>
-    requires stepper { IsStepper V (Work V S C) E V.kind_of (T.own rules.now) (T.step rules.now) (F.pre run.now) (F.post run.now) }
+    requires stepper { IsStepper V (Work S (Nested V S C)) E V.kind_of (T.own rules.now) (T.step rules.now) (F.pre run.now) (F.post run.now) }
     requires own_slots { HasOwnSlots writes.now (lent_slot shelf.now) own.old }
     requires only_own { HasOnlySlots writes.now own.old }
-    requires control { IsOwnControl C.reads C.writes control.old }
+    requires control { IsOwnControl C.its_reads C.its_writes control.old }
     requires writes_within { (id : ResourceId) → among control.old.writes.items id ≡ true → among writes.now id ≡ true }
     requires within { All (IsTierWithin (T.own rules.now) reads.now writes.now) tiers.old }
     ensures ran { BatchRun V.kind_of C.asks (control_access control.old) (InnerRun V.kind_of (T.step rules.now)) C.begins control.old.controller tiers.old (shown V.kind_of (lent_slot shelf.now) own.old) result control.new.controller tiers.new (shown V.kind_of (lent_slot shelf.now) own.new) }
     ensures plan { tiers_plan tiers.new ≡ tiers_plan tiers.old }
     ensures access { control_access control.new ≡ control_access control.old }
-    ensures control { IsOwnControl C.reads C.writes control.new }
+    ensures control { IsOwnControl C.its_reads C.its_writes control.new }
     ensures within { All (IsTierWithin (T.own rules.now) reads.now writes.now) tiers.new }
     ensures kinds { (id : ResourceId) → option_map V.kind_of (shown V.kind_of (lent_slot shelf.now) own.new id) ≡ option_map V.kind_of (shown V.kind_of (lent_slot shelf.now) own.old id) }
     ensures slots { IsSameSlots own.old own.new }
@@ -140,16 +129,10 @@ pub fn batch_beside<
     R: Threads + Sync,
     V: ResourceValue + Drop + Send + Sync,
     S: Send,
-    C: BatchController<V, Error = E> + Send,
+    C: Steers<V, E> + Send,
     E: Drop + Send,
-    T: Rules<V, Work<V, S, C>, E> + Sync,
-    F: Fn(
-        &mut Work<V, S, C>,
-        &[ResourceId],
-        &[ResourceId],
-        &[Shelf<'_, V>; 1],
-        &mut Table<V>,
-    ) -> Result<(), Fault<E>>
+    T: Rules<V, Work<S, Nested<V, S, C>>, E> + Sync,
+    F: Fn(&mut Work<S, Nested<V, S, C>>, &Place<'_, V>, &mut Table<V>) -> Result<(), Fault<E>>
         + Sync,
 >(
     rt: &R,
@@ -158,15 +141,15 @@ pub fn batch_beside<
     reads: &[ResourceId],
     writes: &[ResourceId],
     shelf: &[Shelf<V>; 1],
-    batch: &mut Batch<V, S, C>,
+    batch: &mut Batch<V, C, Work<S, Nested<V, S, C>>>,
     own: &mut Table<V>,
     workers: usize,
 ) -> Result<(), Fault<E>>
-    requires stepper { IsStepper V (Work V S C) E V.kind_of (T.own rules.now) (T.step rules.now) (F.pre run.now) (F.post run.now) }
+    requires stepper { IsStepper V (Work S (Nested V S C)) E V.kind_of (T.own rules.now) (T.step rules.now) (F.pre run.now) (F.post run.now) }
     requires own_slots { HasOwnSlots writes.now (lent_slot shelf.now) own.old }
     requires only_own { HasOnlySlots writes.now own.old }
-    requires within { IsBatchWithin C.reads C.writes (T.own rules.now) reads.now writes.now batch.old }
-    ensures { RanAsBatch V.kind_of (T.own rules.now) (T.step rules.now) C.reads C.writes C.begins C.asks reads.now writes.now (lent_slot shelf.now) batch.old own.old result batch.new own.new }
+    requires within { IsBatchWithin C.its_reads C.its_writes (T.own rules.now) reads.now writes.now batch.old }
+    ensures { RanAsBatch V.kind_of (T.own rules.now) (T.step rules.now) C.its_reads C.its_writes C.begins C.asks reads.now writes.now (lent_slot shelf.now) batch.old own.old result batch.new own.new }
 {
     run_beside(
         rt,

@@ -11,7 +11,7 @@ ghost use Rattle.shred_table.specs.Shown.{shown, HasOwnSlots, IsSameSlots};
 ghost use Rattle.shred_table.specs.Slots.{among};
 ghost use Rattle.shred_world.specs.Views.{lent_slot};
 
-use crate::controller::BatchController;
+use crate::by_error::Steers;
 use crate::turn::behind;
 use shred_group::Fault;
 use shred_world::parting::move_each;
@@ -28,34 +28,34 @@ pub struct ControlEntry<V, C> {
 }
 
 // One call of `begin`, over a table that has what the controller writes and nothing else.
-fn begin_over<'s, V: ResourceValue, C: BatchController<V>>(
+fn begin_over<'s, V: ResourceValue, C: Steers<V, E>, E>(
     reads: &'s [ResourceId],
     writes: &'s [ResourceId],
     shelf: &'s [Shelf<'s, V>; 1],
     controller: &mut C,
     own: &mut Table<V>,
-) -> Result<usize, Fault<C::Error>>
-    requires own_lists { AreOwnLists (C.reads controller.old) (C.writes controller.old) reads.now writes.now }
+) -> Result<usize, Fault<E>>
+    requires own_lists { AreOwnLists (C.its_reads controller.old) (C.its_writes controller.old) reads.now writes.now }
     requires own_slots { HasOwnSlots writes.now (lent_slot shelf.now) own.old }
     requires only_own { HasOnlySlots writes.now own.old }
     ensures lies { C.begins controller.old (declared_of (record { reads = reads.now; writes = writes.now }) (shown V.kind_of (lent_slot shelf.now) own.old)) result controller.new (declared_of (record { reads = reads.now; writes = writes.now }) (shown V.kind_of (lent_slot shelf.now) own.new)) }
     ensures kinds { (id : ResourceId) → option_map V.kind_of (shown V.kind_of (lent_slot shelf.now) own.new id) ≡ option_map V.kind_of (shown V.kind_of (lent_slot shelf.now) own.old id) }
     ensures slots { IsSameSlots own.old own.new }
     ensures frame { (id : ResourceId) → among writes.now id ≡ false → shown V.kind_of (lent_slot shelf.now) own.new id ≡ shown V.kind_of (lent_slot shelf.now) own.old id }
-    ensures own_lists { AreOwnLists (C.reads controller.new) (C.writes controller.new) reads.now writes.now }
+    ensures own_lists { AreOwnLists (C.its_reads controller.new) (C.its_writes controller.new) reads.now writes.now }
 {
     let mut view = View::over(reads, writes, shelf, own);
-    controller.begin(&mut view)
+    controller.start(&mut view)
 }
 
 // The same, over the controller's hand, while the table is lent shared.
-fn begin_in_hand<V: ResourceValue, C: BatchController<V>>(
+fn begin_in_hand<V: ResourceValue, C: Steers<V, E>, E>(
     entry: &mut ControlEntry<V, C>,
     writes: &[ResourceId],
     shelf: &[Shelf<V>; 1],
     own: &Table<V>,
-) -> Result<usize, Fault<C::Error>>
-    requires own_lists { AreOwnLists (C.reads entry.old.controller) (C.writes entry.old.controller) entry.old.reads.items entry.old.writes.items }
+) -> Result<usize, Fault<E>>
+    requires own_lists { AreOwnLists (C.its_reads entry.old.controller) (C.its_writes entry.old.controller) entry.old.reads.items entry.old.writes.items }
     requires own_slots { HasOwnSlots writes.now (lent_slot shelf.now) own.now }
     requires only_own { HasOnlySlots writes.now own.now }
     requires hand_slots { HasOwnSlots entry.old.writes.items (lent_before own.now (lent_slot shelf.now)) entry.old.hand }
@@ -66,7 +66,7 @@ fn begin_in_hand<V: ResourceValue, C: BatchController<V>>(
     ensures frame { (id : ResourceId) → among entry.old.writes.items id ≡ false → shown V.kind_of (lent_before own.now (lent_slot shelf.now)) entry.new.hand id ≡ shown V.kind_of (lent_before own.now (lent_slot shelf.now)) entry.old.hand id }
     ensures reads { entry.new.reads ≡ entry.old.reads }
     ensures writes { entry.new.writes ≡ entry.old.writes }
-    ensures own_lists { AreOwnLists (C.reads entry.new.controller) (C.writes entry.new.controller) entry.new.reads.items entry.new.writes.items }
+    ensures own_lists { AreOwnLists (C.its_reads entry.new.controller) (C.its_writes entry.new.controller) entry.new.reads.items entry.new.writes.items }
 {
     let nearest = behind(own, writes, shelf);
     begin_over(
@@ -79,34 +79,34 @@ fn begin_in_hand<V: ResourceValue, C: BatchController<V>>(
 }
 
 // One call of `again`, over a table that has what the controller writes and nothing else.
-fn ask_over<'s, V: ResourceValue, C: BatchController<V>>(
+fn ask_over<'s, V: ResourceValue, C: Steers<V, E>, E>(
     reads: &'s [ResourceId],
     writes: &'s [ResourceId],
     shelf: &'s [Shelf<'s, V>; 1],
     controller: &mut C,
     own: &mut Table<V>,
-) -> Result<bool, Fault<C::Error>>
-    requires own_lists { AreOwnLists (C.reads controller.old) (C.writes controller.old) reads.now writes.now }
+) -> Result<bool, Fault<E>>
+    requires own_lists { AreOwnLists (C.its_reads controller.old) (C.its_writes controller.old) reads.now writes.now }
     requires own_slots { HasOwnSlots writes.now (lent_slot shelf.now) own.old }
     requires only_own { HasOnlySlots writes.now own.old }
     ensures lies { C.asks controller.old (declared_of (record { reads = reads.now; writes = writes.now }) (shown V.kind_of (lent_slot shelf.now) own.old)) result controller.new (declared_of (record { reads = reads.now; writes = writes.now }) (shown V.kind_of (lent_slot shelf.now) own.new)) }
     ensures kinds { (id : ResourceId) → option_map V.kind_of (shown V.kind_of (lent_slot shelf.now) own.new id) ≡ option_map V.kind_of (shown V.kind_of (lent_slot shelf.now) own.old id) }
     ensures slots { IsSameSlots own.old own.new }
     ensures frame { (id : ResourceId) → among writes.now id ≡ false → shown V.kind_of (lent_slot shelf.now) own.new id ≡ shown V.kind_of (lent_slot shelf.now) own.old id }
-    ensures own_lists { AreOwnLists (C.reads controller.new) (C.writes controller.new) reads.now writes.now }
+    ensures own_lists { AreOwnLists (C.its_reads controller.new) (C.its_writes controller.new) reads.now writes.now }
 {
     let mut view = View::over(reads, writes, shelf, own);
-    controller.again(&mut view)
+    controller.ask(&mut view)
 }
 
 // The same, over the controller's hand, while the table is lent shared.
-fn ask_in_hand<V: ResourceValue, C: BatchController<V>>(
+fn ask_in_hand<V: ResourceValue, C: Steers<V, E>, E>(
     entry: &mut ControlEntry<V, C>,
     writes: &[ResourceId],
     shelf: &[Shelf<V>; 1],
     own: &Table<V>,
-) -> Result<bool, Fault<C::Error>>
-    requires own_lists { AreOwnLists (C.reads entry.old.controller) (C.writes entry.old.controller) entry.old.reads.items entry.old.writes.items }
+) -> Result<bool, Fault<E>>
+    requires own_lists { AreOwnLists (C.its_reads entry.old.controller) (C.its_writes entry.old.controller) entry.old.reads.items entry.old.writes.items }
     requires own_slots { HasOwnSlots writes.now (lent_slot shelf.now) own.now }
     requires only_own { HasOnlySlots writes.now own.now }
     requires hand_slots { HasOwnSlots entry.old.writes.items (lent_before own.now (lent_slot shelf.now)) entry.old.hand }
@@ -117,7 +117,7 @@ fn ask_in_hand<V: ResourceValue, C: BatchController<V>>(
     ensures frame { (id : ResourceId) → among entry.old.writes.items id ≡ false → shown V.kind_of (lent_before own.now (lent_slot shelf.now)) entry.new.hand id ≡ shown V.kind_of (lent_before own.now (lent_slot shelf.now)) entry.old.hand id }
     ensures reads { entry.new.reads ≡ entry.old.reads }
     ensures writes { entry.new.writes ≡ entry.old.writes }
-    ensures own_lists { AreOwnLists (C.reads entry.new.controller) (C.writes entry.new.controller) entry.new.reads.items entry.new.writes.items }
+    ensures own_lists { AreOwnLists (C.its_reads entry.new.controller) (C.its_writes entry.new.controller) entry.new.reads.items entry.new.writes.items }
 {
     let nearest = behind(own, writes, shelf);
     ask_over(
@@ -129,22 +129,24 @@ fn ask_in_hand<V: ResourceValue, C: BatchController<V>>(
     )
 }
 
-impl<V: ResourceValue + Drop, C: BatchController<V>> ControlEntry<V, C> {
+impl<V: ResourceValue + Drop, C> ControlEntry<V, C> {
     /// One call of `begin`. What the controller writes is moved into its hand before, and back after, so all else can be
     /// lent shared.
-    pub(crate) fn begin(
+    pub(crate) fn begin<E>(
         &mut self,
         writes: &[ResourceId],
         shelf: &[Shelf<V>; 1],
         own: &mut Table<V>,
-    ) -> Result<usize, Fault<C::Error>>
-        requires own_lists { IsOwnControl C.reads C.writes self.old }
+    ) -> Result<usize, Fault<E>>
+    where
+        C: Steers<V, E>,
+        requires own_lists { IsOwnControl C.its_reads C.its_writes self.old }
         requires writes_within { (id : ResourceId) → among self.old.writes.items id ≡ true → among writes.now id ≡ true }
         requires own_slots { HasOwnSlots writes.now (lent_slot shelf.now) own.old }
         requires only_own { HasOnlySlots writes.now own.old }
         ensures ran { IsControlOver V.kind_of C.begins (control_access self.old) self.old.controller (shown V.kind_of (lent_slot shelf.now) own.old) result self.new.controller (shown V.kind_of (lent_slot shelf.now) own.new) }
         ensures slots { IsSameSlots own.old own.new }
-        ensures own_lists { IsOwnControl C.reads C.writes self.new }
+        ensures own_lists { IsOwnControl C.its_reads C.its_writes self.new }
         ensures access { control_access self.new ≡ control_access self.old }
     {
         move_each(own, self.writes.as_slice(), &mut self.hand);
@@ -155,19 +157,21 @@ impl<V: ResourceValue + Drop, C: BatchController<V>> ControlEntry<V, C> {
 
     /// One call of `again`. What the controller writes is moved into its hand before, and back after, so all else can be
     /// lent shared.
-    pub(crate) fn ask(
+    pub(crate) fn ask<E>(
         &mut self,
         writes: &[ResourceId],
         shelf: &[Shelf<V>; 1],
         own: &mut Table<V>,
-    ) -> Result<bool, Fault<C::Error>>
-        requires own_lists { IsOwnControl C.reads C.writes self.old }
+    ) -> Result<bool, Fault<E>>
+    where
+        C: Steers<V, E>,
+        requires own_lists { IsOwnControl C.its_reads C.its_writes self.old }
         requires writes_within { (id : ResourceId) → among self.old.writes.items id ≡ true → among writes.now id ≡ true }
         requires own_slots { HasOwnSlots writes.now (lent_slot shelf.now) own.old }
         requires only_own { HasOnlySlots writes.now own.old }
         ensures ran { IsControlOver V.kind_of C.asks (control_access self.old) self.old.controller (shown V.kind_of (lent_slot shelf.now) own.old) result self.new.controller (shown V.kind_of (lent_slot shelf.now) own.new) }
         ensures slots { IsSameSlots own.old own.new }
-        ensures own_lists { IsOwnControl C.reads C.writes self.new }
+        ensures own_lists { IsOwnControl C.its_reads C.its_writes self.new }
         ensures access { control_access self.new ≡ control_access self.old }
     {
         move_each(own, self.writes.as_slice(), &mut self.hand);

@@ -3,11 +3,13 @@
 #![tactic(auto)]
 
 pub mod beside;
+pub mod by_error;
 pub mod control;
 pub mod controller;
 pub mod multi;
 pub mod rounds;
 pub mod rules;
+pub mod run;
 pub mod step;
 pub mod tiers;
 pub mod turn;
@@ -15,4 +17,4 @@ pub mod work;
 
 pub use controller::BatchController;
 pub use multi::{MultiDispatchController, MultiDispatcher};
-pub use work::{Batch, Tier, Work};
+pub use work::{Batch, Nested, Tier, Work};

@@ -5,6 +5,7 @@ ghost use Rattle.std.specs.Option.{option_map};
 ghost use Rattle.shred_model.specs.Runs.{Ran};
 ghost use Rattle.shred_model.specs.States.{configuration_of, listed_states};
 ghost use Rattle.shred_batch.specs.Steppers.{IsStepper};
+ghost use Rattle.shred_batch.specs.declared.work.Nested.{Nested};
 ghost use Rattle.shred_batch.specs.declared.work.Work.{Work};
 ghost use Rattle.shred_group.specs.Entries.{EntryRun, GroupRun, entry_states};
 ghost use Rattle.shred_group.specs.Hands.{HasEntryRoom, HasPlace};
@@ -17,8 +18,8 @@ ghost use Rattle.shred_table.specs.Shown.{shown, HasOwnSlots, IsSameSlots};
 ghost use Rattle.shred_table.specs.Slots.{among};
 ghost use Rattle.shred_world.specs.Views.{lent_slot};
 
-use crate::rules::Rules;
-use crate::work::Work;
+use crate::rules::{Place, Rules};
+use crate::work::{Nested, Work};
 use shred_group::dispatch::entry::SystemEntry;
 use shred_group::dispatch::run::before;
 use shred_group::{Fault, StageFault};
@@ -27,28 +28,23 @@ use shred_world::{ResourceId, ResourceValue, Shelf, Table};
 
 // One step, over a table that has what may be written and nothing else.
 fn step_over<
+    's,
     V: ResourceValue,
     S,
     C,
     E,
-    T: Rules<V, Work<V, S, C>, E>,
-    F: Fn(
-        &mut Work<V, S, C>,
-        &[ResourceId],
-        &[ResourceId],
-        &[Shelf<'_, V>; 1],
-        &mut Table<V>,
-    ) -> Result<(), Fault<E>>,
+    T: Rules<V, Work<S, Nested<V, S, C>>, E>,
+    F: Fn(&mut Work<S, Nested<V, S, C>>, &Place<'_, V>, &mut Table<V>) -> Result<(), Fault<E>>,
 >(
     rules: &T,
     run: &F,
-    reads: &[ResourceId],
-    writes: &[ResourceId],
-    shelf: &[Shelf<V>; 1],
-    work: &mut Work<V, S, C>,
+    reads: &'s [ResourceId],
+    writes: &'s [ResourceId],
+    shelf: &'s [Shelf<'s, V>; 1],
+    work: &mut Work<S, Nested<V, S, C>>,
     own: &mut Table<V>,
 ) -> Result<(), Fault<E>>
-    requires stepper { IsStepper V (Work V S C) E V.kind_of (T.own rules.now) (T.step rules.now) (F.pre run.now) (F.post run.now) }
+    requires stepper { IsStepper V (Work S (Nested V S C)) E V.kind_of (T.own rules.now) (T.step rules.now) (F.pre run.now) (F.post run.now) }
     requires own_lists { T.own rules.now work.old reads.now writes.now }
     requires own_slots { HasOwnSlots writes.now (lent_slot shelf.now) own.old }
     requires only_own { HasOnlySlots writes.now own.old }
@@ -58,7 +54,12 @@ fn step_over<
     ensures frame { (id : ResourceId) → among writes.now id ≡ false → shown V.kind_of (lent_slot shelf.now) own.new id ≡ shown V.kind_of (lent_slot shelf.now) own.old id }
     ensures own_lists { T.own rules.now work.new reads.now writes.now }
 {
-    run(work, reads, writes, shelf, own)
+    let place = Place {
+        reads,
+        writes,
+        shelf,
+    };
+    run(work, &place, own)
 }
 
 // One step of what stands in the entry, over the entry's hand, while the table is lent shared.
@@ -67,23 +68,17 @@ fn step_in_hand<
     S,
     C,
     E,
-    T: Rules<V, Work<V, S, C>, E>,
-    F: Fn(
-        &mut Work<V, S, C>,
-        &[ResourceId],
-        &[ResourceId],
-        &[Shelf<'_, V>; 1],
-        &mut Table<V>,
-    ) -> Result<(), Fault<E>>,
+    T: Rules<V, Work<S, Nested<V, S, C>>, E>,
+    F: Fn(&mut Work<S, Nested<V, S, C>>, &Place<'_, V>, &mut Table<V>) -> Result<(), Fault<E>>,
 >(
     rules: &T,
     run: &F,
-    entry: &mut SystemEntry<V, Work<V, S, C>>,
+    entry: &mut SystemEntry<V, Work<S, Nested<V, S, C>>>,
     written: &[ResourceId],
     shelf: &[Shelf<V>; 1],
     own: &Table<V>,
 ) -> Result<(), Fault<E>>
-    requires stepper { IsStepper V (Work V S C) E V.kind_of (T.own rules.now) (T.step rules.now) (F.pre run.now) (F.post run.now) }
+    requires stepper { IsStepper V (Work S (Nested V S C)) E V.kind_of (T.own rules.now) (T.step rules.now) (F.pre run.now) (F.post run.now) }
     requires own_lists { T.own rules.now entry.old.system entry.old.reads.items entry.old.writes.items }
     requires own_slots { HasOwnSlots entry.old.writes.items (lent_before own.now (lent_slot shelf.now)) entry.old.hand }
     requires only_own { HasOnlySlots entry.old.writes.items entry.old.hand }
@@ -115,23 +110,17 @@ fn step<
     S,
     C,
     E,
-    T: Rules<V, Work<V, S, C>, E>,
-    F: Fn(
-        &mut Work<V, S, C>,
-        &[ResourceId],
-        &[ResourceId],
-        &[Shelf<'_, V>; 1],
-        &mut Table<V>,
-    ) -> Result<(), Fault<E>>,
+    T: Rules<V, Work<S, Nested<V, S, C>>, E>,
+    F: Fn(&mut Work<S, Nested<V, S, C>>, &Place<'_, V>, &mut Table<V>) -> Result<(), Fault<E>>,
 >(
     rules: &T,
     run: &F,
-    entry: &mut SystemEntry<V, Work<V, S, C>>,
+    entry: &mut SystemEntry<V, Work<S, Nested<V, S, C>>>,
     written: &[ResourceId],
     shelf: &[Shelf<V>; 1],
     own: &mut Table<V>,
 ) -> Result<(), Fault<E>>
-    requires stepper { IsStepper V (Work V S C) E V.kind_of (T.own rules.now) (T.step rules.now) (F.pre run.now) (F.post run.now) }
+    requires stepper { IsStepper V (Work S (Nested V S C)) E V.kind_of (T.own rules.now) (T.step rules.now) (F.pre run.now) (F.post run.now) }
     requires own_lists { IsEntryOf (T.own rules.now) entry.old }
     requires own_slots { HasOwnSlots entry.old.writes.items (lent_slot shelf.now) own.old }
     requires just_slots { HasJustSlots written.now own.old }
@@ -156,22 +145,16 @@ fn step_single<
     S,
     C,
     E,
-    T: Rules<V, Work<V, S, C>, E>,
-    F: Fn(
-        &mut Work<V, S, C>,
-        &[ResourceId],
-        &[ResourceId],
-        &[Shelf<'_, V>; 1],
-        &mut Table<V>,
-    ) -> Result<(), Fault<E>>,
+    T: Rules<V, Work<S, Nested<V, S, C>>, E>,
+    F: Fn(&mut Work<S, Nested<V, S, C>>, &Place<'_, V>, &mut Table<V>) -> Result<(), Fault<E>>,
 >(
     rules: &T,
     run: &F,
-    entry: &mut SystemEntry<V, Work<V, S, C>>,
+    entry: &mut SystemEntry<V, Work<S, Nested<V, S, C>>>,
     shelf: &[Shelf<V>; 1],
     own: &mut Table<V>,
 ) -> Result<(), Fault<E>>
-    requires stepper { IsStepper V (Work V S C) E V.kind_of (T.own rules.now) (T.step rules.now) (F.pre run.now) (F.post run.now) }
+    requires stepper { IsStepper V (Work S (Nested V S C)) E V.kind_of (T.own rules.now) (T.step rules.now) (F.pre run.now) (F.post run.now) }
     requires own_lists { IsEntryOf (T.own rules.now) entry.old }
     requires own_slots { HasOwnSlots entry.old.writes.items (lent_slot shelf.now) own.old }
     requires only_own { HasOnlySlots entry.old.writes.items own.old }
@@ -200,24 +183,18 @@ fn step_of<
     S,
     C,
     E,
-    T: Rules<V, Work<V, S, C>, E>,
-    F: Fn(
-        &mut Work<V, S, C>,
-        &[ResourceId],
-        &[ResourceId],
-        &[Shelf<'_, V>; 1],
-        &mut Table<V>,
-    ) -> Result<(), Fault<E>>,
+    T: Rules<V, Work<S, Nested<V, S, C>>, E>,
+    F: Fn(&mut Work<S, Nested<V, S, C>>, &Place<'_, V>, &mut Table<V>) -> Result<(), Fault<E>>,
 >(
     rules: &T,
     run: &F,
-    entry: &mut SystemEntry<V, Work<V, S, C>>,
+    entry: &mut SystemEntry<V, Work<S, Nested<V, S, C>>>,
     single: bool,
     written: &[ResourceId],
     shelf: &[Shelf<V>; 1],
     own: &mut Table<V>,
 ) -> Result<(), Fault<E>>
-    requires stepper { IsStepper V (Work V S C) E V.kind_of (T.own rules.now) (T.step rules.now) (F.pre run.now) (F.post run.now) }
+    requires stepper { IsStepper V (Work S (Nested V S C)) E V.kind_of (T.own rules.now) (T.step rules.now) (F.pre run.now) (F.post run.now) }
     requires own_lists { IsEntryOf (T.own rules.now) entry.old }
     requires own_slots { HasOwnSlots entry.old.writes.items (lent_slot shelf.now) own.old }
     requires just_slots { HasJustSlots written.now own.old }
@@ -242,24 +219,18 @@ fn run_entry<
     S,
     C,
     E,
-    T: Rules<V, Work<V, S, C>, E>,
-    F: Fn(
-        &mut Work<V, S, C>,
-        &[ResourceId],
-        &[ResourceId],
-        &[Shelf<'_, V>; 1],
-        &mut Table<V>,
-    ) -> Result<(), Fault<E>>,
+    T: Rules<V, Work<S, Nested<V, S, C>>, E>,
+    F: Fn(&mut Work<S, Nested<V, S, C>>, &Place<'_, V>, &mut Table<V>) -> Result<(), Fault<E>>,
 >(
     rules: &T,
     run: &F,
-    entry: &mut SystemEntry<V, Work<V, S, C>>,
+    entry: &mut SystemEntry<V, Work<S, Nested<V, S, C>>>,
     single: bool,
     written: &[ResourceId],
     shelf: &[Shelf<V>; 1],
     own: &mut Table<V>,
 ) -> Result<(), StageFault<E>>
-    requires stepper { IsStepper V (Work V S C) E V.kind_of (T.own rules.now) (T.step rules.now) (F.pre run.now) (F.post run.now) }
+    requires stepper { IsStepper V (Work S (Nested V S C)) E V.kind_of (T.own rules.now) (T.step rules.now) (F.pre run.now) (F.post run.now) }
     requires own_lists { IsEntryOf (T.own rules.now) entry.old }
     requires own_slots { HasOwnSlots entry.old.writes.items (lent_slot shelf.now) own.old }
     requires just_slots { HasJustSlots written.now own.old }
@@ -286,24 +257,18 @@ pub(crate) fn run_entries<
     S,
     C,
     E,
-    T: Rules<V, Work<V, S, C>, E>,
-    F: Fn(
-        &mut Work<V, S, C>,
-        &[ResourceId],
-        &[ResourceId],
-        &[Shelf<'_, V>; 1],
-        &mut Table<V>,
-    ) -> Result<(), Fault<E>>,
+    T: Rules<V, Work<S, Nested<V, S, C>>, E>,
+    F: Fn(&mut Work<S, Nested<V, S, C>>, &Place<'_, V>, &mut Table<V>) -> Result<(), Fault<E>>,
 >(
     rules: &T,
     run: &F,
-    entries: &mut [SystemEntry<V, Work<V, S, C>>],
+    entries: &mut [SystemEntry<V, Work<S, Nested<V, S, C>>>],
     single: bool,
     written: &[ResourceId],
     shelf: &[Shelf<V>; 1],
     own: &mut Table<V>,
 ) -> Result<(), StageFault<E>>
-    requires stepper { IsStepper V (Work V S C) E V.kind_of (T.own rules.now) (T.step rules.now) (F.pre run.now) (F.post run.now) }
+    requires stepper { IsStepper V (Work S (Nested V S C)) E V.kind_of (T.own rules.now) (T.step rules.now) (F.pre run.now) (F.post run.now) }
     requires own_lists { All (IsEntryOf (T.own rules.now)) entries.old }
     requires own_slots { HasGroupSlots (lent_slot shelf.now) own.old (map entry_plan entries.old) }
     requires just_slots { HasJustSlots written.now own.old }

@@ -4,6 +4,7 @@ ghost use Rattle.std.specs.Option.{option_map};
 ghost use Rattle.shred_batch.specs.Steppers.{IsStepper};
 ghost use Rattle.shred_batch.specs.TierTurns.{TookTierTurn};
 ghost use Rattle.shred_batch.specs.Works.{InnerRun, IsTierWithin, tiers_plan};
+ghost use Rattle.shred_batch.specs.declared.work.Nested.{Nested};
 ghost use Rattle.shred_batch.specs.declared.work.Work.{Work};
 ghost use Rattle.shred_group.specs.OwnSlots.{HasOnlySlots};
 ghost use Rattle.shred_table.specs.declared.id.ResourceId.{ResourceId};
@@ -11,9 +12,9 @@ ghost use Rattle.shred_table.specs.Shown.{shown, HasOwnSlots, IsSameSlots};
 ghost use Rattle.shred_table.specs.Slots.{among};
 ghost use Rattle.shred_world.specs.Views.{lent_slot};
 
-use crate::rules::Rules;
+use crate::rules::{Place, Rules};
 use crate::turn::{turn_beside, turn_in_order};
-use crate::work::{Tier, Work};
+use crate::work::{Nested, Tier, Work};
 use shred_group::{Fault, StageFault};
 use shred_world::{ResourceId, ResourceValue, Shelf, Table};
 use std::thread::Threads;
@@ -24,24 +25,18 @@ pub(crate) fn tier_in_order<
     S,
     C,
     E: Drop,
-    T: Rules<V, Work<V, S, C>, E>,
-    F: Fn(
-        &mut Work<V, S, C>,
-        &[ResourceId],
-        &[ResourceId],
-        &[Shelf<'_, V>; 1],
-        &mut Table<V>,
-    ) -> Result<(), Fault<E>>,
+    T: Rules<V, Work<S, Nested<V, S, C>>, E>,
+    F: Fn(&mut Work<S, Nested<V, S, C>>, &Place<'_, V>, &mut Table<V>) -> Result<(), Fault<E>>,
 >(
     rules: &T,
     run: &F,
     reads: &[ResourceId],
     writes: &[ResourceId],
     shelf: &[Shelf<V>; 1],
-    tier: &mut Tier<V, Work<V, S, C>>,
+    tier: &mut Tier<V, Work<S, Nested<V, S, C>>>,
     own: &mut Table<V>,
 ) -> Result<(), StageFault<E>>
-    requires stepper { IsStepper V (Work V S C) E V.kind_of (T.own rules.now) (T.step rules.now) (F.pre run.now) (F.post run.now) }
+    requires stepper { IsStepper V (Work S (Nested V S C)) E V.kind_of (T.own rules.now) (T.step rules.now) (F.pre run.now) (F.post run.now) }
     requires own_slots { HasOwnSlots writes.now (lent_slot shelf.now) own.old }
     requires only_own { HasOnlySlots writes.now own.old }
     requires within { IsTierWithin (T.own rules.now) reads.now writes.now tier.old }
@@ -57,14 +52,8 @@ pub(crate) fn tier_beside<
     S: Send,
     C: Send,
     E: Drop + Send,
-    T: Rules<V, Work<V, S, C>, E> + Sync,
-    F: Fn(
-        &mut Work<V, S, C>,
-        &[ResourceId],
-        &[ResourceId],
-        &[Shelf<'_, V>; 1],
-        &mut Table<V>,
-    ) -> Result<(), Fault<E>>
+    T: Rules<V, Work<S, Nested<V, S, C>>, E> + Sync,
+    F: Fn(&mut Work<S, Nested<V, S, C>>, &Place<'_, V>, &mut Table<V>) -> Result<(), Fault<E>>
         + Sync,
 >(
     rt: &R,
@@ -73,11 +62,11 @@ pub(crate) fn tier_beside<
     reads: &[ResourceId],
     writes: &[ResourceId],
     shelf: &[Shelf<V>; 1],
-    tier: &mut Tier<V, Work<V, S, C>>,
+    tier: &mut Tier<V, Work<S, Nested<V, S, C>>>,
     own: &mut Table<V>,
     workers: usize,
 ) -> Result<(), StageFault<E>>
-    requires stepper { IsStepper V (Work V S C) E V.kind_of (T.own rules.now) (T.step rules.now) (F.pre run.now) (F.post run.now) }
+    requires stepper { IsStepper V (Work S (Nested V S C)) E V.kind_of (T.own rules.now) (T.step rules.now) (F.pre run.now) (F.post run.now) }
     requires own_slots { HasOwnSlots writes.now (lent_slot shelf.now) own.old }
     requires only_own { HasOnlySlots writes.now own.old }
     requires within { IsTierWithin (T.own rules.now) reads.now writes.now tier.old }
@@ -101,24 +90,18 @@ pub(crate) fn tiers_in_order<
     S,
     C,
     E: Drop,
-    T: Rules<V, Work<V, S, C>, E>,
-    F: Fn(
-        &mut Work<V, S, C>,
-        &[ResourceId],
-        &[ResourceId],
-        &[Shelf<'_, V>; 1],
-        &mut Table<V>,
-    ) -> Result<(), Fault<E>>,
+    T: Rules<V, Work<S, Nested<V, S, C>>, E>,
+    F: Fn(&mut Work<S, Nested<V, S, C>>, &Place<'_, V>, &mut Table<V>) -> Result<(), Fault<E>>,
 >(
     rules: &T,
     run: &F,
     reads: &[ResourceId],
     writes: &[ResourceId],
     shelf: &[Shelf<V>; 1],
-    tiers: &mut [Tier<V, Work<V, S, C>>],
+    tiers: &mut [Tier<V, Work<S, Nested<V, S, C>>>],
     own: &mut Table<V>,
 ) -> Result<(), StageFault<E>>
-    requires stepper { IsStepper V (Work V S C) E V.kind_of (T.own rules.now) (T.step rules.now) (F.pre run.now) (F.post run.now) }
+    requires stepper { IsStepper V (Work S (Nested V S C)) E V.kind_of (T.own rules.now) (T.step rules.now) (F.pre run.now) (F.post run.now) }
     requires own_slots { HasOwnSlots writes.now (lent_slot shelf.now) own.old }
     requires only_own { HasOnlySlots writes.now own.old }
     requires within { All (IsTierWithin (T.own rules.now) reads.now writes.now) tiers.old }
@@ -144,14 +127,8 @@ pub(crate) fn tiers_beside<
     S: Send,
     C: Send,
     E: Drop + Send,
-    T: Rules<V, Work<V, S, C>, E> + Sync,
-    F: Fn(
-        &mut Work<V, S, C>,
-        &[ResourceId],
-        &[ResourceId],
-        &[Shelf<'_, V>; 1],
-        &mut Table<V>,
-    ) -> Result<(), Fault<E>>
+    T: Rules<V, Work<S, Nested<V, S, C>>, E> + Sync,
+    F: Fn(&mut Work<S, Nested<V, S, C>>, &Place<'_, V>, &mut Table<V>) -> Result<(), Fault<E>>
         + Sync,
 >(
     rt: &R,
@@ -160,11 +137,11 @@ pub(crate) fn tiers_beside<
     reads: &[ResourceId],
     writes: &[ResourceId],
     shelf: &[Shelf<V>; 1],
-    tiers: &mut [Tier<V, Work<V, S, C>>],
+    tiers: &mut [Tier<V, Work<S, Nested<V, S, C>>>],
     own: &mut Table<V>,
     workers: usize,
 ) -> Result<(), StageFault<E>>
-    requires stepper { IsStepper V (Work V S C) E V.kind_of (T.own rules.now) (T.step rules.now) (F.pre run.now) (F.post run.now) }
+    requires stepper { IsStepper V (Work S (Nested V S C)) E V.kind_of (T.own rules.now) (T.step rules.now) (F.pre run.now) (F.post run.now) }
     requires own_slots { HasOwnSlots writes.now (lent_slot shelf.now) own.old }
     requires only_own { HasOnlySlots writes.now own.old }
     requires within { All (IsTierWithin (T.own rules.now) reads.now writes.now) tiers.old }

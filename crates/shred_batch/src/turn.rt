@@ -4,6 +4,7 @@ ghost use Rattle.std.specs.Prelude.{◌≡◌, All, true, false};
 ghost use Rattle.shred_model.specs.Beside.{AllWent, AreApart};
 ghost use Rattle.shred_model.specs.Plan.{group_access};
 ghost use Rattle.shred_batch.specs.Steppers.{IsStepper};
+ghost use Rattle.shred_batch.specs.declared.work.Nested.{Nested};
 ghost use Rattle.shred_batch.specs.declared.work.Work.{Work};
 ghost use Rattle.shred_group.specs.Hands.{KeepsRoom, some_writes};
 ghost use Rattle.shred_group.specs.Lanes.{IsReady, GroupWent};
@@ -16,9 +17,9 @@ ghost use Rattle.shred_table.specs.Shown.{shown, HasOwnSlots, IsSameSlots};
 ghost use Rattle.shred_table.specs.Slots.{among, slot_at};
 ghost use Rattle.shred_world.specs.Views.{lent_slot};
 
-use crate::rules::Rules;
+use crate::rules::{Place, Rules};
 use crate::step::run_entries;
-use crate::work::Work;
+use crate::work::{Nested, Work};
 use shred_group::dispatch::entry::Group;
 use shred_group::dispatch::fork::{run_each, run_lanes};
 use shred_group::dispatch::hands::{move_all_back, move_all_out};
@@ -32,21 +33,15 @@ fn run_group<
     S,
     C,
     E,
-    T: Rules<V, Work<V, S, C>, E>,
-    F: Fn(
-        &mut Work<V, S, C>,
-        &[ResourceId],
-        &[ResourceId],
-        &[Shelf<'_, V>; 1],
-        &mut Table<V>,
-    ) -> Result<(), Fault<E>>,
+    T: Rules<V, Work<S, Nested<V, S, C>>, E>,
+    F: Fn(&mut Work<S, Nested<V, S, C>>, &Place<'_, V>, &mut Table<V>) -> Result<(), Fault<E>>,
 >(
     rules: &T,
     run: &F,
-    group: &mut Group<V, Work<V, S, C>>,
+    group: &mut Group<V, Work<S, Nested<V, S, C>>>,
     shelf: &[Shelf<V>; 1],
 ) -> Result<(), StageFault<E>>
-    requires stepper { IsStepper V (Work V S C) E V.kind_of (T.own rules.now) (T.step rules.now) (F.pre run.now) (F.post run.now) }
+    requires stepper { IsStepper V (Work S (Nested V S C)) E V.kind_of (T.own rules.now) (T.step rules.now) (F.pre run.now) (F.post run.now) }
     requires ready { IsReady (T.own rules.now) (lent_slot shelf.now) group.old }
     ensures { GroupWent V.kind_of (T.step rules.now) (T.own rules.now) (lent_slot shelf.now) group.old result group.new }
 {
@@ -81,31 +76,25 @@ fn run_in_order<
     S,
     C,
     E: Drop,
-    T: Rules<V, Work<V, S, C>, E>,
-    F: Fn(
-        &mut Work<V, S, C>,
-        &[ResourceId],
-        &[ResourceId],
-        &[Shelf<'_, V>; 1],
-        &mut Table<V>,
-    ) -> Result<(), Fault<E>>,
+    T: Rules<V, Work<S, Nested<V, S, C>>, E>,
+    F: Fn(&mut Work<S, Nested<V, S, C>>, &Place<'_, V>, &mut Table<V>) -> Result<(), Fault<E>>,
 >(
     rules: &T,
     run: &F,
     writes: &[ResourceId],
     shelf: &[Shelf<V>; 1],
     own: &Table<V>,
-    groups: &mut [Group<V, Work<V, S, C>>],
+    groups: &mut [Group<V, Work<S, Nested<V, S, C>>>],
 ) -> Result<(), StageFault<E>>
-    requires stepper { IsStepper V (Work V S C) E V.kind_of (T.own rules.now) (T.step rules.now) (F.pre run.now) (F.post run.now) }
+    requires stepper { IsStepper V (Work S (Nested V S C)) E V.kind_of (T.own rules.now) (T.step rules.now) (F.pre run.now) (F.post run.now) }
     requires own_slots { HasOwnSlots writes.now (lent_slot shelf.now) own.now }
     requires only_own { HasOnlySlots writes.now own.now }
     requires ready { All (IsReady (T.own rules.now) (lent_before own.now (lent_slot shelf.now))) groups.old }
     ensures { AllWent (GroupWent V.kind_of (T.step rules.now) (T.own rules.now) (lent_before own.now (lent_slot shelf.now))) groups.old result groups.new }
 {
     let nearest = &behind(own, writes, shelf);
-    let lane = |group: &mut Group<V, Work<V, S, C>>| -> Result<(), StageFault<E>>
-        requires { IsStepper V (Work V S C) E V.kind_of (T.own rules.now) (T.step rules.now) (F.pre run.now) (F.post run.now) × IsReady (T.own rules.now) (lent_slot nearest.now) group.old }
+    let lane = |group: &mut Group<V, Work<S, Nested<V, S, C>>>| -> Result<(), StageFault<E>>
+        requires { IsStepper V (Work S (Nested V S C)) E V.kind_of (T.own rules.now) (T.step rules.now) (F.pre run.now) (F.post run.now) × IsReady (T.own rules.now) (lent_slot nearest.now) group.old }
         ensures { GroupWent V.kind_of (T.step rules.entry.now) (T.own rules.entry.now) (lent_slot nearest.entry.now) group.old result group.new }
     { run_group(rules, run, group, nearest) };
     run_each(&lane, groups)
@@ -118,14 +107,8 @@ fn run_beside<
     S: Send,
     C: Send,
     E: Drop + Send,
-    T: Rules<V, Work<V, S, C>, E> + Sync,
-    F: Fn(
-        &mut Work<V, S, C>,
-        &[ResourceId],
-        &[ResourceId],
-        &[Shelf<'_, V>; 1],
-        &mut Table<V>,
-    ) -> Result<(), Fault<E>>
+    T: Rules<V, Work<S, Nested<V, S, C>>, E> + Sync,
+    F: Fn(&mut Work<S, Nested<V, S, C>>, &Place<'_, V>, &mut Table<V>) -> Result<(), Fault<E>>
         + Sync,
 >(
     rt: &R,
@@ -134,18 +117,18 @@ fn run_beside<
     writes: &[ResourceId],
     shelf: &[Shelf<V>; 1],
     own: &Table<V>,
-    groups: &mut [Group<V, Work<V, S, C>>],
+    groups: &mut [Group<V, Work<S, Nested<V, S, C>>>],
     workers: usize,
 ) -> Result<(), StageFault<E>>
-    requires stepper { IsStepper V (Work V S C) E V.kind_of (T.own rules.now) (T.step rules.now) (F.pre run.now) (F.post run.now) }
+    requires stepper { IsStepper V (Work S (Nested V S C)) E V.kind_of (T.own rules.now) (T.step rules.now) (F.pre run.now) (F.post run.now) }
     requires own_slots { HasOwnSlots writes.now (lent_slot shelf.now) own.now }
     requires only_own { HasOnlySlots writes.now own.now }
     requires ready { All (IsReady (T.own rules.now) (lent_before own.now (lent_slot shelf.now))) groups.old }
     ensures { AllWent (GroupWent V.kind_of (T.step rules.now) (T.own rules.now) (lent_before own.now (lent_slot shelf.now))) groups.old result groups.new }
 {
     let nearest = &behind(own, writes, shelf);
-    let lane = |group: &mut Group<V, Work<V, S, C>>| -> Result<(), StageFault<E>>
-        requires { IsStepper V (Work V S C) E V.kind_of (T.own rules.now) (T.step rules.now) (F.pre run.now) (F.post run.now) × IsReady (T.own rules.now) (lent_slot nearest.now) group.old }
+    let lane = |group: &mut Group<V, Work<S, Nested<V, S, C>>>| -> Result<(), StageFault<E>>
+        requires { IsStepper V (Work S (Nested V S C)) E V.kind_of (T.own rules.now) (T.step rules.now) (F.pre run.now) (F.post run.now) × IsReady (T.own rules.now) (lent_slot nearest.now) group.old }
         ensures { GroupWent V.kind_of (T.step rules.entry.now) (T.own rules.entry.now) (lent_slot nearest.entry.now) group.old result group.new }
     { run_group(rules, run, group, nearest) };
     run_lanes(rt, &lane, groups, workers)
@@ -157,23 +140,17 @@ pub(crate) fn turn_in_order<
     S,
     C,
     E: Drop,
-    T: Rules<V, Work<V, S, C>, E>,
-    F: Fn(
-        &mut Work<V, S, C>,
-        &[ResourceId],
-        &[ResourceId],
-        &[Shelf<'_, V>; 1],
-        &mut Table<V>,
-    ) -> Result<(), Fault<E>>,
+    T: Rules<V, Work<S, Nested<V, S, C>>, E>,
+    F: Fn(&mut Work<S, Nested<V, S, C>>, &Place<'_, V>, &mut Table<V>) -> Result<(), Fault<E>>,
 >(
     rules: &T,
     run: &F,
     writes: &[ResourceId],
     shelf: &[Shelf<V>; 1],
-    groups: &mut [Group<V, Work<V, S, C>>],
+    groups: &mut [Group<V, Work<S, Nested<V, S, C>>>],
     own: &mut Table<V>,
 ) -> Result<(), StageFault<E>>
-    requires stepper { IsStepper V (Work V S C) E V.kind_of (T.own rules.now) (T.step rules.now) (F.pre run.now) (F.post run.now) }
+    requires stepper { IsStepper V (Work S (Nested V S C)) E V.kind_of (T.own rules.now) (T.step rules.now) (F.pre run.now) (F.post run.now) }
     requires own_slots { HasOwnSlots writes.now (lent_slot shelf.now) own.old }
     requires only_own { HasOnlySlots writes.now own.old }
     requires own_lists { All (IsGroupOf (T.own rules.now)) groups.old }
@@ -197,14 +174,8 @@ pub(crate) fn turn_beside<
     S: Send,
     C: Send,
     E: Drop + Send,
-    T: Rules<V, Work<V, S, C>, E> + Sync,
-    F: Fn(
-        &mut Work<V, S, C>,
-        &[ResourceId],
-        &[ResourceId],
-        &[Shelf<'_, V>; 1],
-        &mut Table<V>,
-    ) -> Result<(), Fault<E>>
+    T: Rules<V, Work<S, Nested<V, S, C>>, E> + Sync,
+    F: Fn(&mut Work<S, Nested<V, S, C>>, &Place<'_, V>, &mut Table<V>) -> Result<(), Fault<E>>
         + Sync,
 >(
     rt: &R,
@@ -212,11 +183,11 @@ pub(crate) fn turn_beside<
     run: &F,
     writes: &[ResourceId],
     shelf: &[Shelf<V>; 1],
-    groups: &mut [Group<V, Work<V, S, C>>],
+    groups: &mut [Group<V, Work<S, Nested<V, S, C>>>],
     own: &mut Table<V>,
     workers: usize,
 ) -> Result<(), StageFault<E>>
-    requires stepper { IsStepper V (Work V S C) E V.kind_of (T.own rules.now) (T.step rules.now) (F.pre run.now) (F.post run.now) }
+    requires stepper { IsStepper V (Work S (Nested V S C)) E V.kind_of (T.own rules.now) (T.step rules.now) (F.pre run.now) (F.post run.now) }
     requires own_slots { HasOwnSlots writes.now (lent_slot shelf.now) own.old }
     requires only_own { HasOnlySlots writes.now own.old }
     requires own_lists { All (IsGroupOf (T.own rules.now)) groups.old }

@@ -8,18 +8,22 @@ pub struct Tier<V, X> {
     pub groups: Vec<Group<V, X>>,
 }
 
-/// A system, or a batch.
-#[cycle(plan)]
+/// A controller and an inner plan, which is run as often as the controller says.
 #[derive(Drop)]
-pub enum Work<V, S, C> {
-    System(S),
-    Batch(Batch<V, S, C>),
+pub struct Batch<V, C, X> {
+    pub control: ControlEntry<V, C>,
+    pub tiers: Vec<Tier<V, X>>,
 }
 
-/// A controller and an inner plan, which is run as often as the controller says.
-#[cycle(plan)]
+/// A system, or a batch.
 #[derive(Drop)]
-pub struct Batch<V, S, C> {
-    pub control: ControlEntry<V, C>,
-    pub tiers: Vec<Tier<V, Work<V, S, C>>>,
+pub enum Work<S, B> {
+    System(S),
+    Batch(B),
+}
+
+/// A batch whose inner plan holds systems and batches.
+#[derive(Drop)]
+pub struct Nested<V, S, C> {
+    pub batch: Batch<V, C, Work<S, Nested<V, S, C>>>,
 }

@@ -23,7 +23,7 @@ use Rattle.shred_batch.specs.Works.{IsTierWithin}
 use Rattle.shred_batch.specs.declared.work.Tier.{Tier}
 
 -- what groups with their hands write is what their plan writes
-written-by_plan : {V X : Type 0} (groups : List (Group V X)) → AllByRecursion KeepsRoom groups → (q : ResourceId) → some_writes groups q ≡ list_any (λ (p : model.Group ResourceId). among (group_access p).writes q) (groups_plan groups)
+pub written-by_plan : {V X : Type 0} (groups : List (Group V X)) → AllByRecursion KeepsRoom groups → (q : ResourceId) → some_writes groups q ≡ list_any (λ (p : model.Group ResourceId). among (group_access p).writes q) (groups_plan groups)
 written-by_plan [] room q = refl
 written-by_plan (g ∷ rest) room q = λ i. among (room.0.same_writes i) q || written-by_plan rest room.1 q i
 

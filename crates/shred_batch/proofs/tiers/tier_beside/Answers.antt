@@ -12,6 +12,7 @@ use Rattle.shred_group.specs.Hands.{KeepsRoom, some_writes}
 use Rattle.shred_group.specs.OwnLists.{IsGroupOf}
 use Rattle.shred_group.specs.PlanOf.{groups_plan}
 use Rattle.shred_group.specs.Turns.{TookTurn}
+use Rattle.shred_batch.specs.declared.work.Nested.{Nested}
 use Rattle.shred_batch.specs.declared.work.Work.{Work}
 use Rattle.shred_batch.proofs.tiers.tier_beside.Goals as goal
 
@@ -31,8 +32,8 @@ turn_beside-requires-after_bounds g c κs within =
               (
                 subst (All KeepsRoom) same tier.room,
                 (
-                  subst (λ (groups : List (Group g.row.V.Denot (Work g.row.V.Denot g.row.S.Denot g.row.C.Denot))). AreApart group_access (groups_plan groups)) same tier.apart,
-                  subst (λ (groups : List (Group g.row.V.Denot (Work g.row.V.Denot g.row.S.Denot g.row.C.Denot))). (id : ResourceId) → some_writes groups id ≡ true → among c.args.writes.now id ≡ true) same tier.writes_within,
+                  subst (λ (groups : List (Group g.row.V.Denot (Work g.row.S.Denot (Nested g.row.V.Denot g.row.S.Denot g.row.C.Denot)))). AreApart group_access (groups_plan groups)) same tier.apart,
+                  subst (λ (groups : List (Group g.row.V.Denot (Work g.row.S.Denot (Nested g.row.V.Denot g.row.S.Denot g.row.C.Denot)))). (id : ResourceId) → some_writes groups id ≡ true → among c.args.writes.now id ≡ true) same tier.writes_within,
                 ),
               ),
             ),

@@ -37,8 +37,11 @@ tier_beside-requires-after_bounds g c κs bounds = (
 )
 
 pub returns-in-Err-clause-ran : goal.returns-in-Err-clause-ran
-returns-in-Err-clause-ran g c = SoFar-fault (λ place. StageTurn g.V.ResourceValue.kind_of (g.T.Rules.step c.args.rules.now)) tier_plan tier_states c.loop-tier.tiers (shown g.V.ResourceValue.kind_of (lent_slot c.args.shelf.now) c.loop-tier.own)
-    c.loop-tier.invariant.plan c.loop-tier.invariant.ran c.tier-item.result c.tier_beside.new.tier (shown g.V.ResourceValue.kind_of (lent_slot c.args.shelf.now) c.tier_beside.new.own) (omega arith) c.in-Err.fault c.in-Err.ensures.took.ran
+returns-in-Err-clause-ran g c = record {
+  ran = SoFar-fault (λ place. StageTurn g.V.ResourceValue.kind_of (g.T.Rules.step c.args.rules.now)) tier_plan tier_states c.loop-tier.tiers (shown g.V.ResourceValue.kind_of (lent_slot c.args.shelf.now) c.loop-tier.own)
+      c.loop-tier.invariant.plan c.loop-tier.invariant.ran c.tier-item.result c.tier_beside.new.tier (shown g.V.ResourceValue.kind_of (lent_slot c.args.shelf.now) c.tier_beside.new.own) (omega arith) c.in-Err.fault c.in-Err.ensures.took.ran;
+  same_plan = map-set_same tier_plan c.loop-tier.tiers c.loop-tier.tier-index c.tier_beside.new.tier c.tier-item.result c.in-Err.ensures.took.plan ∙ c.loop-tier.invariant.plan;
+}
 
 pub returns-in-Err-clause-plan : goal.returns-in-Err-clause-plan
 returns-in-Err-clause-plan g c = map-set_same tier_plan c.loop-tier.tiers c.loop-tier.tier-index c.tier_beside.new.tier c.tier-item.result c.in-Err.ensures.took.plan ∙ c.loop-tier.invariant.plan
@@ -78,5 +81,8 @@ loop-tier-preserved g c =
     }
 
 pub returns-clause-ran : goal.returns-clause-ran
-returns-clause-ran g c = SoFar-end (λ place. StageTurn g.V.ResourceValue.kind_of (g.T.Rules.step c.args.rules.now)) tier_plan tier_states c.loop-tier.tiers (shown g.V.ResourceValue.kind_of (lent_slot c.args.shelf.now) c.loop-tier.own)
-    c.loop-tier.invariant.plan c.loop-tier.invariant.ran (omega arith)
+returns-clause-ran g c = record {
+  ran = SoFar-end (λ place. StageTurn g.V.ResourceValue.kind_of (g.T.Rules.step c.args.rules.now)) tier_plan tier_states c.loop-tier.tiers (shown g.V.ResourceValue.kind_of (lent_slot c.args.shelf.now) c.loop-tier.own)
+      c.loop-tier.invariant.plan c.loop-tier.invariant.ran (omega arith);
+  same_plan = c.loop-tier.invariant.plan;
+}

@@ -1,0 +1,2 @@
+pub mod Restricted
+pub mod WorkSteps

@@ -1,0 +1,140 @@
+//! One step of what stands in an entry: of a system, or of a batch, whose inner plan leads back here.
+ghost use Rattle.std.specs.Prelude.{◌≡◌, ◌-◌, ◌≤◌, false};
+ghost use Rattle.std.specs.Option.{option_map};
+ghost use Rattle.shred_batch.specs.Depths.{Declared, Owns, Related, WorkStep};
+ghost use Rattle.shred_batch.specs.BatchRuns.{RanAsBatch};
+ghost use Rattle.shred_batch.specs.Steppers.{IsStepBy, IsStepper};
+ghost use Rattle.shred_batch.specs.Works.{IsBatchWithin};
+ghost use Rattle.shred_batch.specs.declared.work.Nested.{Nested};
+ghost use Rattle.shred_batch.specs.declared.work.Work.{Work};
+ghost use Rattle.shred_group.specs.OwnLists.{declared_lists};
+ghost use Rattle.shred_group.specs.OwnSlots.{HasOnlySlots};
+ghost use Rattle.shred_group.specs.Steps.{declared_of};
+ghost use Rattle.shred_table.specs.declared.id.ResourceId.{ResourceId};
+ghost use Rattle.shred_table.specs.Shown.{shown, HasOwnSlots, IsSameSlots};
+ghost use Rattle.shred_table.specs.Slots.{among};
+ghost use Rattle.shred_world.specs.Views.{lent_slot};
+
+use crate::by_error::{Steers, Steps};
+use crate::rounds::batch_in_order;
+use crate::rules::{Place, Rules};
+use crate::work::{Batch, Nested, Work};
+use shred_group::Fault;
+use shred_world::{ResourceValue, Table, View};
+
+/// Batches that nest to at most this depth; 0 is that of systems alone.
+#[derive(Drop)]
+pub struct Depth {
+    pub depth: usize,
+}
+
+impl<V: ResourceValue, S: Steps<V, E>, C: Steers<V, E>, E> Rules<V, Work<S, Nested<V, S, C>>, E>
+    for Depth {
+    ghost own = { λ at. Owns (record { reads = S.its_reads; writes = S.its_writes; control_reads = C.its_reads; control_writes = C.its_writes }) at.depth };
+
+    ghost step = { λ at. WorkStep V.kind_of (record { steps = S.steps; begins = C.begins; asks = C.asks }) at.depth };
+}
+
+// One step of a system.
+fn step_system<V: ResourceValue, S: Steps<V, E>, E>(
+    system: &mut S,
+    place: &Place<V>,
+    own: &mut Table<V>,
+) -> Result<(), Fault<E>>
+    requires own_lists { declared_lists S.its_reads S.its_writes system.old place.now.reads.now place.now.writes.now }
+    requires own_slots { HasOwnSlots place.now.writes.now (lent_slot place.now.shelf.now) own.old }
+    requires only_own { HasOnlySlots place.now.writes.now own.old }
+    ensures lies { S.steps system.old (declared_of (record { reads = place.now.reads.now; writes = place.now.writes.now }) (shown V.kind_of (lent_slot place.now.shelf.now) own.old)) result system.new (declared_of (record { reads = place.now.reads.now; writes = place.now.writes.now }) (shown V.kind_of (lent_slot place.now.shelf.now) own.new)) }
+    ensures kinds { (id : ResourceId) → option_map V.kind_of (shown V.kind_of (lent_slot place.now.shelf.now) own.new id) ≡ option_map V.kind_of (shown V.kind_of (lent_slot place.now.shelf.now) own.old id) }
+    ensures slots { IsSameSlots own.old own.new }
+    ensures frame { (id : ResourceId) → among place.now.writes.now id ≡ false → shown V.kind_of (lent_slot place.now.shelf.now) own.new id ≡ shown V.kind_of (lent_slot place.now.shelf.now) own.old id }
+    ensures own_lists { declared_lists S.its_reads S.its_writes system.new place.now.reads.now place.now.writes.now }
+{
+    let reads = place.reads;
+    let writes = place.writes;
+    let shelf = place.shelf;
+    let mut view = View::over(reads, writes, shelf, own);
+    system.step(&mut view)
+}
+
+// A run of a batch whose batches nest less deep, where the closure makes the steps of its inner plan.
+fn batch_at<
+    V: ResourceValue + Drop,
+    S: Steps<V, E>,
+    C: Steers<V, E>,
+    E: Drop,
+    F: Fn(&mut Work<S, Nested<V, S, C>>, &Place<'_, V>, &mut Table<V>) -> Result<(), Fault<E>>,
+>(
+    less: usize,
+    run: &F,
+    place: &Place<V>,
+    batch: &mut Batch<V, C, Work<S, Nested<V, S, C>>>,
+    own: &mut Table<V>,
+) -> Result<(), Fault<E>>
+    requires stepper { IsStepper V (Work S (Nested V S C)) E V.kind_of (Owns (record { reads = S.its_reads; writes = S.its_writes; control_reads = C.its_reads; control_writes = C.its_writes }) less) (WorkStep V.kind_of (record { steps = S.steps; begins = C.begins; asks = C.asks }) less) (F.pre run.now) (F.post run.now) }
+    requires own_slots { HasOwnSlots place.now.writes.now (lent_slot place.now.shelf.now) own.old }
+    requires only_own { HasOnlySlots place.now.writes.now own.old }
+    requires within { IsBatchWithin C.its_reads C.its_writes (Owns (record { reads = S.its_reads; writes = S.its_writes; control_reads = C.its_reads; control_writes = C.its_writes }) less) place.now.reads.now place.now.writes.now batch.old }
+    ensures { RanAsBatch V.kind_of (Owns (record { reads = S.its_reads; writes = S.its_writes; control_reads = C.its_reads; control_writes = C.its_writes }) less) (WorkStep V.kind_of (record { steps = S.steps; begins = C.begins; asks = C.asks }) less) C.its_reads C.its_writes C.begins C.asks place.now.reads.now place.now.writes.now (lent_slot place.now.shelf.now) batch.old own.old result batch.new own.new }
+{
+    let reads = place.reads;
+    let writes = place.writes;
+    let shelf = place.shelf;
+    batch_in_order(
+        &Depth { depth: less },
+        run,
+        reads,
+        writes,
+        shelf,
+        batch,
+        own,
+    )
+}
+
+// One step of a system or a batch, where the closure makes the steps of a batch's inner plan.
+fn step_work<
+    V: ResourceValue + Drop,
+    S: Steps<V, E>,
+    C: Steers<V, E>,
+    E: Drop,
+    F: Fn(&mut Work<S, Nested<V, S, C>>, &Place<'_, V>, &mut Table<V>) -> Result<(), Fault<E>>,
+>(
+    depth: usize,
+    run: &F,
+    work: &mut Work<S, Nested<V, S, C>>,
+    place: &Place<V>,
+    own: &mut Table<V>,
+) -> Result<(), Fault<E>>
+    requires stepper { 1 ≤ depth → IsStepper V (Work S (Nested V S C)) E V.kind_of (Owns (record { reads = S.its_reads; writes = S.its_writes; control_reads = C.its_reads; control_writes = C.its_writes }) (depth - 1)) (WorkStep V.kind_of (record { steps = S.steps; begins = C.begins; asks = C.asks }) (depth - 1)) (F.pre run.now) (F.post run.now) }
+    requires own_lists { Owns (record { reads = S.its_reads; writes = S.its_writes; control_reads = C.its_reads; control_writes = C.its_writes }) depth work.old place.now.reads.now place.now.writes.now }
+    requires own_slots { HasOwnSlots place.now.writes.now (lent_slot place.now.shelf.now) own.old }
+    requires only_own { HasOnlySlots place.now.writes.now own.old }
+    ensures { IsStepBy V.kind_of (Owns (record { reads = S.its_reads; writes = S.its_writes; control_reads = C.its_reads; control_writes = C.its_writes }) depth) (WorkStep V.kind_of (record { steps = S.steps; begins = C.begins; asks = C.asks }) depth) place.now.reads.now place.now.writes.now (lent_slot place.now.shelf.now) work.old own.old result work.new own.new }
+{
+    match work {
+        Work::System(system) => step_system(system, place, own),
+        Work::Batch(nested) => batch_at(depth - 1, run, place, &mut nested.batch, own),
+    }
+}
+
+/// One step, on the caller's thread.
+#[cycle(in_order)]
+pub fn step_in_order<V: ResourceValue + Drop, S: Steps<V, E>, C: Steers<V, E>, E: Drop>(
+    depth: usize,
+    work: &mut Work<S, Nested<V, S, C>>,
+    place: &Place<V>,
+    own: &mut Table<V>,
+) -> Result<(), Fault<E>>
+    requires own_lists { Owns (record { reads = S.its_reads; writes = S.its_writes; control_reads = C.its_reads; control_writes = C.its_writes }) depth work.old place.now.reads.now place.now.writes.now }
+    requires own_slots { HasOwnSlots place.now.writes.now (lent_slot place.now.shelf.now) own.old }
+    requires only_own { HasOnlySlots place.now.writes.now own.old }
+    ensures { IsStepBy V.kind_of (Owns (record { reads = S.its_reads; writes = S.its_writes; control_reads = C.its_reads; control_writes = C.its_writes }) depth) (WorkStep V.kind_of (record { steps = S.steps; begins = C.begins; asks = C.asks }) depth) place.now.reads.now place.now.writes.now (lent_slot place.now.shelf.now) work.old own.old result work.new own.new }
+{
+    let step = |work: &mut Work<S, Nested<V, S, C>>, place: &Place<V>, own: &mut Table<
+        V,
+    >| -> Result<(), Fault<E>>
+        requires { 1 ≤ depth × Owns (record { reads = S.its_reads; writes = S.its_writes; control_reads = C.its_reads; control_writes = C.its_writes }) (depth - 1) work.old place.now.reads.now place.now.writes.now × HasOwnSlots place.now.writes.now (lent_slot place.now.shelf.now) own.old × HasOnlySlots place.now.writes.now own.old }
+        ensures { IsStepBy V.kind_of (Owns (record { reads = S.its_reads; writes = S.its_writes; control_reads = C.its_reads; control_writes = C.its_writes }) (depth - 1)) (WorkStep V.kind_of (record { steps = S.steps; begins = C.begins; asks = C.asks }) (depth - 1)) place.now.reads.now place.now.writes.now (lent_slot place.now.shelf.now) work.old own.old result work.new own.new }
+    { step_in_order(depth - 1, work, place, own) };
+    step_work(depth, &step, work, place, own)
+}

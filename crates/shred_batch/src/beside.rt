@@ -14,7 +14,7 @@ ghost use Rattle.shred_table.specs.Shown.{shown, HasOwnSlots, IsSameSlots};
 ghost use Rattle.shred_table.specs.Slots.{among};
 ghost use Rattle.shred_world.specs.Views.{lent_slot};
 
-use crate::by_error::Steers;
+use crate::by_error::ControllerOf;
 use crate::control::ControlEntry;
 use crate::rounds::within;
 use crate::rules::{Place, Rules};
@@ -29,7 +29,7 @@ fn rounds_beside<
     R: Threads + Sync,
     V: ResourceValue + Drop + Send + Sync,
     S: Send,
-    C: Steers<V, E> + Send,
+    C: ControllerOf<V, E> + Send,
     E: Drop + Send,
     T: Rules<V, Work<S, Nested<V, S, C>>, E> + Sync,
     F: Fn(&mut Work<S, Nested<V, S, C>>, &Place<'_, V>, &mut Table<V>) -> Result<(), Fault<E>>
@@ -83,7 +83,7 @@ fn run_beside<
     R: Threads + Sync,
     V: ResourceValue + Drop + Send + Sync,
     S: Send,
-    C: Steers<V, E> + Send,
+    C: ControllerOf<V, E> + Send,
     E: Drop + Send,
     T: Rules<V, Work<S, Nested<V, S, C>>, E> + Sync,
     F: Fn(&mut Work<S, Nested<V, S, C>>, &Place<'_, V>, &mut Table<V>) -> Result<(), Fault<E>>
@@ -123,13 +123,13 @@ fn run_beside<
     }
 }
 
-/// A run of a batch, the groups of its tiers beside each other on at most that many threads. What makes one step of what
-/// stands in an entry is `run`.
+/// The same run of a batch as `batch_in_order`, the groups of each tier beside each other on at most `workers` threads, the
+/// caller's among them.
 pub fn batch_beside<
     R: Threads + Sync,
     V: ResourceValue + Drop + Send + Sync,
     S: Send,
-    C: Steers<V, E> + Send,
+    C: ControllerOf<V, E> + Send,
     E: Drop + Send,
     T: Rules<V, Work<S, Nested<V, S, C>>, E> + Sync,
     F: Fn(&mut Work<S, Nested<V, S, C>>, &Place<'_, V>, &mut Table<V>) -> Result<(), Fault<E>>

@@ -1,5 +1,5 @@
-//! Systems and controllers as the steps of a plan that nests call them. In a cycle of calls an error that belongs to the type
-//! that is called cannot be named, so here it is a parameter.
+//! Systems and controllers, with their error as a parameter of the trait: in a cycle of calls, as a batch in a batch makes one,
+//! an error that is a member of the called type cannot be named. Each `System` and each `BatchController` is one of these.
 ghost use Rattle.std.specs.Prelude.{◌≡◌, ℕ, Bool, List, false, is_some};
 ghost use Rattle.shred_table.specs.declared.id.ResourceId.{ResourceId};
 
@@ -7,8 +7,8 @@ use crate::controller::BatchController;
 use shred_group::{Fault, System};
 use shred_world::{ResourceValue, View};
 
-/// A system.
-pub trait Steps<V: ResourceValue, E> {
+/// A system whose error is `E`.
+pub trait SystemOf<V: ResourceValue, E> {
     ghost use Rattle.shred_world.specs.OwnViews.{IsLent};
     ghost use Rattle.shred_group.specs.Steps.{Step};
     ghost use Rattle.shred_world.specs.Views.{view_held, declared_held, may_write, table_of, IsSameView};
@@ -19,7 +19,7 @@ pub trait Steps<V: ResourceValue, E> {
 
     ghost steps: { Step V Self E };
 
-    /// Its `run`.
+    /// Its `run`, with what `System` asks of it.
     fn step(&mut self, view: &mut View<V>) -> Result<(), Fault<E>>
         requires lent { IsLent view.old (its_reads self.old) (its_writes self.old) }
         ensures step { steps self.old (declared_held V.kind_of view.old) result self.new (declared_held V.kind_of view.new) }
@@ -31,7 +31,7 @@ pub trait Steps<V: ResourceValue, E> {
         ensures writes { its_writes self.new ≡ its_writes self.old };
 }
 
-impl<V: ResourceValue, S: System<V, Error = E>, E> Steps<V, E> for S {
+impl<V: ResourceValue, S: System<V, Error = E>, E> SystemOf<V, E> for S {
     ghost its_reads = { S.reads };
 
     ghost its_writes = { S.writes };
@@ -43,8 +43,8 @@ impl<V: ResourceValue, S: System<V, Error = E>, E> Steps<V, E> for S {
     }
 }
 
-/// A controller of a batch.
-pub trait Steers<V: ResourceValue, E> {
+/// A controller of a batch whose error is `E`.
+pub trait ControllerOf<V: ResourceValue, E> {
     ghost use Rattle.shred_world.specs.OwnViews.{IsLent};
     ghost use Rattle.shred_batch.specs.Controls.{Control};
     ghost use Rattle.shred_world.specs.Views.{view_held, declared_held, may_write, table_of, IsSameView};
@@ -57,7 +57,7 @@ pub trait Steers<V: ResourceValue, E> {
 
     ghost asks: { Control V Self Bool E };
 
-    /// Its `begin`.
+    /// Its `begin`, with what `BatchController` asks of it.
     fn start(&mut self, view: &mut View<V>) -> Result<usize, Fault<E>>
         requires lent { IsLent view.old (its_reads self.old) (its_writes self.old) }
         ensures begins { begins self.old (declared_held V.kind_of view.old) result self.new (declared_held V.kind_of view.new) }
@@ -68,7 +68,7 @@ pub trait Steers<V: ResourceValue, E> {
         ensures reads { its_reads self.new ≡ its_reads self.old }
         ensures writes { its_writes self.new ≡ its_writes self.old };
 
-    /// Its `again`.
+    /// Its `again`, with what `BatchController` asks of it.
     fn ask(&mut self, view: &mut View<V>) -> Result<bool, Fault<E>>
         requires lent { IsLent view.old (its_reads self.old) (its_writes self.old) }
         ensures asks { asks self.old (declared_held V.kind_of view.old) result self.new (declared_held V.kind_of view.new) }
@@ -80,7 +80,7 @@ pub trait Steers<V: ResourceValue, E> {
         ensures writes { its_writes self.new ≡ its_writes self.old };
 }
 
-impl<V: ResourceValue, C: BatchController<V, Error = E>, E> Steers<V, E> for C {
+impl<V: ResourceValue, C: BatchController<V, Error = E>, E> ControllerOf<V, E> for C {
     ghost its_reads = { C.reads };
 
     ghost its_writes = { C.writes };

@@ -11,7 +11,7 @@ ghost use Rattle.shred_table.specs.Shown.{shown, HasOwnSlots, IsSameSlots};
 ghost use Rattle.shred_table.specs.Slots.{among};
 ghost use Rattle.shred_world.specs.Views.{lent_slot};
 
-use crate::by_error::Steers;
+use crate::by_error::ControllerOf;
 use crate::turn::behind;
 use shred_group::Fault;
 use shred_world::parting::move_each;
@@ -28,7 +28,7 @@ pub struct ControlEntry<V, C> {
 }
 
 // One call of `begin`, over a table that has what the controller writes and nothing else.
-fn begin_over<'s, V: ResourceValue, C: Steers<V, E>, E>(
+fn begin_over<'s, V: ResourceValue, C: ControllerOf<V, E>, E>(
     reads: &'s [ResourceId],
     writes: &'s [ResourceId],
     shelf: &'s [Shelf<'s, V>; 1],
@@ -49,7 +49,7 @@ fn begin_over<'s, V: ResourceValue, C: Steers<V, E>, E>(
 }
 
 // The same, over the controller's hand, while the table is lent shared.
-fn begin_in_hand<V: ResourceValue, C: Steers<V, E>, E>(
+fn begin_in_hand<V: ResourceValue, C: ControllerOf<V, E>, E>(
     entry: &mut ControlEntry<V, C>,
     writes: &[ResourceId],
     shelf: &[Shelf<V>; 1],
@@ -79,7 +79,7 @@ fn begin_in_hand<V: ResourceValue, C: Steers<V, E>, E>(
 }
 
 // One call of `again`, over a table that has what the controller writes and nothing else.
-fn ask_over<'s, V: ResourceValue, C: Steers<V, E>, E>(
+fn ask_over<'s, V: ResourceValue, C: ControllerOf<V, E>, E>(
     reads: &'s [ResourceId],
     writes: &'s [ResourceId],
     shelf: &'s [Shelf<'s, V>; 1],
@@ -100,7 +100,7 @@ fn ask_over<'s, V: ResourceValue, C: Steers<V, E>, E>(
 }
 
 // The same, over the controller's hand, while the table is lent shared.
-fn ask_in_hand<V: ResourceValue, C: Steers<V, E>, E>(
+fn ask_in_hand<V: ResourceValue, C: ControllerOf<V, E>, E>(
     entry: &mut ControlEntry<V, C>,
     writes: &[ResourceId],
     shelf: &[Shelf<V>; 1],
@@ -139,7 +139,7 @@ impl<V: ResourceValue + Drop, C> ControlEntry<V, C> {
         own: &mut Table<V>,
     ) -> Result<usize, Fault<E>>
     where
-        C: Steers<V, E>,
+        C: ControllerOf<V, E>,
         requires own_lists { IsOwnControl C.its_reads C.its_writes self.old }
         requires writes_within { (id : ResourceId) → among self.old.writes.items id ≡ true → among writes.now id ≡ true }
         requires own_slots { HasOwnSlots writes.now (lent_slot shelf.now) own.old }
@@ -164,7 +164,7 @@ impl<V: ResourceValue + Drop, C> ControlEntry<V, C> {
         own: &mut Table<V>,
     ) -> Result<bool, Fault<E>>
     where
-        C: Steers<V, E>,
+        C: ControllerOf<V, E>,
         requires own_lists { IsOwnControl C.its_reads C.its_writes self.old }
         requires writes_within { (id : ResourceId) → among self.old.writes.items id ≡ true → among writes.now id ≡ true }
         requires own_slots { HasOwnSlots writes.now (lent_slot shelf.now) own.old }

@@ -32,7 +32,9 @@ pub trait BatchController<V: ResourceValue> {
 
     ghost sets_up: { Step V Self Self.Error };
 
-    /// The most rounds of this run of the batch. What is asked of a system's run holds of it.
+    /// Begins a run of the batch, over a view of just the ids that the controller declares, with none of them out, and
+    /// answers the most rounds that there are to be. It gives back what it took, keeps every id, and changes nothing but what
+    /// the view may write. A `Fault` ends the batch; what was written stays.
     fn begin(&mut self, view: &mut View<V>) -> Result<usize, Fault<Self::Error>>
         requires lent { IsLent view.old (reads self.old) (writes self.old) }
         ensures begins { begins self.old (declared_held V.kind_of view.old) result self.new (declared_held V.kind_of view.new) }
@@ -43,7 +45,8 @@ pub trait BatchController<V: ResourceValue> {
         ensures reads { reads self.new ≡ reads self.old }
         ensures writes { writes self.new ≡ writes self.old };
 
-    /// Whether there is to be a round more. What is asked of a system's run holds of it.
+    /// Asked before each round, over such a view again: whether the inner plan is to run. No ends the batch, which is Done
+    /// then. A `Fault` ends it too; what was written stays.
     fn again(&mut self, view: &mut View<V>) -> Result<bool, Fault<Self::Error>>
         requires lent { IsLent view.old (reads self.old) (writes self.old) }
         ensures asks { asks self.old (declared_held V.kind_of view.old) result self.new (declared_held V.kind_of view.new) }

@@ -1,5 +1,5 @@
-//! Batches: a controller and an inner plan, which stand in a plan as one entry, and their runs. What makes one step of what
-//! stands in an entry of the inner plan, a system or a batch again, is a closure that is passed in.
+//! Batches: a controller and an inner plan, which are to stand in a plan as one entry, and their runs, to any depth. What makes
+//! one step of what stands in an entry of the inner plan, a system or a batch again, is a closure that leads back to `run`.
 #![tactic(auto)]
 
 pub mod beside;
@@ -10,9 +10,9 @@ pub mod multi;
 pub mod rounds;
 pub mod rules;
 pub mod run;
-pub mod step;
-pub mod tiers;
-pub mod turn;
+mod step;
+mod tiers;
+mod turn;
 pub mod work;
 
 pub use controller::BatchController;

@@ -28,7 +28,9 @@ pub trait MultiDispatchController<V: ResourceValue> {
 
     ghost sets_up: { Step V Self Self.Error };
 
-    /// How often the plan is run. What is asked of a system's run holds of it.
+    /// How often the inner plan is to run, over a view of just the ids that the controller declares, with none of them out. It
+    /// gives back what it took, keeps every id, and changes nothing but what the view may write. A `Fault` ends the batch;
+    /// what was written stays.
     fn plan(&mut self, view: &mut View<V>) -> Result<usize, Fault<Self::Error>>
         requires lent { IsLent view.old (reads self.old) (writes self.old) }
         ensures plans { plans self.old (declared_held V.kind_of view.old) result self.new (declared_held V.kind_of view.new) }

@@ -14,7 +14,7 @@ ghost use Rattle.shred_table.specs.Shown.{shown, HasOwnSlots, IsSameSlots};
 ghost use Rattle.shred_table.specs.Slots.{among};
 ghost use Rattle.shred_world.specs.Views.{lent_slot};
 
-use crate::by_error::Steers;
+use crate::by_error::ControllerOf;
 use crate::control::ControlEntry;
 use crate::rules::{Place, Rules};
 use crate::tiers::tiers_in_order;
@@ -36,7 +36,7 @@ pub(crate) fn within<E>(fault: StageFault<E>) -> Fault<E>
 fn rounds_in_order<
     V: ResourceValue + Drop,
     S,
-    C: Steers<V, E>,
+    C: ControllerOf<V, E>,
     E: Drop,
     T: Rules<V, Work<S, Nested<V, S, C>>, E>,
     F: Fn(&mut Work<S, Nested<V, S, C>>, &Place<'_, V>, &mut Table<V>) -> Result<(), Fault<E>>,
@@ -84,7 +84,7 @@ fn rounds_in_order<
 fn run_in_order<
     V: ResourceValue + Drop,
     S,
-    C: Steers<V, E>,
+    C: ControllerOf<V, E>,
     E: Drop,
     T: Rules<V, Work<S, Nested<V, S, C>>, E>,
     F: Fn(&mut Work<S, Nested<V, S, C>>, &Place<'_, V>, &mut Table<V>) -> Result<(), Fault<E>>,
@@ -119,12 +119,13 @@ fn run_in_order<
     }
 }
 
-/// A run of a batch, the groups of its tiers one after the other on the caller's thread. What makes one step of what stands in
-/// an entry is `run`.
+/// A run of a batch over `own`, which has a slot for each id of `writes` and no other, with what is only read lent shared
+/// behind it by `shelf`; `reads` and `writes` are the lists of the batch's entry. The groups of its tiers run one after the other on
+/// the caller's thread. `run` makes one step of what stands in an entry of the inner plan, and `rules` says what such a step is.
 pub fn batch_in_order<
     V: ResourceValue + Drop,
     S,
-    C: Steers<V, E>,
+    C: ControllerOf<V, E>,
     E: Drop,
     T: Rules<V, Work<S, Nested<V, S, C>>, E>,
     F: Fn(&mut Work<S, Nested<V, S, C>>, &Place<'_, V>, &mut Table<V>) -> Result<(), Fault<E>>,

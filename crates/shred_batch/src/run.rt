@@ -15,28 +15,31 @@ ghost use Rattle.shred_table.specs.Shown.{shown, HasOwnSlots, IsSameSlots};
 ghost use Rattle.shred_table.specs.Slots.{among};
 ghost use Rattle.shred_world.specs.Views.{lent_slot};
 
-use crate::by_error::{Steers, Steps};
+use crate::by_error::{ControllerOf, SystemOf};
 use crate::rounds::batch_in_order;
 use crate::rules::{Place, Rules};
 use crate::work::{Batch, Nested, Work};
 use shred_group::Fault;
 use shred_world::{ResourceValue, Table, View};
 
-/// Batches that nest to at most this depth; 0 is that of systems alone.
+/// The rules of what nests to at most this depth: 0 is that of systems alone.
 #[derive(Drop)]
 pub struct Depth {
     pub depth: usize,
 }
 
-impl<V: ResourceValue, S: Steps<V, E>, C: Steers<V, E>, E> Rules<V, Work<S, Nested<V, S, C>>, E>
-    for Depth {
+impl<V: ResourceValue, S: SystemOf<V, E>, C: ControllerOf<V, E>, E> Rules<
+    V,
+    Work<S, Nested<V, S, C>>,
+    E,
+> for Depth {
     ghost own = { λ at. Owns (record { reads = S.its_reads; writes = S.its_writes; control_reads = C.its_reads; control_writes = C.its_writes }) at.depth };
 
     ghost step = { λ at. WorkStep V.kind_of (record { steps = S.steps; begins = C.begins; asks = C.asks }) at.depth };
 }
 
 // One step of a system.
-fn step_system<V: ResourceValue, S: Steps<V, E>, E>(
+fn step_system<V: ResourceValue, S: SystemOf<V, E>, E>(
     system: &mut S,
     place: &Place<V>,
     own: &mut Table<V>,
@@ -60,8 +63,8 @@ fn step_system<V: ResourceValue, S: Steps<V, E>, E>(
 // A run of a batch whose batches nest less deep, where the closure makes the steps of its inner plan.
 fn batch_at<
     V: ResourceValue + Drop,
-    S: Steps<V, E>,
-    C: Steers<V, E>,
+    S: SystemOf<V, E>,
+    C: ControllerOf<V, E>,
     E: Drop,
     F: Fn(&mut Work<S, Nested<V, S, C>>, &Place<'_, V>, &mut Table<V>) -> Result<(), Fault<E>>,
 >(
@@ -94,8 +97,8 @@ fn batch_at<
 // One step of a system or a batch, where the closure makes the steps of a batch's inner plan.
 fn step_work<
     V: ResourceValue + Drop,
-    S: Steps<V, E>,
-    C: Steers<V, E>,
+    S: SystemOf<V, E>,
+    C: ControllerOf<V, E>,
     E: Drop,
     F: Fn(&mut Work<S, Nested<V, S, C>>, &Place<'_, V>, &mut Table<V>) -> Result<(), Fault<E>>,
 >(
@@ -117,9 +120,10 @@ fn step_work<
     }
 }
 
-/// One step, on the caller's thread.
+/// One step of a system, or a run of a batch whose batches nest less deep than `depth`, over `own`, which has a slot for each
+/// written id and no other. The groups of an inner plan run one after the other on the caller's thread.
 #[cycle(in_order)]
-pub fn step_in_order<V: ResourceValue + Drop, S: Steps<V, E>, C: Steers<V, E>, E: Drop>(
+pub fn step_in_order<V: ResourceValue + Drop, S: SystemOf<V, E>, C: ControllerOf<V, E>, E: Drop>(
     depth: usize,
     work: &mut Work<S, Nested<V, S, C>>,
     place: &Place<V>,

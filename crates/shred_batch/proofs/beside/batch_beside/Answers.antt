@@ -24,7 +24,7 @@ returns g c =
     let put = with_items_is was c.run_beside.new.tiers same in
     let went = rw c.as_mut_slice.ensures.value at c.run_beside.ensures in
     record {
-      run = subst (λ (tiers : List (Tier g.row.V.Denot (Work g.row.S.Denot (Nested g.row.V.Denot g.row.S.Denot g.row.C.Denot)))). BatchRun g.V.ResourceValue.kind_of g.C.Steers.asks (control_access c.args.batch.now.control) (InnerRun g.V.ResourceValue.kind_of (g.T.Rules.step c.args.rules.now)) g.C.Steers.begins c.args.batch.now.control.controller was.items (seen c.args.own.now) c.run_beside.result c.run_beside.new.control.controller tiers (seen c.run_beside.new.own)) (sym put) went.ran;
+      run = subst (λ (tiers : List (Tier g.row.V.Denot (Work g.row.S.Denot (Nested g.row.V.Denot g.row.S.Denot g.row.C.Denot)))). BatchRun g.V.ResourceValue.kind_of g.C.ControllerOf.asks (control_access c.args.batch.now.control) (InnerRun g.V.ResourceValue.kind_of (g.T.Rules.step c.args.rules.now)) g.C.ControllerOf.begins c.args.batch.now.control.controller was.items (seen c.args.own.now) c.run_beside.result c.run_beside.new.control.controller tiers (seen c.run_beside.new.own)) (sym put) went.ran;
       same_access = went.access;
       same_plan = ap tiers_plan put ∙ went.plan;
       kinds = went.kinds;

@@ -15,6 +15,6 @@ returns-in-Ok-clause-ran g c =
       Ok c.in-Ok.most,
       c.begin.new.self.controller,
       seen c.begin.new.own,
-      subst (λ bound. IsControlOver g.V.ResourceValue.kind_of g.C.Steers.begins (control_access c.args.control.now) c.args.control.now.controller (seen c.args.own.now) bound c.begin.new.self.controller (seen c.begin.new.own)) c.in-Ok.is c.begin.ensures.ran,
-      subst (λ (access : Access ResourceId). Rounds g.V.ResourceValue.kind_of g.C.Steers.asks access Inner c.in-Ok.most c.begin.new.self.controller c.args.tiers.now (seen c.begin.new.own) c.rounds_beside.result c.rounds_beside.new.control.controller c.rounds_beside.new.tiers (seen c.rounds_beside.new.own)) c.begin.ensures.access c.rounds_beside.ensures.ran,
+      subst (λ bound. IsControlOver g.V.ResourceValue.kind_of g.C.ControllerOf.begins (control_access c.args.control.now) c.args.control.now.controller (seen c.args.own.now) bound c.begin.new.self.controller (seen c.begin.new.own)) c.in-Ok.is c.begin.ensures.ran,
+      subst (λ (access : Access ResourceId). Rounds g.V.ResourceValue.kind_of g.C.ControllerOf.asks access Inner c.in-Ok.most c.begin.new.self.controller c.args.tiers.now (seen c.begin.new.own) c.rounds_beside.result c.rounds_beside.new.control.controller c.rounds_beside.new.tiers (seen c.rounds_beside.new.own)) c.begin.ensures.access c.rounds_beside.ensures.ran,
     )

@@ -10,6 +10,7 @@ pub mod multi;
 pub mod rounds;
 pub mod rules;
 pub mod run;
+pub mod run_beside;
 mod step;
 mod tiers;
 mod turn;

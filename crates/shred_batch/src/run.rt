@@ -39,7 +39,7 @@ impl<V: ResourceValue, S: SystemOf<V, E>, C: ControllerOf<V, E>, E> Rules<
 }
 
 // One step of a system.
-fn step_system<V: ResourceValue, S: SystemOf<V, E>, E>(
+pub(crate) fn step_system<V: ResourceValue, S: SystemOf<V, E>, E>(
     system: &mut S,
     place: &Place<V>,
     own: &mut Table<V>,

@@ -1,6 +1,6 @@
 -- A batch that runs over all values runs in the same way over those alone that it declares.
 use Rattle.std.proofs.Common.{◌≡◌, ℕ, zero, suc, Bool, true, false, cond, ◌||◌, List, [], ◌∷◌, Option, None, Ok, Err, Contains, inl, inr, refl, sym, ap, subst, subst₂}
-use Rattle.std.specs.List.{AllByRecursion, flat_map, list_any}
+use Rattle.std.specs.List.{AllByRecursion, list_any}
 use Rattle.std.specs.Option.{option_map}
 use Rattle.std.proofs.Math.Path.{fun_ext}
 use Rattle.std.proofs.lemmas.List.Elements.{Contains-append_left, Contains-append_right}
@@ -18,7 +18,7 @@ use Rattle.shred_table.specs.Slots.{among}
 use Rattle.shred_table.proofs.Tables.Ids.{among-contains}
 use Rattle.shred_world.specs.Worked.{Held}
 use Rattle.shred_group.specs.declared.dispatch.run.StageFault.{StageFault}
-use Rattle.shred_group.specs.Entries.{EntryRun, GroupRun, StageRun, StageTurn}
+use Rattle.shred_group.specs.Entries.{EntryRun, GroupRun, StageTurn}
 use Rattle.shred_group.specs.Sides.{group_side, stage_side}
 use Rattle.shred_group.specs.declared.dispatch.entry.Side.TheVariants.{Reads}
 use Rattle.shred_group.specs.Steps.{Outcome, Step, Written, declared_of}

@@ -1,4 +1,4 @@
-use Rattle.std.proofs.Common.{◌≡◌, ℕ, suc, ◌-◌, arith, subst, sym, ap}
+use Rattle.std.proofs.Common.{arith}
 use Rattle.shred_batch.proofs.run.+in_order.Goals as goal
 
 pub step-step_in_order-requires : goal.step-step_in_order-requires

@@ -1,4 +1,4 @@
-use Rattle.std.proofs.Common.{◌≡◌, ℕ, suc, ◌-◌, arith, sym, ap, subst}
+use Rattle.std.proofs.Common.{◌≡◌, suc, ◌-◌, arith, sym, ap, subst}
 use Rattle.shred_world.specs.Views.{lent_slot}
 use Rattle.shred_batch.specs.Depths.{Owns, WorkStep}
 use Rattle.shred_batch.specs.Steppers.{IsStepBy}

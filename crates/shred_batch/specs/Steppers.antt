@@ -22,7 +22,7 @@ pub record IsStepBy {V X E : Type 0} (kind : V → Kind) (own : X → List Resou
   pub own_lists : own new reads writes
 
 module _ (V X E : Type 0) (kind : V → Kind) (own : X → List ResourceId → List ResourceId → Type 0) (step : Step V X E) where
-  -- The closure may be called over a table that has a slot for each written id, and no other, and each call is a step.
+  -- The closure may be called over a table that has slots of written ids alone, and one for each for which one is lent, and each call is a step.
   pub record IsStepper (pre : MutBor X → Bor (Place V) → MutBor (Table V) → Type 0) (post : MutBor X → Bor (Place V) → MutBor (Table V) → Outcome E → MutBor X → MutBor (Table V) → Type 0) : Type 0 where
     pub accepts : (x : MutBor X) (p : Bor (Place V)) (t : MutBor (Table V)) → own x.now p.now.reads.now p.now.writes.now → HasOwnSlots p.now.writes.now (lent_slot p.now.shelf.now) t.now → HasOnlySlots p.now.writes.now t.now → pre x p t
     pub steps : (x y : MutBor X) (p : Bor (Place V)) (t u : MutBor (Table V)) (o : Outcome E) → own x.now p.now.reads.now p.now.writes.now → HasOwnSlots p.now.writes.now (lent_slot p.now.shelf.now) t.now → HasOnlySlots p.now.writes.now t.now

@@ -119,9 +119,10 @@ fn run_in_order<
     }
 }
 
-/// A run of a batch over `own`, which has a slot for each id of `writes` and no other, with what is only read lent shared
-/// behind it by `shelf`; `reads` and `writes` are the lists of the batch's entry. The groups of its tiers run one after the other on
-/// the caller's thread. `run` makes one step of what stands in an entry of the inner plan, and `rules` says what such a step is.
+/// A run of a batch over `own`, which has slots of ids of `writes` alone, and one for each for which one is lent; what is only
+/// read is lent shared behind it by `shelf`. `reads` and `writes` are the lists of the batch's entry. The groups of its tiers
+/// run one after the other on the caller's thread. `run` makes one step of what stands in an entry of the inner plan, and
+/// `rules` says what such a step is.
 pub fn batch_in_order<
     V: ResourceValue + Drop,
     S,

@@ -120,8 +120,9 @@ fn step_work<
     }
 }
 
-/// One step of a system, or a run of a batch whose batches nest less deep than `depth`, over `own`, which has a slot for each
-/// written id and no other. The groups of an inner plan run one after the other on the caller's thread.
+/// One step of a system, or a run of a batch whose batches nest less deep than `depth`, over `own`, which has slots of written
+/// ids alone, and one for each for which one is lent. The groups of an inner plan run one after the other on the caller's
+/// thread.
 #[cycle(in_order)]
 pub fn step_in_order<V: ResourceValue + Drop, S: SystemOf<V, E>, C: ControllerOf<V, E>, E: Drop>(
     depth: usize,

@@ -20,7 +20,7 @@ pub returns : goal.returns
 returns g c =
     let was = c.args.batch.now.tiers in
     let seen = shown g.V.ResourceValue.kind_of (lent_slot c.args.shelf.now) in
-    let same : length c.run_in_order.new.tiers ≡ was.len = search rules in
+    let same : length c.run_in_order.new.tiers ≡ was.len = c.run_in_order.auto.tiers ∙ c.as_mut_slice.ensures.len in
     let put = with_items_is was c.run_in_order.new.tiers same in
     let went = rw c.as_mut_slice.ensures.value at c.run_in_order.ensures in
     record {

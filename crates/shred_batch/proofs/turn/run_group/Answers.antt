@@ -19,7 +19,7 @@ use Rattle.shred_batch.proofs.turn.run_group.Goals as goal
 pub run_entries-requires : goal.run_entries-requires
 run_entries-requires g c =
     let same = sym c.as_mut_slice.ensures.value in
-    let ids : c.as_slice.result.now ≡ c.args.group.now.written.items = search rules in
+    let ids : c.as_slice.result.now ≡ c.args.group.now.written.items = c.as_slice.ensures.value in
     let counted : c.len-single.result ≡ length c.args.group.now.entries.items = search rules in
     (omega arith, (c.requires.stepper, (subst (All (IsEntryOf (g.T.Rules.own c.args.rules.now))) same c.requires.ready.own_lists, (subst (λ (entries : List (SystemEntry g.row.V.Denot (Work g.row.S.Denot (Nested g.row.V.Denot g.row.S.Denot g.row.C.Denot)))). HasGroupSlots (lent_slot c.args.shelf.now) c.args.group.now.hand (map entry_plan entries)) same c.requires.ready.own_slots, (subst (λ (ids : List ResourceId). HasJustSlots ids c.args.group.now.hand) (sym ids) c.requires.ready.just_slots, subst₂ (λ n (entries : List (SystemEntry g.row.V.Denot (Work g.row.S.Denot (Nested g.row.V.Denot g.row.S.Denot g.row.C.Denot)))). All (HasPlace (n == 1) c.args.group.now.hand) entries) (sym counted) same c.requires.ready.places)))))
 
@@ -27,7 +27,7 @@ pub returns : goal.returns
 returns g c =
     let was = c.args.group.now.entries in
     let seen = shown g.V.ResourceValue.kind_of (lent_slot c.args.shelf.now) in
-    let same : length c.run_entries.new.entries ≡ was.len = search rules in
+    let same : length c.run_entries.new.entries ≡ was.len = c.run_entries.auto.entries ∙ c.as_mut_slice.ensures.len in
     let put = with_items_is was c.run_entries.new.entries same in
     let went = rw c.as_mut_slice.ensures.value at c.run_entries.ensures in
     record {

@@ -1,5 +1,5 @@
 -- What may stand in an entry where batches nest to a depth: which lists it is kept with, and what a step of it is.
-use Rattle.std.specs.Prelude.{◌≡◌, ℕ, zero, suc, Bool, List}
+use Rattle.std.specs.Prelude.{◌≡◌, ℕ, zero, suc, Bool, List, map}
 use Rattle.shred_table.specs.declared.id.Kind.{Kind}
 use Rattle.shred_table.specs.declared.id.ResourceId.{ResourceId}
 use Rattle.shred_world.specs.Worked.{Held}
@@ -8,7 +8,7 @@ use Rattle.shred_group.specs.Steps.{Outcome, Step}
 use Rattle.shred_batch.specs.ControlEntries.{control_access}
 use Rattle.shred_batch.specs.Controls.{Control}
 use Rattle.shred_batch.specs.Rounds.{BatchRun}
-use Rattle.shred_batch.specs.Works.{InnerRun, IsBatchWithin, tiers_plan}
+use Rattle.shred_batch.specs.Works.{InnerRun, IsBatchWithin, tier_numbers, tiers_plan}
 use Rattle.shred_batch.specs.declared.work.Batch.{Batch as OneBatch}
 use Rattle.shred_batch.specs.declared.work.Nested.{Nested}
 use Rattle.shred_batch.specs.declared.work.Nested.TheViews.{out-Nested}
@@ -44,6 +44,7 @@ pub record BatchStep {V C X E : Type 0} (kind : V → Kind) (begins : Control V 
   pub run : BatchRun kind asks (control_access old.control) (InnerRun kind inner) begins old.control.controller old.tiers.items before outcome new.control.controller new.tiers.items after
   pub same_access : control_access new.control ≡ control_access old.control
   pub same_plan : tiers_plan new.tiers.items ≡ tiers_plan old.tiers.items
+  pub same_ids : map tier_numbers new.tiers.items ≡ map tier_numbers old.tiers.items
 
 module _ {V S C E : Type 0} (kind : V → Kind) (related : Related V S C E) where
   -- A step of a system lies in its relation; a step of a batch is a run of it, whose inner steps are those of batches that nest less deep.

@@ -1,5 +1,5 @@
 -- Inner plans of batches: which lists they are within, and what a run of one is.
-use Rattle.std.specs.Prelude.{◌≡◌, ◌||◌, true, List, map, All}
+use Rattle.std.specs.Prelude.{◌≡◌, ◌||◌, ℕ, true, List, map, All}
 use Rattle.shred_model.specs.Beside.{AreApart}
 use Rattle.shred_model.specs.Plan as model
 use Rattle.shred_model.specs.Plan.{group_access}
@@ -15,7 +15,7 @@ use Rattle.shred_group.specs.declared.dispatch.run.StageFault.{StageFault}
 use Rattle.shred_group.specs.Entries.{StageTurn, group_states}
 use Rattle.shred_group.specs.Hands.{KeepsRoom, some_writes}
 use Rattle.shred_group.specs.OwnLists.{IsGroupOf}
-use Rattle.shred_group.specs.PlanOf.{groups_plan}
+use Rattle.shred_group.specs.PlanOf.{group_numbers, groups_plan}
 use Rattle.shred_group.specs.Sides.{stage_side}
 use Rattle.shred_group.specs.declared.dispatch.entry.Side.TheVariants.{Reads}
 use Rattle.shred_group.specs.Steps.{Step}
@@ -52,7 +52,12 @@ module _ {V C X : Type 0} (control_reads control_writes : C → List ResourceId)
     pub writes_within : (id : ResourceId) → among batch.control.writes.items id ≡ true → among writes id ≡ true
     pub tiers : All (IsTierWithin own reads writes) batch.tiers.items
 
--- A run of an inner plan: its tiers' turns, in order, up to the first that is not Done. The plan stays.
+-- the ids beside the groups of a tier
+abbrev pub tier_numbers : {V X : Type 0} → Tier V X → List (List ℕ)
+tier_numbers tier = map group_numbers tier.groups.items
+
+-- A run of an inner plan: its tiers' turns, in order, up to the first that is not Done. The plan stays, and the ids beside its groups.
 pub record InnerRun {V X E : Type 0} (kind : V → Kind) (step : Step V X E) (tiers : List (Tier V X)) (before : Held V) (answer : Answer (StageFault E)) (news : List (Tier V X)) (after : Held V) : Type 0 where
   pub ran : Ran (RunsUpToFault (λ place. StageTurn kind step) 0 (tiers_plan tiers)) (configuration_of (listed_states tier_states tiers) before) answer (configuration_of (listed_states tier_states news) after)
   pub same_plan : tiers_plan news ≡ tiers_plan tiers
+  pub same_ids : map tier_numbers news ≡ map tier_numbers tiers

@@ -1,5 +1,5 @@
 -- Steps of what stands in entries: of a system, and of a batch whose batches nest less deep.
-use Rattle.std.proofs.Common.{◌≡◌, ℕ, zero, suc, Bool, true, false, ◌||◌, List, [], ◌∷◌, refl, sym, ◌∙◌, subst}
+use Rattle.std.proofs.Common.{◌≡◌, ℕ, zero, suc, Bool, true, false, ◌||◌, List, [], ◌∷◌, refl, sym, ◌∙◌, subst, map}
 use Rattle.std.specs.List.{AllByRecursion}
 use Rattle.std.proofs.lemmas.List.Elements.{recursion_from_All}
 use Rattle.shred_table.specs.declared.id.Kind.{Kind}
@@ -16,13 +16,14 @@ use Rattle.shred_batch.specs.BatchRuns.{RanAsBatch}
 use Rattle.shred_batch.specs.ControlEntries.{control_access}
 use Rattle.shred_batch.specs.Depths.{Declared, Related, Owns, WorkStep, batch_of}
 use Rattle.shred_batch.specs.Steppers.{IsStepBy}
-use Rattle.shred_batch.specs.Works.{IsTierWithin, IsBatchWithin, tier_plan, tiers_plan}
+use Rattle.shred_batch.specs.Works.{InnerRun, IsTierWithin, IsBatchWithin, tier_numbers, tier_plan, tiers_plan}
 use Rattle.shred_batch.specs.declared.work.Batch.{Batch as OneBatch}
 use Rattle.shred_batch.specs.declared.work.Nested.{Nested}
 use Rattle.shred_batch.specs.declared.work.Tier.{Tier}
 use Rattle.shred_batch.specs.declared.work.Work.{Work}
 use Rattle.shred_batch.specs.declared.work.Work.TheVariants.{System, Batch}
 use Rattle.shred_batch.proofs.Runs.Restricted.{declares, IsPlanCovered, stage-covered, batch-restricted}
+use Rattle.shred_batch.proofs.Turns.Rounds.{batch_keeps}
 use Rattle.shred_batch.proofs.Turns.Tiers.{written-by_plan}
 
 or-right : (b c : Bool) → c ≡ true → (b || c) ≡ true
@@ -87,6 +88,7 @@ module _ {V S C : Type 0} (declared : Declared S C) (reads writes : List Resourc
                 (tiers-covered (Owns declared less) reads writes batch.tiers.items (recursion_from_All _ batch.tiers.items within.tiers)) ran.run;
             same_access = ran.same_access;
             same_plan = ran.same_plan;
+            same_ids = batch_keeps kind related.asks (control_access batch.control) (InnerRun kind (WorkStep kind related less)) (map tier_numbers) (λ p m answer r l inner. inner.same_ids) related.begins batch.control.controller batch.tiers.items (shown kind lent before) outcome (batch_of left).control.controller (batch_of left).tiers.items (shown kind lent after) ran.run;
           };
           kinds = ran.kinds;
           slots = ran.slots;

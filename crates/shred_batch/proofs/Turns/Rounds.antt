@@ -1,5 +1,5 @@
 -- Rounds of a batch: what a call of the controller, and a run of the inner plan, make of the rounds that are left.
-use Rattle.std.proofs.Common.{◌≡◌, ℕ, suc, Bool, true, false, Ok, Err, refl, sym, ◌∙◌, subst}
+use Rattle.std.proofs.Common.{◌≡◌, ℕ, zero, suc, Bool, true, false, Ok, Err, refl, sym, ◌∙◌, ap, subst}
 use Rattle.shred_model.specs.Access.{Access}
 use Rattle.shred_model.specs.Runs.{Answer}
 use Rattle.shred_table.specs.declared.id.Kind.{Kind}
@@ -9,7 +9,7 @@ use Rattle.shred_group.specs.declared.dispatch.run.StageFault.{StageFault}
 use Rattle.shred_group.specs.declared.system.Fault.{Fault}
 use Rattle.shred_group.specs.Steps.{Outcome}
 use Rattle.shred_batch.specs.Controls.{Control}
-use Rattle.shred_batch.specs.Rounds.{IsControlOver, Rounds, fault_within}
+use Rattle.shred_batch.specs.Rounds.{IsControlOver, Rounds, BatchRun, fault_within}
 
 module _ {V C P E : Type 0} (kind : V → Kind) (asks : Control V C Bool E) (access : Access ResourceId) (Inner : P → Held V → Answer (StageFault E) → P → Held V → Type 0) where
   -- where none is left, the batch is Done
@@ -33,6 +33,20 @@ module _ {V C P E : Type 0} (kind : V → Kind) (asks : Control V C Bool E) (acc
       -- a round that is Done is followed by those that are left
       pub on-yes : Inner p k (Ok tt) r l → (o : Outcome E) (d : C) (q : P) (n : Held V) → Rounds kind asks access Inner more e r l o d q n → Rounds kind asks access Inner left c p m o d q n
       on-yes inner o d q n rest = subst (λ s. Rounds kind asks access Inner s c p m o d q n) (sym is) (Ok true, e, k, one, (Ok tt, r, l, inner, rest))
+
+module _ {V C P E : Type 0} (kind : V → Kind) (asks : Control V C Bool E) (access : Access ResourceId) (Inner : P → Held V → Answer (StageFault E) → P → Held V → Type 0)
+    {K : Type 0} (view : P → K) (kept : (p : P) (m : Held V) (a : Answer (StageFault E)) (r : P) (l : Held V) → Inner p m a r l → view r ≡ view p) where
+  rounds_keep : (left : ℕ) (c : C) (p : P) (m : Held V) (o : Outcome E) (d : C) (q : P) (n : Held V) → Rounds kind asks access Inner left c p m o d q n → view q ≡ view p
+  rounds_keep zero c p m o d q n (is, one, same, two) = ap view same
+  rounds_keep (suc more) c p m o d q n (Ok true, e, k, one, (Ok tt, r, l, inner, rest)) = rounds_keep more e r l o d q n rest ∙ kept p k (Ok tt) r l inner
+  rounds_keep (suc more) c p m o d q n (Ok true, e, k, one, (Err fault, r, l, inner, (is, two, same, three))) = ap view same ∙ kept p k (Err fault) r l inner
+  rounds_keep (suc more) c p m o d q n (Ok false, e, k, one, (is, two, same, three)) = ap view same
+  rounds_keep (suc more) c p m o d q n (Err fault, e, k, one, (is, two, same, three)) = ap view same
+
+  -- what each run of the inner plan keeps of it, the batch's run keeps
+  pub batch_keeps : (begins : Control V C ℕ E) (c : C) (p : P) (m : Held V) (o : Outcome E) (d : C) (q : P) (n : Held V) → BatchRun kind asks access Inner begins c p m o d q n → view q ≡ view p
+  batch_keeps begins c p m o d q n (Ok most, e, k, one, rest) = rounds_keep most e p k o d q n rest
+  batch_keeps begins c p m o d q n (Err fault, e, k, one, (is, two, same, three)) = ap view same
 
 -- what is not among the written ids is not among those of the controller, which are within them
 pub not-within : (inner outer : Bool) → (inner ≡ true → outer ≡ true) → outer ≡ false → inner ≡ false

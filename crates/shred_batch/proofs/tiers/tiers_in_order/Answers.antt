@@ -7,13 +7,14 @@ use Rattle.shred_table.specs.Shown.{shown}
 use Rattle.shred_world.specs.Views.{lent_slot}
 use Rattle.shred_group.specs.Entries.{StageTurn}
 use Rattle.shred_group.proofs.Runs.Viewed.{still_has_slots, still_only_slots}
-use Rattle.shred_batch.specs.Works.{IsTierWithin, tier_plan, tiers_plan, tier_states}
+use Rattle.shred_batch.specs.Works.{IsTierWithin, tier_numbers, tier_plan, tiers_plan, tier_states}
 use Rattle.shred_batch.proofs.Turns.Tiers.{within-after, frame-after}
 use Rattle.shred_batch.proofs.tiers.tiers_in_order.Goals as goal
 
 pub loop-tier-init : goal.loop-tier-init
 loop-tier-init g c = record {
   plan = refl;
+  ids = refl;
   within = c.requires.within;
   kinds = λ id. refl;
   slots = λ id. refl;
@@ -41,6 +42,7 @@ returns-in-Err-clause-ran g c = record {
   ran = SoFar-fault (λ place. StageTurn g.V.ResourceValue.kind_of (g.T.Rules.step c.args.rules.now)) tier_plan tier_states c.loop-tier.tiers (shown g.V.ResourceValue.kind_of (lent_slot c.args.shelf.now) c.loop-tier.own)
       c.loop-tier.invariant.plan c.loop-tier.invariant.ran c.tier-item.result c.tier_in_order.new.tier (shown g.V.ResourceValue.kind_of (lent_slot c.args.shelf.now) c.tier_in_order.new.own) (omega arith) c.in-Err.fault c.in-Err.ensures.took.ran;
   same_plan = map-set_same tier_plan c.loop-tier.tiers c.loop-tier.tier-index c.tier_in_order.new.tier c.tier-item.result c.in-Err.ensures.took.plan ∙ c.loop-tier.invariant.plan;
+  same_ids = map-set_same tier_numbers c.loop-tier.tiers c.loop-tier.tier-index c.tier_in_order.new.tier c.tier-item.result c.in-Err.ensures.took.ids ∙ c.loop-tier.invariant.ids;
 }
 
 pub returns-in-Err-clause-plan : goal.returns-in-Err-clause-plan
@@ -69,6 +71,7 @@ loop-tier-preserved g c =
     let here = c.loop-tier.invariant.within c.loop-tier.tier-index c.tier-item.result (omega arith) in
     record {
       plan = map-set_same tier_plan c.loop-tier.tiers c.loop-tier.tier-index c.tier_in_order.new.tier c.tier-item.result c.in_default.ensures.took.plan ∙ c.loop-tier.invariant.plan;
+      ids = map-set_same tier_numbers c.loop-tier.tiers c.loop-tier.tier-index c.tier_in_order.new.tier c.tier-item.result c.in_default.ensures.took.ids ∙ c.loop-tier.invariant.ids;
       within = All-set (IsTierWithin (g.T.Rules.own c.args.rules.now) c.args.reads.now c.args.writes.now) c.loop-tier.tiers c.loop-tier.tier-index c.tier_in_order.new.tier
           (within-after g.V.ResourceValue.kind_of (g.T.Rules.own c.args.rules.now) (g.T.Rules.step c.args.rules.now) c.args.reads.now c.args.writes.now (lent_slot c.args.shelf.now) _ c.loop-tier.own _ c.tier_in_order.new.tier c.tier_in_order.new.own here c.in_default.ensures) c.loop-tier.invariant.within;
       kinds = λ id. c.in_default.ensures.took.kinds id ∙ c.loop-tier.invariant.kinds id;
@@ -85,4 +88,5 @@ returns-clause-ran g c = record {
   ran = SoFar-end (λ place. StageTurn g.V.ResourceValue.kind_of (g.T.Rules.step c.args.rules.now)) tier_plan tier_states c.loop-tier.tiers (shown g.V.ResourceValue.kind_of (lent_slot c.args.shelf.now) c.loop-tier.own)
       c.loop-tier.invariant.plan c.loop-tier.invariant.ran (omega arith);
   same_plan = c.loop-tier.invariant.plan;
+  same_ids = c.loop-tier.invariant.ids;
 }

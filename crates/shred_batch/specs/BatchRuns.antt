@@ -7,7 +7,7 @@ use Rattle.shred_table.specs.declared.table.Table.{Table}
 use Rattle.shred_table.specs.Shown.{Lent, shown, IsSameSlots}
 use Rattle.shred_table.specs.Slots.{among}
 use Rattle.shred_group.specs.Steps.{Outcome, Step}
-use Rattle.shred_batch.specs.ControlEntries.{control_access}
+use Rattle.shred_batch.specs.KeptControllers.{control_access}
 use Rattle.shred_batch.specs.Controls.{Control}
 use Rattle.shred_batch.specs.Rounds.{BatchRun}
 use Rattle.shred_batch.specs.Works.{InnerRun, IsBatchWithin, tiers_plan}

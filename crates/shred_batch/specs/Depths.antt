@@ -5,7 +5,7 @@ use Rattle.shred_table.specs.declared.id.ResourceId.{ResourceId}
 use Rattle.shred_world.specs.Worked.{Held}
 use Rattle.shred_group.specs.OwnLists.{declared_lists}
 use Rattle.shred_group.specs.Steps.{Outcome, Step}
-use Rattle.shred_batch.specs.ControlEntries.{control_access}
+use Rattle.shred_batch.specs.KeptControllers.{control_access}
 use Rattle.shred_batch.specs.Controls.{Control}
 use Rattle.shred_batch.specs.Rounds.{BatchRun}
 use Rattle.shred_batch.specs.Works.{InnerRun, IsBatchWithin, tier_numbers, tiers_plan}

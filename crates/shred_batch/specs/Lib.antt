@@ -1,6 +1,6 @@
 pub mod BatchRuns
 pub mod Controls
-pub mod ControlEntries
+pub mod KeptControllers
 pub mod Depths
 pub mod Multi
 pub mod Rounds

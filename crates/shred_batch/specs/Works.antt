@@ -19,7 +19,7 @@ use Rattle.shred_group.specs.PlanOf.{group_numbers, groups_plan}
 use Rattle.shred_group.specs.Sides.{stage_side}
 use Rattle.shred_group.specs.declared.dispatch.entry.Side.TheVariants.{Reads}
 use Rattle.shred_group.specs.Steps.{Step}
-use Rattle.shred_batch.specs.ControlEntries.{IsOwnControl}
+use Rattle.shred_batch.specs.KeptControllers.{IsOwnControl}
 use Rattle.shred_batch.specs.declared.work.Batch.{Batch}
 use Rattle.shred_batch.specs.declared.work.Tier.{Tier}
 

@@ -1,7 +1,7 @@
 //! A batch's controller, with what was kept of it, and its calls over a table that lies before what is lent shared.
 ghost use Rattle.std.specs.Prelude.{◌≡◌, true, false};
 ghost use Rattle.std.specs.Option.{option_map};
-ghost use Rattle.shred_batch.specs.ControlEntries.{control_access, IsOwnControl};
+ghost use Rattle.shred_batch.specs.KeptControllers.{control_access, IsOwnControl};
 ghost use Rattle.shred_batch.specs.Rounds.{IsControlOver};
 ghost use Rattle.shred_group.specs.Kept.{AreOwnLists};
 ghost use Rattle.shred_group.specs.OwnSlots.{lent_before, HasOnlySlots};
@@ -20,7 +20,7 @@ use shred_world::{ResourceId, ResourceValue, Shelf, Table, View};
 /// A controller, with the two lists that it declares, and a slot for each id that it writes, into which the value is moved
 /// while it is called.
 #[derive(Drop)]
-pub struct ControlEntry<V, C> {
+pub struct KeptController<V, C> {
     pub controller: C,
     pub reads: Vec<ResourceId>,
     pub writes: Vec<ResourceId>,
@@ -50,7 +50,7 @@ fn begin_over<'s, V: ResourceValue, C: ControllerOf<V, E>, E>(
 
 // The same, over the controller's hand, while the table is lent shared.
 fn begin_in_hand<V: ResourceValue, C: ControllerOf<V, E>, E>(
-    entry: &mut ControlEntry<V, C>,
+    entry: &mut KeptController<V, C>,
     writes: &[ResourceId],
     shelf: &[Shelf<V>; 1],
     own: &Table<V>,
@@ -101,7 +101,7 @@ fn ask_over<'s, V: ResourceValue, C: ControllerOf<V, E>, E>(
 
 // The same, over the controller's hand, while the table is lent shared.
 fn ask_in_hand<V: ResourceValue, C: ControllerOf<V, E>, E>(
-    entry: &mut ControlEntry<V, C>,
+    entry: &mut KeptController<V, C>,
     writes: &[ResourceId],
     shelf: &[Shelf<V>; 1],
     own: &Table<V>,
@@ -129,7 +129,7 @@ fn ask_in_hand<V: ResourceValue, C: ControllerOf<V, E>, E>(
     )
 }
 
-impl<V: ResourceValue + Drop, C> ControlEntry<V, C> {
+impl<V: ResourceValue + Drop, C> KeptController<V, C> {
     /// One call of `begin`. What the controller writes is moved into its hand before, and back after, so all else can be
     /// lent shared.
     pub(crate) fn begin<E>(

@@ -1,7 +1,7 @@
 //! Runs of a batch: its controller begins, and then the rounds follow, on the caller's thread.
 ghost use Rattle.std.specs.Prelude.{◌≡◌, ◌||◌, All, false, true};
 ghost use Rattle.std.specs.Option.{option_map};
-ghost use Rattle.shred_batch.specs.ControlEntries.{control_access, IsOwnControl};
+ghost use Rattle.shred_batch.specs.KeptControllers.{control_access, IsOwnControl};
 ghost use Rattle.shred_batch.specs.Rounds.{BatchRun, Rounds, fault_within};
 ghost use Rattle.shred_batch.specs.BatchRuns.{RanAsBatch};
 ghost use Rattle.shred_batch.specs.Steppers.{IsStepper};
@@ -15,8 +15,8 @@ ghost use Rattle.shred_table.specs.Slots.{among};
 ghost use Rattle.shred_world.specs.Views.{lent_slot};
 
 use crate::by_error::ControllerOf;
-use crate::control::ControlEntry;
-use crate::rules::{Place, Rules};
+use crate::control::KeptController;
+use crate::rules::{Loan, Rules};
 use crate::tiers::tiers_in_order;
 use crate::work::{Batch, Nested, Tier, Work};
 use shred_group::{Fault, StageFault};
@@ -39,29 +39,29 @@ fn rounds_in_order<
     C: ControllerOf<V, E>,
     E: Drop,
     T: Rules<V, Work<S, Nested<V, S, C>>, E>,
-    F: Fn(&mut Work<S, Nested<V, S, C>>, &Place<'_, V>, &mut Table<V>) -> Result<(), Fault<E>>,
+    F: Fn(&mut Work<S, Nested<V, S, C>>, &Loan<'_, V>, &mut Table<V>) -> Result<(), Fault<E>>,
 >(
     rules: &T,
     run: &F,
     reads: &[ResourceId],
     writes: &[ResourceId],
     shelf: &[Shelf<V>; 1],
-    control: &mut ControlEntry<V, C>,
+    control: &mut KeptController<V, C>,
     tiers: &mut [Tier<V, Work<S, Nested<V, S, C>>>],
     own: &mut Table<V>,
     most: usize,
 ) -> Result<(), Fault<E>>
-    requires stepper { IsStepper V (Work S (Nested V S C)) E V.kind_of (T.own rules.now) (T.step rules.now) (F.pre run.now) (F.post run.now) }
+    requires stepper { IsStepper V (Work S (Nested V S C)) E V.kind_of (T.may_keep rules.now) (T.step rules.now) (F.pre run.now) (F.post run.now) }
     requires own_slots { HasOwnSlots writes.now (lent_slot shelf.now) own.old }
     requires only_own { HasOnlySlots writes.now own.old }
     requires control { IsOwnControl C.its_reads C.its_writes control.old }
     requires writes_within { (id : ResourceId) → among control.old.writes.items id ≡ true → among writes.now id ≡ true }
-    requires within { All (IsTierWithin (T.own rules.now) reads.now writes.now) tiers.old }
+    requires within { All (IsTierWithin (T.may_keep rules.now) reads.now writes.now) tiers.old }
     ensures ran { Rounds V.kind_of C.asks (control_access control.old) (InnerRun V.kind_of (T.step rules.now)) most control.old.controller tiers.old (shown V.kind_of (lent_slot shelf.now) own.old) result control.new.controller tiers.new (shown V.kind_of (lent_slot shelf.now) own.new) }
     ensures plan { tiers_plan tiers.new ≡ tiers_plan tiers.old }
     ensures access { control_access control.new ≡ control_access control.old }
     ensures control { IsOwnControl C.its_reads C.its_writes control.new }
-    ensures within { All (IsTierWithin (T.own rules.now) reads.now writes.now) tiers.new }
+    ensures within { All (IsTierWithin (T.may_keep rules.now) reads.now writes.now) tiers.new }
     ensures kinds { (id : ResourceId) → option_map V.kind_of (shown V.kind_of (lent_slot shelf.now) own.new id) ≡ option_map V.kind_of (shown V.kind_of (lent_slot shelf.now) own.old id) }
     ensures slots { IsSameSlots own.old own.new }
     ensures frame { (id : ResourceId) → among writes.now id ≡ false → shown V.kind_of (lent_slot shelf.now) own.new id ≡ shown V.kind_of (lent_slot shelf.now) own.old id }
@@ -87,28 +87,28 @@ fn run_in_order<
     C: ControllerOf<V, E>,
     E: Drop,
     T: Rules<V, Work<S, Nested<V, S, C>>, E>,
-    F: Fn(&mut Work<S, Nested<V, S, C>>, &Place<'_, V>, &mut Table<V>) -> Result<(), Fault<E>>,
+    F: Fn(&mut Work<S, Nested<V, S, C>>, &Loan<'_, V>, &mut Table<V>) -> Result<(), Fault<E>>,
 >(
     rules: &T,
     run: &F,
     reads: &[ResourceId],
     writes: &[ResourceId],
     shelf: &[Shelf<V>; 1],
-    control: &mut ControlEntry<V, C>,
+    control: &mut KeptController<V, C>,
     tiers: &mut [Tier<V, Work<S, Nested<V, S, C>>>],
     own: &mut Table<V>,
 ) -> Result<(), Fault<E>>
-    requires stepper { IsStepper V (Work S (Nested V S C)) E V.kind_of (T.own rules.now) (T.step rules.now) (F.pre run.now) (F.post run.now) }
+    requires stepper { IsStepper V (Work S (Nested V S C)) E V.kind_of (T.may_keep rules.now) (T.step rules.now) (F.pre run.now) (F.post run.now) }
     requires own_slots { HasOwnSlots writes.now (lent_slot shelf.now) own.old }
     requires only_own { HasOnlySlots writes.now own.old }
     requires control { IsOwnControl C.its_reads C.its_writes control.old }
     requires writes_within { (id : ResourceId) → among control.old.writes.items id ≡ true → among writes.now id ≡ true }
-    requires within { All (IsTierWithin (T.own rules.now) reads.now writes.now) tiers.old }
+    requires within { All (IsTierWithin (T.may_keep rules.now) reads.now writes.now) tiers.old }
     ensures ran { BatchRun V.kind_of C.asks (control_access control.old) (InnerRun V.kind_of (T.step rules.now)) C.begins control.old.controller tiers.old (shown V.kind_of (lent_slot shelf.now) own.old) result control.new.controller tiers.new (shown V.kind_of (lent_slot shelf.now) own.new) }
     ensures plan { tiers_plan tiers.new ≡ tiers_plan tiers.old }
     ensures access { control_access control.new ≡ control_access control.old }
     ensures control { IsOwnControl C.its_reads C.its_writes control.new }
-    ensures within { All (IsTierWithin (T.own rules.now) reads.now writes.now) tiers.new }
+    ensures within { All (IsTierWithin (T.may_keep rules.now) reads.now writes.now) tiers.new }
     ensures kinds { (id : ResourceId) → option_map V.kind_of (shown V.kind_of (lent_slot shelf.now) own.new id) ≡ option_map V.kind_of (shown V.kind_of (lent_slot shelf.now) own.old id) }
     ensures slots { IsSameSlots own.old own.new }
     ensures frame { (id : ResourceId) → among writes.now id ≡ false → shown V.kind_of (lent_slot shelf.now) own.new id ≡ shown V.kind_of (lent_slot shelf.now) own.old id }
@@ -129,7 +129,7 @@ pub fn batch_in_order<
     C: ControllerOf<V, E>,
     E: Drop,
     T: Rules<V, Work<S, Nested<V, S, C>>, E>,
-    F: Fn(&mut Work<S, Nested<V, S, C>>, &Place<'_, V>, &mut Table<V>) -> Result<(), Fault<E>>,
+    F: Fn(&mut Work<S, Nested<V, S, C>>, &Loan<'_, V>, &mut Table<V>) -> Result<(), Fault<E>>,
 >(
     rules: &T,
     run: &F,
@@ -139,11 +139,11 @@ pub fn batch_in_order<
     batch: &mut Batch<V, C, Work<S, Nested<V, S, C>>>,
     own: &mut Table<V>,
 ) -> Result<(), Fault<E>>
-    requires stepper { IsStepper V (Work S (Nested V S C)) E V.kind_of (T.own rules.now) (T.step rules.now) (F.pre run.now) (F.post run.now) }
+    requires stepper { IsStepper V (Work S (Nested V S C)) E V.kind_of (T.may_keep rules.now) (T.step rules.now) (F.pre run.now) (F.post run.now) }
     requires own_slots { HasOwnSlots writes.now (lent_slot shelf.now) own.old }
     requires only_own { HasOnlySlots writes.now own.old }
-    requires within { IsBatchWithin C.its_reads C.its_writes (T.own rules.now) reads.now writes.now batch.old }
-    ensures { RanAsBatch V.kind_of (T.own rules.now) (T.step rules.now) C.its_reads C.its_writes C.begins C.asks reads.now writes.now (lent_slot shelf.now) batch.old own.old result batch.new own.new }
+    requires within { IsBatchWithin C.its_reads C.its_writes (T.may_keep rules.now) reads.now writes.now batch.old }
+    ensures { RanAsBatch V.kind_of (T.may_keep rules.now) (T.step rules.now) C.its_reads C.its_writes C.begins C.asks reads.now writes.now (lent_slot shelf.now) batch.old own.old result batch.new own.new }
 {
     run_in_order(
         rules,

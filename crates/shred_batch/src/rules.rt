@@ -8,14 +8,14 @@ use shred_world::{ResourceId, Shelf};
 pub trait Rules<V, X, E> {
     ghost use Rattle.shred_group.specs.Steps.{Step};
 
-    ghost own: { Self → X → List ResourceId → List ResourceId → Type 0 };
+    ghost may_keep: { Self → X → List ResourceId → List ResourceId → Type 0 };
 
     ghost step: { Self → Step V X E };
 }
 
 /// The two lists of an entry, and what is lent shared to its step.
 #[derive(Drop)]
-pub struct Place<'s, V> {
+pub struct Loan<'s, V> {
     pub reads: &'s [ResourceId],
     pub writes: &'s [ResourceId],
     pub shelf: &'s [Shelf<'s, V>; 1],

@@ -17,7 +17,7 @@ ghost use Rattle.shred_world.specs.Views.{lent_slot};
 
 use crate::by_error::{ControllerOf, SystemOf};
 use crate::rounds::batch_in_order;
-use crate::rules::{Place, Rules};
+use crate::rules::{Loan, Rules};
 use crate::work::{Batch, Nested, Work};
 use shred_group::Fault;
 use shred_world::{ResourceValue, Table, View};
@@ -33,7 +33,7 @@ impl<V: ResourceValue, S: SystemOf<V, E>, C: ControllerOf<V, E>, E> Rules<
     Work<S, Nested<V, S, C>>,
     E,
 > for Depth {
-    ghost own = { λ at. Owns (record { reads = S.its_reads; writes = S.its_writes; control_reads = C.its_reads; control_writes = C.its_writes }) at.depth };
+    ghost may_keep = { λ at. Owns (record { reads = S.its_reads; writes = S.its_writes; control_reads = C.its_reads; control_writes = C.its_writes }) at.depth };
 
     ghost step = { λ at. WorkStep V.kind_of (record { steps = S.steps; begins = C.begins; asks = C.asks }) at.depth };
 }
@@ -41,21 +41,21 @@ impl<V: ResourceValue, S: SystemOf<V, E>, C: ControllerOf<V, E>, E> Rules<
 // One step of a system.
 pub(crate) fn step_system<V: ResourceValue, S: SystemOf<V, E>, E>(
     system: &mut S,
-    place: &Place<V>,
+    loan: &Loan<V>,
     own: &mut Table<V>,
 ) -> Result<(), Fault<E>>
-    requires own_lists { declared_lists S.its_reads S.its_writes system.old place.now.reads.now place.now.writes.now }
-    requires own_slots { HasOwnSlots place.now.writes.now (lent_slot place.now.shelf.now) own.old }
-    requires only_own { HasOnlySlots place.now.writes.now own.old }
-    ensures lies { S.steps system.old (declared_of (record { reads = place.now.reads.now; writes = place.now.writes.now }) (shown V.kind_of (lent_slot place.now.shelf.now) own.old)) result system.new (declared_of (record { reads = place.now.reads.now; writes = place.now.writes.now }) (shown V.kind_of (lent_slot place.now.shelf.now) own.new)) }
-    ensures kinds { (id : ResourceId) → option_map V.kind_of (shown V.kind_of (lent_slot place.now.shelf.now) own.new id) ≡ option_map V.kind_of (shown V.kind_of (lent_slot place.now.shelf.now) own.old id) }
+    requires own_lists { declared_lists S.its_reads S.its_writes system.old loan.now.reads.now loan.now.writes.now }
+    requires own_slots { HasOwnSlots loan.now.writes.now (lent_slot loan.now.shelf.now) own.old }
+    requires only_own { HasOnlySlots loan.now.writes.now own.old }
+    ensures lies { S.steps system.old (declared_of (record { reads = loan.now.reads.now; writes = loan.now.writes.now }) (shown V.kind_of (lent_slot loan.now.shelf.now) own.old)) result system.new (declared_of (record { reads = loan.now.reads.now; writes = loan.now.writes.now }) (shown V.kind_of (lent_slot loan.now.shelf.now) own.new)) }
+    ensures kinds { (id : ResourceId) → option_map V.kind_of (shown V.kind_of (lent_slot loan.now.shelf.now) own.new id) ≡ option_map V.kind_of (shown V.kind_of (lent_slot loan.now.shelf.now) own.old id) }
     ensures slots { IsSameSlots own.old own.new }
-    ensures frame { (id : ResourceId) → among place.now.writes.now id ≡ false → shown V.kind_of (lent_slot place.now.shelf.now) own.new id ≡ shown V.kind_of (lent_slot place.now.shelf.now) own.old id }
-    ensures own_lists { declared_lists S.its_reads S.its_writes system.new place.now.reads.now place.now.writes.now }
+    ensures frame { (id : ResourceId) → among loan.now.writes.now id ≡ false → shown V.kind_of (lent_slot loan.now.shelf.now) own.new id ≡ shown V.kind_of (lent_slot loan.now.shelf.now) own.old id }
+    ensures own_lists { declared_lists S.its_reads S.its_writes system.new loan.now.reads.now loan.now.writes.now }
 {
-    let reads = place.reads;
-    let writes = place.writes;
-    let shelf = place.shelf;
+    let reads = loan.reads;
+    let writes = loan.writes;
+    let shelf = loan.shelf;
     let mut view = View::over(reads, writes, shelf, own);
     system.step(&mut view)
 }
@@ -66,23 +66,23 @@ fn batch_at<
     S: SystemOf<V, E>,
     C: ControllerOf<V, E>,
     E: Drop,
-    F: Fn(&mut Work<S, Nested<V, S, C>>, &Place<'_, V>, &mut Table<V>) -> Result<(), Fault<E>>,
+    F: Fn(&mut Work<S, Nested<V, S, C>>, &Loan<'_, V>, &mut Table<V>) -> Result<(), Fault<E>>,
 >(
     less: usize,
     run: &F,
-    place: &Place<V>,
+    loan: &Loan<V>,
     batch: &mut Batch<V, C, Work<S, Nested<V, S, C>>>,
     own: &mut Table<V>,
 ) -> Result<(), Fault<E>>
     requires stepper { IsStepper V (Work S (Nested V S C)) E V.kind_of (Owns (record { reads = S.its_reads; writes = S.its_writes; control_reads = C.its_reads; control_writes = C.its_writes }) less) (WorkStep V.kind_of (record { steps = S.steps; begins = C.begins; asks = C.asks }) less) (F.pre run.now) (F.post run.now) }
-    requires own_slots { HasOwnSlots place.now.writes.now (lent_slot place.now.shelf.now) own.old }
-    requires only_own { HasOnlySlots place.now.writes.now own.old }
-    requires within { IsBatchWithin C.its_reads C.its_writes (Owns (record { reads = S.its_reads; writes = S.its_writes; control_reads = C.its_reads; control_writes = C.its_writes }) less) place.now.reads.now place.now.writes.now batch.old }
-    ensures { RanAsBatch V.kind_of (Owns (record { reads = S.its_reads; writes = S.its_writes; control_reads = C.its_reads; control_writes = C.its_writes }) less) (WorkStep V.kind_of (record { steps = S.steps; begins = C.begins; asks = C.asks }) less) C.its_reads C.its_writes C.begins C.asks place.now.reads.now place.now.writes.now (lent_slot place.now.shelf.now) batch.old own.old result batch.new own.new }
+    requires own_slots { HasOwnSlots loan.now.writes.now (lent_slot loan.now.shelf.now) own.old }
+    requires only_own { HasOnlySlots loan.now.writes.now own.old }
+    requires within { IsBatchWithin C.its_reads C.its_writes (Owns (record { reads = S.its_reads; writes = S.its_writes; control_reads = C.its_reads; control_writes = C.its_writes }) less) loan.now.reads.now loan.now.writes.now batch.old }
+    ensures { RanAsBatch V.kind_of (Owns (record { reads = S.its_reads; writes = S.its_writes; control_reads = C.its_reads; control_writes = C.its_writes }) less) (WorkStep V.kind_of (record { steps = S.steps; begins = C.begins; asks = C.asks }) less) C.its_reads C.its_writes C.begins C.asks loan.now.reads.now loan.now.writes.now (lent_slot loan.now.shelf.now) batch.old own.old result batch.new own.new }
 {
-    let reads = place.reads;
-    let writes = place.writes;
-    let shelf = place.shelf;
+    let reads = loan.reads;
+    let writes = loan.writes;
+    let shelf = loan.shelf;
     batch_in_order(
         &Depth { depth: less },
         run,
@@ -100,23 +100,23 @@ fn step_work<
     S: SystemOf<V, E>,
     C: ControllerOf<V, E>,
     E: Drop,
-    F: Fn(&mut Work<S, Nested<V, S, C>>, &Place<'_, V>, &mut Table<V>) -> Result<(), Fault<E>>,
+    F: Fn(&mut Work<S, Nested<V, S, C>>, &Loan<'_, V>, &mut Table<V>) -> Result<(), Fault<E>>,
 >(
     depth: usize,
     run: &F,
     work: &mut Work<S, Nested<V, S, C>>,
-    place: &Place<V>,
+    loan: &Loan<V>,
     own: &mut Table<V>,
 ) -> Result<(), Fault<E>>
     requires stepper { 1 ≤ depth → IsStepper V (Work S (Nested V S C)) E V.kind_of (Owns (record { reads = S.its_reads; writes = S.its_writes; control_reads = C.its_reads; control_writes = C.its_writes }) (depth - 1)) (WorkStep V.kind_of (record { steps = S.steps; begins = C.begins; asks = C.asks }) (depth - 1)) (F.pre run.now) (F.post run.now) }
-    requires own_lists { Owns (record { reads = S.its_reads; writes = S.its_writes; control_reads = C.its_reads; control_writes = C.its_writes }) depth work.old place.now.reads.now place.now.writes.now }
-    requires own_slots { HasOwnSlots place.now.writes.now (lent_slot place.now.shelf.now) own.old }
-    requires only_own { HasOnlySlots place.now.writes.now own.old }
-    ensures { IsStepBy V.kind_of (Owns (record { reads = S.its_reads; writes = S.its_writes; control_reads = C.its_reads; control_writes = C.its_writes }) depth) (WorkStep V.kind_of (record { steps = S.steps; begins = C.begins; asks = C.asks }) depth) place.now.reads.now place.now.writes.now (lent_slot place.now.shelf.now) work.old own.old result work.new own.new }
+    requires own_lists { Owns (record { reads = S.its_reads; writes = S.its_writes; control_reads = C.its_reads; control_writes = C.its_writes }) depth work.old loan.now.reads.now loan.now.writes.now }
+    requires own_slots { HasOwnSlots loan.now.writes.now (lent_slot loan.now.shelf.now) own.old }
+    requires only_own { HasOnlySlots loan.now.writes.now own.old }
+    ensures { IsStepBy V.kind_of (Owns (record { reads = S.its_reads; writes = S.its_writes; control_reads = C.its_reads; control_writes = C.its_writes }) depth) (WorkStep V.kind_of (record { steps = S.steps; begins = C.begins; asks = C.asks }) depth) loan.now.reads.now loan.now.writes.now (lent_slot loan.now.shelf.now) work.old own.old result work.new own.new }
 {
     match work {
-        Work::System(system) => step_system(system, place, own),
-        Work::Batch(nested) => batch_at(depth - 1, run, place, &mut nested.batch, own),
+        Work::System(system) => step_system(system, loan, own),
+        Work::Batch(nested) => batch_at(depth - 1, run, loan, &mut nested.batch, own),
     }
 }
 
@@ -127,19 +127,20 @@ fn step_work<
 pub fn step_in_order<V: ResourceValue + Drop, S: SystemOf<V, E>, C: ControllerOf<V, E>, E: Drop>(
     depth: usize,
     work: &mut Work<S, Nested<V, S, C>>,
-    place: &Place<V>,
+    loan: &Loan<V>,
     own: &mut Table<V>,
 ) -> Result<(), Fault<E>>
-    requires own_lists { Owns (record { reads = S.its_reads; writes = S.its_writes; control_reads = C.its_reads; control_writes = C.its_writes }) depth work.old place.now.reads.now place.now.writes.now }
-    requires own_slots { HasOwnSlots place.now.writes.now (lent_slot place.now.shelf.now) own.old }
-    requires only_own { HasOnlySlots place.now.writes.now own.old }
-    ensures { IsStepBy V.kind_of (Owns (record { reads = S.its_reads; writes = S.its_writes; control_reads = C.its_reads; control_writes = C.its_writes }) depth) (WorkStep V.kind_of (record { steps = S.steps; begins = C.begins; asks = C.asks }) depth) place.now.reads.now place.now.writes.now (lent_slot place.now.shelf.now) work.old own.old result work.new own.new }
+    requires own_lists { Owns (record { reads = S.its_reads; writes = S.its_writes; control_reads = C.its_reads; control_writes = C.its_writes }) depth work.old loan.now.reads.now loan.now.writes.now }
+    requires own_slots { HasOwnSlots loan.now.writes.now (lent_slot loan.now.shelf.now) own.old }
+    requires only_own { HasOnlySlots loan.now.writes.now own.old }
+    ensures { IsStepBy V.kind_of (Owns (record { reads = S.its_reads; writes = S.its_writes; control_reads = C.its_reads; control_writes = C.its_writes }) depth) (WorkStep V.kind_of (record { steps = S.steps; begins = C.begins; asks = C.asks }) depth) loan.now.reads.now loan.now.writes.now (lent_slot loan.now.shelf.now) work.old own.old result work.new own.new }
 {
-    let step = |work: &mut Work<S, Nested<V, S, C>>, place: &Place<V>, own: &mut Table<
-        V,
-    >| -> Result<(), Fault<E>>
-        requires { 1 ≤ depth × Owns (record { reads = S.its_reads; writes = S.its_writes; control_reads = C.its_reads; control_writes = C.its_writes }) (depth - 1) work.old place.now.reads.now place.now.writes.now × HasOwnSlots place.now.writes.now (lent_slot place.now.shelf.now) own.old × HasOnlySlots place.now.writes.now own.old }
-        ensures { IsStepBy V.kind_of (Owns (record { reads = S.its_reads; writes = S.its_writes; control_reads = C.its_reads; control_writes = C.its_writes }) (depth - 1)) (WorkStep V.kind_of (record { steps = S.steps; begins = C.begins; asks = C.asks }) (depth - 1)) place.now.reads.now place.now.writes.now (lent_slot place.now.shelf.now) work.old own.old result work.new own.new }
-    { step_in_order(depth - 1, work, place, own) };
-    step_work(depth, &step, work, place, own)
+    let step = |work: &mut Work<S, Nested<V, S, C>>, loan: &Loan<V>, own: &mut Table<V>| -> Result<
+        (),
+        Fault<E>,
+    >
+        requires { 1 ≤ depth × Owns (record { reads = S.its_reads; writes = S.its_writes; control_reads = C.its_reads; control_writes = C.its_writes }) (depth - 1) work.old loan.now.reads.now loan.now.writes.now × HasOwnSlots loan.now.writes.now (lent_slot loan.now.shelf.now) own.old × HasOnlySlots loan.now.writes.now own.old }
+        ensures { IsStepBy V.kind_of (Owns (record { reads = S.its_reads; writes = S.its_writes; control_reads = C.its_reads; control_writes = C.its_writes }) (depth - 1)) (WorkStep V.kind_of (record { steps = S.steps; begins = C.begins; asks = C.asks }) (depth - 1)) loan.now.reads.now loan.now.writes.now (lent_slot loan.now.shelf.now) work.old own.old result work.new own.new }
+    { step_in_order(depth - 1, work, loan, own) };
+    step_work(depth, &step, work, loan, own)
 }

@@ -12,7 +12,7 @@ ghost use Rattle.shred_world.specs.Views.{lent_slot};
 
 use crate::beside::batch_beside;
 use crate::by_error::{ControllerOf, SystemOf};
-use crate::rules::Place;
+use crate::rules::Loan;
 use crate::run::{Depth, step_in_order, step_system};
 use crate::work::{Batch, Nested, Work};
 use shred_group::Fault;
@@ -26,26 +26,26 @@ fn batch_at<
     S: SystemOf<V, E> + Send,
     C: ControllerOf<V, E> + Send,
     E: Drop + Send,
-    F: Fn(&mut Work<S, Nested<V, S, C>>, &Place<'_, V>, &mut Table<V>) -> Result<(), Fault<E>>
+    F: Fn(&mut Work<S, Nested<V, S, C>>, &Loan<'_, V>, &mut Table<V>) -> Result<(), Fault<E>>
         + Sync,
 >(
     rt: &R,
     less: usize,
     run: &F,
-    place: &Place<V>,
+    loan: &Loan<V>,
     batch: &mut Batch<V, C, Work<S, Nested<V, S, C>>>,
     own: &mut Table<V>,
     workers: usize,
 ) -> Result<(), Fault<E>>
     requires stepper { IsStepper V (Work S (Nested V S C)) E V.kind_of (Owns (record { reads = S.its_reads; writes = S.its_writes; control_reads = C.its_reads; control_writes = C.its_writes }) less) (WorkStep V.kind_of (record { steps = S.steps; begins = C.begins; asks = C.asks }) less) (F.pre run.now) (F.post run.now) }
-    requires own_slots { HasOwnSlots place.now.writes.now (lent_slot place.now.shelf.now) own.old }
-    requires only_own { HasOnlySlots place.now.writes.now own.old }
-    requires within { IsBatchWithin C.its_reads C.its_writes (Owns (record { reads = S.its_reads; writes = S.its_writes; control_reads = C.its_reads; control_writes = C.its_writes }) less) place.now.reads.now place.now.writes.now batch.old }
-    ensures { RanAsBatch V.kind_of (Owns (record { reads = S.its_reads; writes = S.its_writes; control_reads = C.its_reads; control_writes = C.its_writes }) less) (WorkStep V.kind_of (record { steps = S.steps; begins = C.begins; asks = C.asks }) less) C.its_reads C.its_writes C.begins C.asks place.now.reads.now place.now.writes.now (lent_slot place.now.shelf.now) batch.old own.old result batch.new own.new }
+    requires own_slots { HasOwnSlots loan.now.writes.now (lent_slot loan.now.shelf.now) own.old }
+    requires only_own { HasOnlySlots loan.now.writes.now own.old }
+    requires within { IsBatchWithin C.its_reads C.its_writes (Owns (record { reads = S.its_reads; writes = S.its_writes; control_reads = C.its_reads; control_writes = C.its_writes }) less) loan.now.reads.now loan.now.writes.now batch.old }
+    ensures { RanAsBatch V.kind_of (Owns (record { reads = S.its_reads; writes = S.its_writes; control_reads = C.its_reads; control_writes = C.its_writes }) less) (WorkStep V.kind_of (record { steps = S.steps; begins = C.begins; asks = C.asks }) less) C.its_reads C.its_writes C.begins C.asks loan.now.reads.now loan.now.writes.now (lent_slot loan.now.shelf.now) batch.old own.old result batch.new own.new }
 {
-    let reads = place.reads;
-    let writes = place.writes;
-    let shelf = place.shelf;
+    let reads = loan.reads;
+    let writes = loan.writes;
+    let shelf = loan.shelf;
     batch_beside(
         rt,
         &Depth { depth: less },
@@ -66,26 +66,26 @@ fn step_work<
     S: SystemOf<V, E> + Send,
     C: ControllerOf<V, E> + Send,
     E: Drop + Send,
-    F: Fn(&mut Work<S, Nested<V, S, C>>, &Place<'_, V>, &mut Table<V>) -> Result<(), Fault<E>>
+    F: Fn(&mut Work<S, Nested<V, S, C>>, &Loan<'_, V>, &mut Table<V>) -> Result<(), Fault<E>>
         + Sync,
 >(
     rt: &R,
     depth: usize,
     run: &F,
     work: &mut Work<S, Nested<V, S, C>>,
-    place: &Place<V>,
+    loan: &Loan<V>,
     own: &mut Table<V>,
     workers: usize,
 ) -> Result<(), Fault<E>>
     requires stepper { 1 ≤ depth → IsStepper V (Work S (Nested V S C)) E V.kind_of (Owns (record { reads = S.its_reads; writes = S.its_writes; control_reads = C.its_reads; control_writes = C.its_writes }) (depth - 1)) (WorkStep V.kind_of (record { steps = S.steps; begins = C.begins; asks = C.asks }) (depth - 1)) (F.pre run.now) (F.post run.now) }
-    requires own_lists { Owns (record { reads = S.its_reads; writes = S.its_writes; control_reads = C.its_reads; control_writes = C.its_writes }) depth work.old place.now.reads.now place.now.writes.now }
-    requires own_slots { HasOwnSlots place.now.writes.now (lent_slot place.now.shelf.now) own.old }
-    requires only_own { HasOnlySlots place.now.writes.now own.old }
-    ensures { IsStepBy V.kind_of (Owns (record { reads = S.its_reads; writes = S.its_writes; control_reads = C.its_reads; control_writes = C.its_writes }) depth) (WorkStep V.kind_of (record { steps = S.steps; begins = C.begins; asks = C.asks }) depth) place.now.reads.now place.now.writes.now (lent_slot place.now.shelf.now) work.old own.old result work.new own.new }
+    requires own_lists { Owns (record { reads = S.its_reads; writes = S.its_writes; control_reads = C.its_reads; control_writes = C.its_writes }) depth work.old loan.now.reads.now loan.now.writes.now }
+    requires own_slots { HasOwnSlots loan.now.writes.now (lent_slot loan.now.shelf.now) own.old }
+    requires only_own { HasOnlySlots loan.now.writes.now own.old }
+    ensures { IsStepBy V.kind_of (Owns (record { reads = S.its_reads; writes = S.its_writes; control_reads = C.its_reads; control_writes = C.its_writes }) depth) (WorkStep V.kind_of (record { steps = S.steps; begins = C.begins; asks = C.asks }) depth) loan.now.reads.now loan.now.writes.now (lent_slot loan.now.shelf.now) work.old own.old result work.new own.new }
 {
     match work {
-        Work::System(system) => step_system(system, place, own),
-        Work::Batch(nested) => batch_at(rt, depth - 1, run, place, &mut nested.batch, own, workers),
+        Work::System(system) => step_system(system, loan, own),
+        Work::Batch(nested) => batch_at(rt, depth - 1, run, loan, &mut nested.batch, own, workers),
     }
 }
 
@@ -101,20 +101,21 @@ pub fn step_beside<
     rt: &R,
     depth: usize,
     work: &mut Work<S, Nested<V, S, C>>,
-    place: &Place<V>,
+    loan: &Loan<V>,
     own: &mut Table<V>,
     workers: usize,
 ) -> Result<(), Fault<E>>
-    requires own_lists { Owns (record { reads = S.its_reads; writes = S.its_writes; control_reads = C.its_reads; control_writes = C.its_writes }) depth work.old place.now.reads.now place.now.writes.now }
-    requires own_slots { HasOwnSlots place.now.writes.now (lent_slot place.now.shelf.now) own.old }
-    requires only_own { HasOnlySlots place.now.writes.now own.old }
-    ensures { IsStepBy V.kind_of (Owns (record { reads = S.its_reads; writes = S.its_writes; control_reads = C.its_reads; control_writes = C.its_writes }) depth) (WorkStep V.kind_of (record { steps = S.steps; begins = C.begins; asks = C.asks }) depth) place.now.reads.now place.now.writes.now (lent_slot place.now.shelf.now) work.old own.old result work.new own.new }
+    requires own_lists { Owns (record { reads = S.its_reads; writes = S.its_writes; control_reads = C.its_reads; control_writes = C.its_writes }) depth work.old loan.now.reads.now loan.now.writes.now }
+    requires own_slots { HasOwnSlots loan.now.writes.now (lent_slot loan.now.shelf.now) own.old }
+    requires only_own { HasOnlySlots loan.now.writes.now own.old }
+    ensures { IsStepBy V.kind_of (Owns (record { reads = S.its_reads; writes = S.its_writes; control_reads = C.its_reads; control_writes = C.its_writes }) depth) (WorkStep V.kind_of (record { steps = S.steps; begins = C.begins; asks = C.asks }) depth) loan.now.reads.now loan.now.writes.now (lent_slot loan.now.shelf.now) work.old own.old result work.new own.new }
 {
-    let step = |work: &mut Work<S, Nested<V, S, C>>, place: &Place<V>, own: &mut Table<
-        V,
-    >| -> Result<(), Fault<E>>
-        requires { 1 ≤ depth × Owns (record { reads = S.its_reads; writes = S.its_writes; control_reads = C.its_reads; control_writes = C.its_writes }) (depth - 1) work.old place.now.reads.now place.now.writes.now × HasOwnSlots place.now.writes.now (lent_slot place.now.shelf.now) own.old × HasOnlySlots place.now.writes.now own.old }
-        ensures { IsStepBy V.kind_of (Owns (record { reads = S.its_reads; writes = S.its_writes; control_reads = C.its_reads; control_writes = C.its_writes }) (depth - 1)) (WorkStep V.kind_of (record { steps = S.steps; begins = C.begins; asks = C.asks }) (depth - 1)) place.now.reads.now place.now.writes.now (lent_slot place.now.shelf.now) work.old own.old result work.new own.new }
-    { step_in_order(depth - 1, work, place, own) };
-    step_work(rt, depth, &step, work, place, own, workers)
+    let step = |work: &mut Work<S, Nested<V, S, C>>, loan: &Loan<V>, own: &mut Table<V>| -> Result<
+        (),
+        Fault<E>,
+    >
+        requires { 1 ≤ depth × Owns (record { reads = S.its_reads; writes = S.its_writes; control_reads = C.its_reads; control_writes = C.its_writes }) (depth - 1) work.old loan.now.reads.now loan.now.writes.now × HasOwnSlots loan.now.writes.now (lent_slot loan.now.shelf.now) own.old × HasOnlySlots loan.now.writes.now own.old }
+        ensures { IsStepBy V.kind_of (Owns (record { reads = S.its_reads; writes = S.its_writes; control_reads = C.its_reads; control_writes = C.its_writes }) (depth - 1)) (WorkStep V.kind_of (record { steps = S.steps; begins = C.begins; asks = C.asks }) (depth - 1)) loan.now.reads.now loan.now.writes.now (lent_slot loan.now.shelf.now) work.old own.old result work.new own.new }
+    { step_in_order(depth - 1, work, loan, own) };
+    step_work(rt, depth, &step, work, loan, own, workers)
 }

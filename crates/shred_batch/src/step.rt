@@ -18,7 +18,7 @@ ghost use Rattle.shred_table.specs.Shown.{shown, HasOwnSlots, IsSameSlots};
 ghost use Rattle.shred_table.specs.Slots.{among};
 ghost use Rattle.shred_world.specs.Views.{lent_slot};
 
-use crate::rules::{Place, Rules};
+use crate::rules::{Loan, Rules};
 use crate::work::{Nested, Work};
 use shred_group::dispatch::entry::SystemEntry;
 use shred_group::dispatch::run::before;
@@ -34,7 +34,7 @@ fn step_over<
     C,
     E,
     T: Rules<V, Work<S, Nested<V, S, C>>, E>,
-    F: Fn(&mut Work<S, Nested<V, S, C>>, &Place<'_, V>, &mut Table<V>) -> Result<(), Fault<E>>,
+    F: Fn(&mut Work<S, Nested<V, S, C>>, &Loan<'_, V>, &mut Table<V>) -> Result<(), Fault<E>>,
 >(
     rules: &T,
     run: &F,
@@ -44,22 +44,22 @@ fn step_over<
     work: &mut Work<S, Nested<V, S, C>>,
     own: &mut Table<V>,
 ) -> Result<(), Fault<E>>
-    requires stepper { IsStepper V (Work S (Nested V S C)) E V.kind_of (T.own rules.now) (T.step rules.now) (F.pre run.now) (F.post run.now) }
-    requires own_lists { T.own rules.now work.old reads.now writes.now }
+    requires stepper { IsStepper V (Work S (Nested V S C)) E V.kind_of (T.may_keep rules.now) (T.step rules.now) (F.pre run.now) (F.post run.now) }
+    requires own_lists { T.may_keep rules.now work.old reads.now writes.now }
     requires own_slots { HasOwnSlots writes.now (lent_slot shelf.now) own.old }
     requires only_own { HasOnlySlots writes.now own.old }
     ensures step { T.step rules.now work.old (declared_of (record { reads = reads.now; writes = writes.now }) (shown V.kind_of (lent_slot shelf.now) own.old)) result work.new (declared_of (record { reads = reads.now; writes = writes.now }) (shown V.kind_of (lent_slot shelf.now) own.new)) }
     ensures kinds { (id : ResourceId) → option_map V.kind_of (shown V.kind_of (lent_slot shelf.now) own.new id) ≡ option_map V.kind_of (shown V.kind_of (lent_slot shelf.now) own.old id) }
     ensures slots { IsSameSlots own.old own.new }
     ensures frame { (id : ResourceId) → among writes.now id ≡ false → shown V.kind_of (lent_slot shelf.now) own.new id ≡ shown V.kind_of (lent_slot shelf.now) own.old id }
-    ensures own_lists { T.own rules.now work.new reads.now writes.now }
+    ensures own_lists { T.may_keep rules.now work.new reads.now writes.now }
 {
-    let place = Place {
+    let loan = Loan {
         reads,
         writes,
         shelf,
     };
-    run(work, &place, own)
+    run(work, &loan, own)
 }
 
 // One step of what stands in the entry, over the entry's hand, while the table is lent shared.
@@ -69,7 +69,7 @@ fn step_in_hand<
     C,
     E,
     T: Rules<V, Work<S, Nested<V, S, C>>, E>,
-    F: Fn(&mut Work<S, Nested<V, S, C>>, &Place<'_, V>, &mut Table<V>) -> Result<(), Fault<E>>,
+    F: Fn(&mut Work<S, Nested<V, S, C>>, &Loan<'_, V>, &mut Table<V>) -> Result<(), Fault<E>>,
 >(
     rules: &T,
     run: &F,
@@ -78,8 +78,8 @@ fn step_in_hand<
     shelf: &[Shelf<V>; 1],
     own: &Table<V>,
 ) -> Result<(), Fault<E>>
-    requires stepper { IsStepper V (Work S (Nested V S C)) E V.kind_of (T.own rules.now) (T.step rules.now) (F.pre run.now) (F.post run.now) }
-    requires own_lists { T.own rules.now entry.old.system entry.old.reads.items entry.old.writes.items }
+    requires stepper { IsStepper V (Work S (Nested V S C)) E V.kind_of (T.may_keep rules.now) (T.step rules.now) (F.pre run.now) (F.post run.now) }
+    requires own_lists { T.may_keep rules.now entry.old.system entry.old.reads.items entry.old.writes.items }
     requires own_slots { HasOwnSlots entry.old.writes.items (lent_before own.now (lent_slot shelf.now)) entry.old.hand }
     requires only_own { HasOnlySlots entry.old.writes.items entry.old.hand }
     requires just_slots { HasJustSlots written.now own.now }
@@ -89,15 +89,15 @@ fn step_in_hand<
     ensures frame { (id : ResourceId) → among entry.old.writes.items id ≡ false → shown V.kind_of (lent_before own.now (lent_slot shelf.now)) entry.new.hand id ≡ shown V.kind_of (lent_before own.now (lent_slot shelf.now)) entry.old.hand id }
     ensures plan { entry_plan entry.new ≡ entry_plan entry.old }
     ensures writes { entry.new.writes ≡ entry.old.writes }
-    ensures own_lists { T.own rules.now entry.new.system entry.new.reads.items entry.new.writes.items }
+    ensures own_lists { T.may_keep rules.now entry.new.system entry.new.reads.items entry.new.writes.items }
 {
-    let behind = before(own, written, shelf);
+    let nearest = before(own, written, shelf);
     step_over(
         rules,
         run,
         entry.reads.as_slice(),
         entry.writes.as_slice(),
-        &behind,
+        &nearest,
         &mut entry.system,
         &mut entry.hand,
     )
@@ -111,7 +111,7 @@ fn step<
     C,
     E,
     T: Rules<V, Work<S, Nested<V, S, C>>, E>,
-    F: Fn(&mut Work<S, Nested<V, S, C>>, &Place<'_, V>, &mut Table<V>) -> Result<(), Fault<E>>,
+    F: Fn(&mut Work<S, Nested<V, S, C>>, &Loan<'_, V>, &mut Table<V>) -> Result<(), Fault<E>>,
 >(
     rules: &T,
     run: &F,
@@ -120,8 +120,8 @@ fn step<
     shelf: &[Shelf<V>; 1],
     own: &mut Table<V>,
 ) -> Result<(), Fault<E>>
-    requires stepper { IsStepper V (Work S (Nested V S C)) E V.kind_of (T.own rules.now) (T.step rules.now) (F.pre run.now) (F.post run.now) }
-    requires own_lists { IsEntryOf (T.own rules.now) entry.old }
+    requires stepper { IsStepper V (Work S (Nested V S C)) E V.kind_of (T.may_keep rules.now) (T.step rules.now) (F.pre run.now) (F.post run.now) }
+    requires own_lists { IsEntryOf (T.may_keep rules.now) entry.old }
     requires own_slots { HasOwnSlots entry.old.writes.items (lent_slot shelf.now) own.old }
     requires just_slots { HasJustSlots written.now own.old }
     requires room { HasEntryRoom own.old entry.old }
@@ -130,7 +130,7 @@ fn step<
     ensures slots { IsSameSlots own.old own.new }
     ensures frame { (id : ResourceId) → among entry.old.writes.items id ≡ false → shown V.kind_of (lent_slot shelf.now) own.new id ≡ shown V.kind_of (lent_slot shelf.now) own.old id }
     ensures plan { entry_plan entry.new ≡ entry_plan entry.old }
-    ensures own_lists { IsEntryOf (T.own rules.now) entry.new }
+    ensures own_lists { IsEntryOf (T.may_keep rules.now) entry.new }
     ensures room { HasEntryRoom own.new entry.new }
 {
     move_out(own, entry.writes.as_slice(), &mut entry.hand);
@@ -146,7 +146,7 @@ fn step_single<
     C,
     E,
     T: Rules<V, Work<S, Nested<V, S, C>>, E>,
-    F: Fn(&mut Work<S, Nested<V, S, C>>, &Place<'_, V>, &mut Table<V>) -> Result<(), Fault<E>>,
+    F: Fn(&mut Work<S, Nested<V, S, C>>, &Loan<'_, V>, &mut Table<V>) -> Result<(), Fault<E>>,
 >(
     rules: &T,
     run: &F,
@@ -154,8 +154,8 @@ fn step_single<
     shelf: &[Shelf<V>; 1],
     own: &mut Table<V>,
 ) -> Result<(), Fault<E>>
-    requires stepper { IsStepper V (Work S (Nested V S C)) E V.kind_of (T.own rules.now) (T.step rules.now) (F.pre run.now) (F.post run.now) }
-    requires own_lists { IsEntryOf (T.own rules.now) entry.old }
+    requires stepper { IsStepper V (Work S (Nested V S C)) E V.kind_of (T.may_keep rules.now) (T.step rules.now) (F.pre run.now) (F.post run.now) }
+    requires own_lists { IsEntryOf (T.may_keep rules.now) entry.old }
     requires own_slots { HasOwnSlots entry.old.writes.items (lent_slot shelf.now) own.old }
     requires only_own { HasOnlySlots entry.old.writes.items own.old }
     ensures step { T.step rules.now entry.old.system (declared_of (access_of entry.old) (shown V.kind_of (lent_slot shelf.now) own.old)) result entry.new.system (declared_of (access_of entry.old) (shown V.kind_of (lent_slot shelf.now) own.new)) }
@@ -164,7 +164,7 @@ fn step_single<
     ensures frame { (id : ResourceId) → among entry.old.writes.items id ≡ false → shown V.kind_of (lent_slot shelf.now) own.new id ≡ shown V.kind_of (lent_slot shelf.now) own.old id }
     ensures plan { entry_plan entry.new ≡ entry_plan entry.old }
     ensures writes { entry.new.writes ≡ entry.old.writes }
-    ensures own_lists { IsEntryOf (T.own rules.now) entry.new }
+    ensures own_lists { IsEntryOf (T.may_keep rules.now) entry.new }
 {
     step_over(
         rules,
@@ -184,7 +184,7 @@ fn step_of<
     C,
     E,
     T: Rules<V, Work<S, Nested<V, S, C>>, E>,
-    F: Fn(&mut Work<S, Nested<V, S, C>>, &Place<'_, V>, &mut Table<V>) -> Result<(), Fault<E>>,
+    F: Fn(&mut Work<S, Nested<V, S, C>>, &Loan<'_, V>, &mut Table<V>) -> Result<(), Fault<E>>,
 >(
     rules: &T,
     run: &F,
@@ -194,8 +194,8 @@ fn step_of<
     shelf: &[Shelf<V>; 1],
     own: &mut Table<V>,
 ) -> Result<(), Fault<E>>
-    requires stepper { IsStepper V (Work S (Nested V S C)) E V.kind_of (T.own rules.now) (T.step rules.now) (F.pre run.now) (F.post run.now) }
-    requires own_lists { IsEntryOf (T.own rules.now) entry.old }
+    requires stepper { IsStepper V (Work S (Nested V S C)) E V.kind_of (T.may_keep rules.now) (T.step rules.now) (F.pre run.now) (F.post run.now) }
+    requires own_lists { IsEntryOf (T.may_keep rules.now) entry.old }
     requires own_slots { HasOwnSlots entry.old.writes.items (lent_slot shelf.now) own.old }
     requires just_slots { HasJustSlots written.now own.old }
     requires place { HasPlace single own.old entry.old }
@@ -204,7 +204,7 @@ fn step_of<
     ensures slots { IsSameSlots own.old own.new }
     ensures frame { (id : ResourceId) → among entry.old.writes.items id ≡ false → shown V.kind_of (lent_slot shelf.now) own.new id ≡ shown V.kind_of (lent_slot shelf.now) own.old id }
     ensures plan { entry_plan entry.new ≡ entry_plan entry.old }
-    ensures own_lists { IsEntryOf (T.own rules.now) entry.new }
+    ensures own_lists { IsEntryOf (T.may_keep rules.now) entry.new }
     ensures place { HasPlace single own.new entry.new }
 {
     if single {
@@ -220,7 +220,7 @@ fn run_entry<
     C,
     E,
     T: Rules<V, Work<S, Nested<V, S, C>>, E>,
-    F: Fn(&mut Work<S, Nested<V, S, C>>, &Place<'_, V>, &mut Table<V>) -> Result<(), Fault<E>>,
+    F: Fn(&mut Work<S, Nested<V, S, C>>, &Loan<'_, V>, &mut Table<V>) -> Result<(), Fault<E>>,
 >(
     rules: &T,
     run: &F,
@@ -230,14 +230,14 @@ fn run_entry<
     shelf: &[Shelf<V>; 1],
     own: &mut Table<V>,
 ) -> Result<(), StageFault<E>>
-    requires stepper { IsStepper V (Work S (Nested V S C)) E V.kind_of (T.own rules.now) (T.step rules.now) (F.pre run.now) (F.post run.now) }
-    requires own_lists { IsEntryOf (T.own rules.now) entry.old }
+    requires stepper { IsStepper V (Work S (Nested V S C)) E V.kind_of (T.may_keep rules.now) (T.step rules.now) (F.pre run.now) (F.post run.now) }
+    requires own_lists { IsEntryOf (T.may_keep rules.now) entry.old }
     requires own_slots { HasOwnSlots entry.old.writes.items (lent_slot shelf.now) own.old }
     requires just_slots { HasJustSlots written.now own.old }
     requires place { HasPlace single own.old entry.old }
     ensures ran { Ran (EntryRun V.kind_of (T.step rules.now) 0 (entry_plan entry.old)) (configuration_of (entry_states entry.old) (shown V.kind_of (lent_slot shelf.now) own.old)) result (configuration_of (entry_states entry.new) (shown V.kind_of (lent_slot shelf.now) own.new)) }
     ensures plan { entry_plan entry.new ≡ entry_plan entry.old }
-    ensures own_lists { IsEntryOf (T.own rules.now) entry.new }
+    ensures own_lists { IsEntryOf (T.may_keep rules.now) entry.new }
     ensures place { HasPlace single own.new entry.new }
     ensures kinds { (id : ResourceId) → option_map V.kind_of (shown V.kind_of (lent_slot shelf.now) own.new id) ≡ option_map V.kind_of (shown V.kind_of (lent_slot shelf.now) own.old id) }
     ensures slots { IsSameSlots own.old own.new }
@@ -258,7 +258,7 @@ pub(crate) fn run_entries<
     C,
     E,
     T: Rules<V, Work<S, Nested<V, S, C>>, E>,
-    F: Fn(&mut Work<S, Nested<V, S, C>>, &Place<'_, V>, &mut Table<V>) -> Result<(), Fault<E>>,
+    F: Fn(&mut Work<S, Nested<V, S, C>>, &Loan<'_, V>, &mut Table<V>) -> Result<(), Fault<E>>,
 >(
     rules: &T,
     run: &F,
@@ -268,14 +268,14 @@ pub(crate) fn run_entries<
     shelf: &[Shelf<V>; 1],
     own: &mut Table<V>,
 ) -> Result<(), StageFault<E>>
-    requires stepper { IsStepper V (Work S (Nested V S C)) E V.kind_of (T.own rules.now) (T.step rules.now) (F.pre run.now) (F.post run.now) }
-    requires own_lists { All (IsEntryOf (T.own rules.now)) entries.old }
+    requires stepper { IsStepper V (Work S (Nested V S C)) E V.kind_of (T.may_keep rules.now) (T.step rules.now) (F.pre run.now) (F.post run.now) }
+    requires own_lists { All (IsEntryOf (T.may_keep rules.now)) entries.old }
     requires own_slots { HasGroupSlots (lent_slot shelf.now) own.old (map entry_plan entries.old) }
     requires just_slots { HasJustSlots written.now own.old }
     requires places { All (HasPlace single own.old) entries.old }
     ensures ran { Ran (GroupRun V.kind_of (T.step rules.now) 0 (map entry_plan entries.old)) (configuration_of (listed_states entry_states entries.old) (shown V.kind_of (lent_slot shelf.now) own.old)) result (configuration_of (listed_states entry_states entries.new) (shown V.kind_of (lent_slot shelf.now) own.new)) }
     ensures plan { map entry_plan entries.new ≡ map entry_plan entries.old }
-    ensures own_lists { All (IsEntryOf (T.own rules.now)) entries.new }
+    ensures own_lists { All (IsEntryOf (T.may_keep rules.now)) entries.new }
     ensures kinds { (id : ResourceId) → option_map V.kind_of (shown V.kind_of (lent_slot shelf.now) own.new id) ≡ option_map V.kind_of (shown V.kind_of (lent_slot shelf.now) own.old id) }
     ensures slots { IsSameSlots own.old own.new }
 {

@@ -12,7 +12,7 @@ ghost use Rattle.shred_table.specs.Shown.{shown, HasOwnSlots, IsSameSlots};
 ghost use Rattle.shred_table.specs.Slots.{among};
 ghost use Rattle.shred_world.specs.Views.{lent_slot};
 
-use crate::rules::{Place, Rules};
+use crate::rules::{Loan, Rules};
 use crate::turn::{turn_beside, turn_in_order};
 use crate::work::{Nested, Tier, Work};
 use shred_group::{Fault, StageFault};
@@ -26,7 +26,7 @@ pub(crate) fn tier_in_order<
     C,
     E: Drop,
     T: Rules<V, Work<S, Nested<V, S, C>>, E>,
-    F: Fn(&mut Work<S, Nested<V, S, C>>, &Place<'_, V>, &mut Table<V>) -> Result<(), Fault<E>>,
+    F: Fn(&mut Work<S, Nested<V, S, C>>, &Loan<'_, V>, &mut Table<V>) -> Result<(), Fault<E>>,
 >(
     rules: &T,
     run: &F,
@@ -36,11 +36,11 @@ pub(crate) fn tier_in_order<
     tier: &mut Tier<V, Work<S, Nested<V, S, C>>>,
     own: &mut Table<V>,
 ) -> Result<(), StageFault<E>>
-    requires stepper { IsStepper V (Work S (Nested V S C)) E V.kind_of (T.own rules.now) (T.step rules.now) (F.pre run.now) (F.post run.now) }
+    requires stepper { IsStepper V (Work S (Nested V S C)) E V.kind_of (T.may_keep rules.now) (T.step rules.now) (F.pre run.now) (F.post run.now) }
     requires own_slots { HasOwnSlots writes.now (lent_slot shelf.now) own.old }
     requires only_own { HasOnlySlots writes.now own.old }
-    requires within { IsTierWithin (T.own rules.now) reads.now writes.now tier.old }
-    ensures { TookTierTurn V.kind_of (T.own rules.now) (T.step rules.now) (lent_slot shelf.now) tier.old own.old result tier.new own.new }
+    requires within { IsTierWithin (T.may_keep rules.now) reads.now writes.now tier.old }
+    ensures { TookTierTurn V.kind_of (T.may_keep rules.now) (T.step rules.now) (lent_slot shelf.now) tier.old own.old result tier.new own.new }
 {
     turn_in_order(rules, run, writes, shelf, tier.groups.as_mut_slice(), own)
 }
@@ -53,7 +53,7 @@ pub(crate) fn tier_beside<
     C: Send,
     E: Drop + Send,
     T: Rules<V, Work<S, Nested<V, S, C>>, E> + Sync,
-    F: Fn(&mut Work<S, Nested<V, S, C>>, &Place<'_, V>, &mut Table<V>) -> Result<(), Fault<E>>
+    F: Fn(&mut Work<S, Nested<V, S, C>>, &Loan<'_, V>, &mut Table<V>) -> Result<(), Fault<E>>
         + Sync,
 >(
     rt: &R,
@@ -66,11 +66,11 @@ pub(crate) fn tier_beside<
     own: &mut Table<V>,
     workers: usize,
 ) -> Result<(), StageFault<E>>
-    requires stepper { IsStepper V (Work S (Nested V S C)) E V.kind_of (T.own rules.now) (T.step rules.now) (F.pre run.now) (F.post run.now) }
+    requires stepper { IsStepper V (Work S (Nested V S C)) E V.kind_of (T.may_keep rules.now) (T.step rules.now) (F.pre run.now) (F.post run.now) }
     requires own_slots { HasOwnSlots writes.now (lent_slot shelf.now) own.old }
     requires only_own { HasOnlySlots writes.now own.old }
-    requires within { IsTierWithin (T.own rules.now) reads.now writes.now tier.old }
-    ensures { TookTierTurn V.kind_of (T.own rules.now) (T.step rules.now) (lent_slot shelf.now) tier.old own.old result tier.new own.new }
+    requires within { IsTierWithin (T.may_keep rules.now) reads.now writes.now tier.old }
+    ensures { TookTierTurn V.kind_of (T.may_keep rules.now) (T.step rules.now) (lent_slot shelf.now) tier.old own.old result tier.new own.new }
 {
     turn_beside(
         rt,
@@ -91,7 +91,7 @@ pub(crate) fn tiers_in_order<
     C,
     E: Drop,
     T: Rules<V, Work<S, Nested<V, S, C>>, E>,
-    F: Fn(&mut Work<S, Nested<V, S, C>>, &Place<'_, V>, &mut Table<V>) -> Result<(), Fault<E>>,
+    F: Fn(&mut Work<S, Nested<V, S, C>>, &Loan<'_, V>, &mut Table<V>) -> Result<(), Fault<E>>,
 >(
     rules: &T,
     run: &F,
@@ -101,13 +101,13 @@ pub(crate) fn tiers_in_order<
     tiers: &mut [Tier<V, Work<S, Nested<V, S, C>>>],
     own: &mut Table<V>,
 ) -> Result<(), StageFault<E>>
-    requires stepper { IsStepper V (Work S (Nested V S C)) E V.kind_of (T.own rules.now) (T.step rules.now) (F.pre run.now) (F.post run.now) }
+    requires stepper { IsStepper V (Work S (Nested V S C)) E V.kind_of (T.may_keep rules.now) (T.step rules.now) (F.pre run.now) (F.post run.now) }
     requires own_slots { HasOwnSlots writes.now (lent_slot shelf.now) own.old }
     requires only_own { HasOnlySlots writes.now own.old }
-    requires within { All (IsTierWithin (T.own rules.now) reads.now writes.now) tiers.old }
+    requires within { All (IsTierWithin (T.may_keep rules.now) reads.now writes.now) tiers.old }
     ensures ran { InnerRun V.kind_of (T.step rules.now) tiers.old (shown V.kind_of (lent_slot shelf.now) own.old) result tiers.new (shown V.kind_of (lent_slot shelf.now) own.new) }
     ensures plan { tiers_plan tiers.new ≡ tiers_plan tiers.old }
-    ensures within { All (IsTierWithin (T.own rules.now) reads.now writes.now) tiers.new }
+    ensures within { All (IsTierWithin (T.may_keep rules.now) reads.now writes.now) tiers.new }
     ensures kinds { (id : ResourceId) → option_map V.kind_of (shown V.kind_of (lent_slot shelf.now) own.new id) ≡ option_map V.kind_of (shown V.kind_of (lent_slot shelf.now) own.old id) }
     ensures slots { IsSameSlots own.old own.new }
     ensures frame { (id : ResourceId) → among writes.now id ≡ false → shown V.kind_of (lent_slot shelf.now) own.new id ≡ shown V.kind_of (lent_slot shelf.now) own.old id }
@@ -128,7 +128,7 @@ pub(crate) fn tiers_beside<
     C: Send,
     E: Drop + Send,
     T: Rules<V, Work<S, Nested<V, S, C>>, E> + Sync,
-    F: Fn(&mut Work<S, Nested<V, S, C>>, &Place<'_, V>, &mut Table<V>) -> Result<(), Fault<E>>
+    F: Fn(&mut Work<S, Nested<V, S, C>>, &Loan<'_, V>, &mut Table<V>) -> Result<(), Fault<E>>
         + Sync,
 >(
     rt: &R,
@@ -141,13 +141,13 @@ pub(crate) fn tiers_beside<
     own: &mut Table<V>,
     workers: usize,
 ) -> Result<(), StageFault<E>>
-    requires stepper { IsStepper V (Work S (Nested V S C)) E V.kind_of (T.own rules.now) (T.step rules.now) (F.pre run.now) (F.post run.now) }
+    requires stepper { IsStepper V (Work S (Nested V S C)) E V.kind_of (T.may_keep rules.now) (T.step rules.now) (F.pre run.now) (F.post run.now) }
     requires own_slots { HasOwnSlots writes.now (lent_slot shelf.now) own.old }
     requires only_own { HasOnlySlots writes.now own.old }
-    requires within { All (IsTierWithin (T.own rules.now) reads.now writes.now) tiers.old }
+    requires within { All (IsTierWithin (T.may_keep rules.now) reads.now writes.now) tiers.old }
     ensures ran { InnerRun V.kind_of (T.step rules.now) tiers.old (shown V.kind_of (lent_slot shelf.now) own.old) result tiers.new (shown V.kind_of (lent_slot shelf.now) own.new) }
     ensures plan { tiers_plan tiers.new ≡ tiers_plan tiers.old }
-    ensures within { All (IsTierWithin (T.own rules.now) reads.now writes.now) tiers.new }
+    ensures within { All (IsTierWithin (T.may_keep rules.now) reads.now writes.now) tiers.new }
     ensures kinds { (id : ResourceId) → option_map V.kind_of (shown V.kind_of (lent_slot shelf.now) own.new id) ≡ option_map V.kind_of (shown V.kind_of (lent_slot shelf.now) own.old id) }
     ensures slots { IsSameSlots own.old own.new }
     ensures frame { (id : ResourceId) → among writes.now id ≡ false → shown V.kind_of (lent_slot shelf.now) own.new id ≡ shown V.kind_of (lent_slot shelf.now) own.old id }

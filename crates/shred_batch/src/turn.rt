@@ -17,7 +17,7 @@ ghost use Rattle.shred_table.specs.Shown.{shown, HasOwnSlots, IsSameSlots};
 ghost use Rattle.shred_table.specs.Slots.{among, slot_at};
 ghost use Rattle.shred_world.specs.Views.{lent_slot};
 
-use crate::rules::{Place, Rules};
+use crate::rules::{Loan, Rules};
 use crate::step::run_entries;
 use crate::work::{Nested, Work};
 use shred_group::dispatch::entry::Group;
@@ -34,16 +34,16 @@ fn run_group<
     C,
     E,
     T: Rules<V, Work<S, Nested<V, S, C>>, E>,
-    F: Fn(&mut Work<S, Nested<V, S, C>>, &Place<'_, V>, &mut Table<V>) -> Result<(), Fault<E>>,
+    F: Fn(&mut Work<S, Nested<V, S, C>>, &Loan<'_, V>, &mut Table<V>) -> Result<(), Fault<E>>,
 >(
     rules: &T,
     run: &F,
     group: &mut Group<V, Work<S, Nested<V, S, C>>>,
     shelf: &[Shelf<V>; 1],
 ) -> Result<(), StageFault<E>>
-    requires stepper { IsStepper V (Work S (Nested V S C)) E V.kind_of (T.own rules.now) (T.step rules.now) (F.pre run.now) (F.post run.now) }
-    requires ready { IsReady (T.own rules.now) (lent_slot shelf.now) group.old }
-    ensures { GroupWent V.kind_of (T.step rules.now) (T.own rules.now) (lent_slot shelf.now) group.old result group.new }
+    requires stepper { IsStepper V (Work S (Nested V S C)) E V.kind_of (T.may_keep rules.now) (T.step rules.now) (F.pre run.now) (F.post run.now) }
+    requires ready { IsReady (T.may_keep rules.now) (lent_slot shelf.now) group.old }
+    ensures { GroupWent V.kind_of (T.step rules.now) (T.may_keep rules.now) (lent_slot shelf.now) group.old result group.new }
 {
     let single = group.entries.len() == 1;
     run_entries(
@@ -77,7 +77,7 @@ fn run_in_order<
     C,
     E: Drop,
     T: Rules<V, Work<S, Nested<V, S, C>>, E>,
-    F: Fn(&mut Work<S, Nested<V, S, C>>, &Place<'_, V>, &mut Table<V>) -> Result<(), Fault<E>>,
+    F: Fn(&mut Work<S, Nested<V, S, C>>, &Loan<'_, V>, &mut Table<V>) -> Result<(), Fault<E>>,
 >(
     rules: &T,
     run: &F,
@@ -86,16 +86,16 @@ fn run_in_order<
     own: &Table<V>,
     groups: &mut [Group<V, Work<S, Nested<V, S, C>>>],
 ) -> Result<(), StageFault<E>>
-    requires stepper { IsStepper V (Work S (Nested V S C)) E V.kind_of (T.own rules.now) (T.step rules.now) (F.pre run.now) (F.post run.now) }
+    requires stepper { IsStepper V (Work S (Nested V S C)) E V.kind_of (T.may_keep rules.now) (T.step rules.now) (F.pre run.now) (F.post run.now) }
     requires own_slots { HasOwnSlots writes.now (lent_slot shelf.now) own.now }
     requires only_own { HasOnlySlots writes.now own.now }
-    requires ready { All (IsReady (T.own rules.now) (lent_before own.now (lent_slot shelf.now))) groups.old }
-    ensures { AllWent (GroupWent V.kind_of (T.step rules.now) (T.own rules.now) (lent_before own.now (lent_slot shelf.now))) groups.old result groups.new }
+    requires ready { All (IsReady (T.may_keep rules.now) (lent_before own.now (lent_slot shelf.now))) groups.old }
+    ensures { AllWent (GroupWent V.kind_of (T.step rules.now) (T.may_keep rules.now) (lent_before own.now (lent_slot shelf.now))) groups.old result groups.new }
 {
     let nearest = &behind(own, writes, shelf);
     let lane = |group: &mut Group<V, Work<S, Nested<V, S, C>>>| -> Result<(), StageFault<E>>
-        requires { IsStepper V (Work S (Nested V S C)) E V.kind_of (T.own rules.now) (T.step rules.now) (F.pre run.now) (F.post run.now) × IsReady (T.own rules.now) (lent_slot nearest.now) group.old }
-        ensures { GroupWent V.kind_of (T.step rules.entry.now) (T.own rules.entry.now) (lent_slot nearest.entry.now) group.old result group.new }
+        requires { IsStepper V (Work S (Nested V S C)) E V.kind_of (T.may_keep rules.now) (T.step rules.now) (F.pre run.now) (F.post run.now) × IsReady (T.may_keep rules.now) (lent_slot nearest.now) group.old }
+        ensures { GroupWent V.kind_of (T.step rules.entry.now) (T.may_keep rules.entry.now) (lent_slot nearest.entry.now) group.old result group.new }
     { run_group(rules, run, group, nearest) };
     run_each(&lane, groups)
 }
@@ -108,7 +108,7 @@ fn run_beside<
     C: Send,
     E: Drop + Send,
     T: Rules<V, Work<S, Nested<V, S, C>>, E> + Sync,
-    F: Fn(&mut Work<S, Nested<V, S, C>>, &Place<'_, V>, &mut Table<V>) -> Result<(), Fault<E>>
+    F: Fn(&mut Work<S, Nested<V, S, C>>, &Loan<'_, V>, &mut Table<V>) -> Result<(), Fault<E>>
         + Sync,
 >(
     rt: &R,
@@ -120,16 +120,16 @@ fn run_beside<
     groups: &mut [Group<V, Work<S, Nested<V, S, C>>>],
     workers: usize,
 ) -> Result<(), StageFault<E>>
-    requires stepper { IsStepper V (Work S (Nested V S C)) E V.kind_of (T.own rules.now) (T.step rules.now) (F.pre run.now) (F.post run.now) }
+    requires stepper { IsStepper V (Work S (Nested V S C)) E V.kind_of (T.may_keep rules.now) (T.step rules.now) (F.pre run.now) (F.post run.now) }
     requires own_slots { HasOwnSlots writes.now (lent_slot shelf.now) own.now }
     requires only_own { HasOnlySlots writes.now own.now }
-    requires ready { All (IsReady (T.own rules.now) (lent_before own.now (lent_slot shelf.now))) groups.old }
-    ensures { AllWent (GroupWent V.kind_of (T.step rules.now) (T.own rules.now) (lent_before own.now (lent_slot shelf.now))) groups.old result groups.new }
+    requires ready { All (IsReady (T.may_keep rules.now) (lent_before own.now (lent_slot shelf.now))) groups.old }
+    ensures { AllWent (GroupWent V.kind_of (T.step rules.now) (T.may_keep rules.now) (lent_before own.now (lent_slot shelf.now))) groups.old result groups.new }
 {
     let nearest = &behind(own, writes, shelf);
     let lane = |group: &mut Group<V, Work<S, Nested<V, S, C>>>| -> Result<(), StageFault<E>>
-        requires { IsStepper V (Work S (Nested V S C)) E V.kind_of (T.own rules.now) (T.step rules.now) (F.pre run.now) (F.post run.now) × IsReady (T.own rules.now) (lent_slot nearest.now) group.old }
-        ensures { GroupWent V.kind_of (T.step rules.entry.now) (T.own rules.entry.now) (lent_slot nearest.entry.now) group.old result group.new }
+        requires { IsStepper V (Work S (Nested V S C)) E V.kind_of (T.may_keep rules.now) (T.step rules.now) (F.pre run.now) (F.post run.now) × IsReady (T.may_keep rules.now) (lent_slot nearest.now) group.old }
+        ensures { GroupWent V.kind_of (T.step rules.entry.now) (T.may_keep rules.entry.now) (lent_slot nearest.entry.now) group.old result group.new }
     { run_group(rules, run, group, nearest) };
     run_lanes(rt, &lane, groups, workers)
 }
@@ -141,7 +141,7 @@ pub(crate) fn turn_in_order<
     C,
     E: Drop,
     T: Rules<V, Work<S, Nested<V, S, C>>, E>,
-    F: Fn(&mut Work<S, Nested<V, S, C>>, &Place<'_, V>, &mut Table<V>) -> Result<(), Fault<E>>,
+    F: Fn(&mut Work<S, Nested<V, S, C>>, &Loan<'_, V>, &mut Table<V>) -> Result<(), Fault<E>>,
 >(
     rules: &T,
     run: &F,
@@ -150,14 +150,14 @@ pub(crate) fn turn_in_order<
     groups: &mut [Group<V, Work<S, Nested<V, S, C>>>],
     own: &mut Table<V>,
 ) -> Result<(), StageFault<E>>
-    requires stepper { IsStepper V (Work S (Nested V S C)) E V.kind_of (T.own rules.now) (T.step rules.now) (F.pre run.now) (F.post run.now) }
+    requires stepper { IsStepper V (Work S (Nested V S C)) E V.kind_of (T.may_keep rules.now) (T.step rules.now) (F.pre run.now) (F.post run.now) }
     requires own_slots { HasOwnSlots writes.now (lent_slot shelf.now) own.old }
     requires only_own { HasOnlySlots writes.now own.old }
-    requires own_lists { All (IsGroupOf (T.own rules.now)) groups.old }
+    requires own_lists { All (IsGroupOf (T.may_keep rules.now)) groups.old }
     requires room { All KeepsRoom groups.old }
     requires apart { AreApart group_access (groups_plan groups.old) }
     requires within { (id : ResourceId) → some_writes groups.old id ≡ true → among writes.now id ≡ true }
-    ensures took { TookTurn V.kind_of (T.step rules.now) (T.own rules.now) groups.old (shown V.kind_of (lent_slot shelf.now) own.old) result groups.new (shown V.kind_of (lent_slot shelf.now) own.new) }
+    ensures took { TookTurn V.kind_of (T.step rules.now) (T.may_keep rules.now) groups.old (shown V.kind_of (lent_slot shelf.now) own.old) result groups.new (shown V.kind_of (lent_slot shelf.now) own.new) }
     ensures slots { IsSameSlots own.old own.new }
     ensures others { (id : ResourceId) → some_writes groups.old id ≡ false → slot_at own.new id ≡ slot_at own.old id }
 {
@@ -175,7 +175,7 @@ pub(crate) fn turn_beside<
     C: Send,
     E: Drop + Send,
     T: Rules<V, Work<S, Nested<V, S, C>>, E> + Sync,
-    F: Fn(&mut Work<S, Nested<V, S, C>>, &Place<'_, V>, &mut Table<V>) -> Result<(), Fault<E>>
+    F: Fn(&mut Work<S, Nested<V, S, C>>, &Loan<'_, V>, &mut Table<V>) -> Result<(), Fault<E>>
         + Sync,
 >(
     rt: &R,
@@ -187,14 +187,14 @@ pub(crate) fn turn_beside<
     own: &mut Table<V>,
     workers: usize,
 ) -> Result<(), StageFault<E>>
-    requires stepper { IsStepper V (Work S (Nested V S C)) E V.kind_of (T.own rules.now) (T.step rules.now) (F.pre run.now) (F.post run.now) }
+    requires stepper { IsStepper V (Work S (Nested V S C)) E V.kind_of (T.may_keep rules.now) (T.step rules.now) (F.pre run.now) (F.post run.now) }
     requires own_slots { HasOwnSlots writes.now (lent_slot shelf.now) own.old }
     requires only_own { HasOnlySlots writes.now own.old }
-    requires own_lists { All (IsGroupOf (T.own rules.now)) groups.old }
+    requires own_lists { All (IsGroupOf (T.may_keep rules.now)) groups.old }
     requires room { All KeepsRoom groups.old }
     requires apart { AreApart group_access (groups_plan groups.old) }
     requires within { (id : ResourceId) → some_writes groups.old id ≡ true → among writes.now id ≡ true }
-    ensures took { TookTurn V.kind_of (T.step rules.now) (T.own rules.now) groups.old (shown V.kind_of (lent_slot shelf.now) own.old) result groups.new (shown V.kind_of (lent_slot shelf.now) own.new) }
+    ensures took { TookTurn V.kind_of (T.step rules.now) (T.may_keep rules.now) groups.old (shown V.kind_of (lent_slot shelf.now) own.old) result groups.new (shown V.kind_of (lent_slot shelf.now) own.new) }
     ensures slots { IsSameSlots own.old own.new }
     ensures others { (id : ResourceId) → some_writes groups.old id ≡ false → slot_at own.new id ≡ slot_at own.old id }
 {

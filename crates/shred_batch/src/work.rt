@@ -1,5 +1,5 @@
 //! What may stand in an entry of a plan: a system, or a batch.
-use crate::control::ControlEntry;
+use crate::control::KeptController;
 use shred_group::dispatch::entry::Group;
 
 /// Groups that run beside each other.
@@ -11,7 +11,7 @@ pub struct Tier<V, X> {
 /// A controller and an inner plan, which is run as often as the controller says.
 #[derive(Drop)]
 pub struct Batch<V, C, X> {
-    pub control: ControlEntry<V, C>,
+    pub control: KeptController<V, C>,
     pub tiers: Vec<Tier<V, X>>,
 }
 

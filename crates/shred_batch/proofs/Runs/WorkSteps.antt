@@ -13,7 +13,7 @@ use Rattle.shred_group.specs.Sides.{stage_side}
 use Rattle.shred_group.specs.declared.dispatch.entry.Side.TheVariants.{Reads}
 use Rattle.shred_group.specs.Steps.{Outcome}
 use Rattle.shred_batch.specs.BatchRuns.{RanAsBatch}
-use Rattle.shred_batch.specs.ControlEntries.{control_access}
+use Rattle.shred_batch.specs.KeptControllers.{control_access}
 use Rattle.shred_batch.specs.Depths.{Declared, Related, Owns, WorkStep, batch_of}
 use Rattle.shred_batch.specs.Steppers.{IsStepBy}
 use Rattle.shred_batch.specs.Works.{InnerRun, IsTierWithin, IsBatchWithin, tier_numbers, tier_plan, tiers_plan}

@@ -13,10 +13,10 @@ use Rattle.shred_group.specs.OwnSlots.{lent_before}
 use Rattle.shred_group.specs.Steps.{declared_of}
 use Rattle.shred_group.specs.declared.system.Fault.{Fault}
 use Rattle.shred_group.proofs.Runs.Alone.{shows-held, held-shows}
-use Rattle.shred_batch.specs.ControlEntries.{control_access}
+use Rattle.shred_batch.specs.KeptControllers.{control_access}
 use Rattle.shred_batch.specs.Controls.{Control}
 use Rattle.shred_batch.specs.Rounds.{IsControlOver}
-use Rattle.shred_batch.specs.declared.control.ControlEntry.{ControlEntry}
+use Rattle.shred_batch.specs.declared.control.KeptController.{KeptController}
 use Rattle.shred_batch.proofs.Turns.Behind.{left-before, has-after, given-first, own-first}
 
 module _ {V : Type 0} (lent : Lent V) (writes taken : List ResourceId) (within : (q : ResourceId) → among taken q ≡ true → among writes q ≡ true) where
@@ -36,7 +36,7 @@ module _ {V : Type 0} (lent : Lent V) (writes taken : List ResourceId) (within :
     told true e = given-first (slot_value (slot_at ran q)) (slot_at after q) (lent q) (has q (within q e))
     told false e = refl
 
-module _ {V C : Type 0} (kind : V → Kind) (lent : Lent V) (writes : List ResourceId) (entry : ControlEntry V C) (own after hand ran end : Table V)
+module _ {V C : Type 0} (kind : V → Kind) (lent : Lent V) (writes : List ResourceId) (entry : KeptController V C) (own after hand ran end : Table V)
     (empty : IsEmptyHand entry.writes.items entry.hand) (within : (q : ResourceId) → among entry.writes.items q ≡ true → among writes q ≡ true) (has : HasOwnSlots writes lent own)
     (from : (q : ResourceId) → slot_at after q ≡ cond (among entry.writes.items q) (emptied (slot_at own q)) (slot_at own q))
     (to : (q : ResourceId) → slot_at hand q ≡ cond (among entry.writes.items q) (given (slot_value (slot_at own q)) (slot_at entry.hand q)) (slot_at entry.hand q))

@@ -1,10 +1,10 @@
-use Rattle.std.proofs.Common.{◌≡◌, List, length, sym, ◌∙◌, ap, subst, arith, rules}
+use Rattle.std.proofs.Common.{◌≡◌, List, length, sym, ◌∙◌, ap, subst, arith}
 use Rattle.std.specs.List.{All}
 use Rattle.std.proofs.lemmas.List.{with_items_is}
 use Rattle.shred_table.specs.Shown.{shown}
 use Rattle.shred_table.specs.Slots.{among}
 use Rattle.shred_world.specs.Views.{lent_slot}
-use Rattle.shred_batch.specs.ControlEntries.{control_access}
+use Rattle.shred_batch.specs.KeptControllers.{control_access}
 use Rattle.shred_batch.specs.Rounds.{BatchRun}
 use Rattle.shred_batch.specs.Works.{InnerRun, IsTierWithin, tiers_plan}
 use Rattle.shred_batch.specs.declared.work.Tier.{Tier}
@@ -14,7 +14,7 @@ use Rattle.shred_batch.proofs.beside.batch_beside.Goals as goal
 
 pub run_beside-requires-after_bounds : goal.run_beside-requires-after_bounds
 run_beside-requires-after_bounds g c κs bounds =
-    (omega arith, (c.requires.stepper, (c.requires.own_slots, (c.requires.only_own, (c.requires.within.control, (c.requires.within.writes_within, subst (All (IsTierWithin (g.T.Rules.own c.args.rules.now) c.args.reads.now c.args.writes.now)) (sym c.as_mut_slice.ensures.value) c.requires.within.tiers))))))
+    (omega arith, (c.requires.stepper, (c.requires.own_slots, (c.requires.only_own, (c.requires.within.control, (c.requires.within.writes_within, subst (All (IsTierWithin (g.T.Rules.may_keep c.args.rules.now) c.args.reads.now c.args.writes.now)) (sym c.as_mut_slice.ensures.value) c.requires.within.tiers))))))
 
 pub returns : goal.returns
 returns g c =
@@ -34,6 +34,6 @@ returns g c =
         control = went.control;
         reads_within = λ id some. c.requires.within.reads_within id (ap (λ access. among access.reads id) (sym went.access) ∙ some);
         writes_within = λ id some. c.requires.within.writes_within id (ap (λ access. among access.writes id) (sym went.access) ∙ some);
-        tiers = subst (All (IsTierWithin (g.T.Rules.own c.args.rules.now) c.args.reads.now c.args.writes.now)) (sym put) went.within;
+        tiers = subst (All (IsTierWithin (g.T.Rules.may_keep c.args.rules.now) c.args.reads.now c.args.writes.now)) (sym put) went.within;
       };
     }

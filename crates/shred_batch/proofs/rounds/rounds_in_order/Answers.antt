@@ -4,7 +4,7 @@ use Rattle.shred_table.specs.declared.id.ResourceId.{ResourceId}
 use Rattle.shred_table.specs.Shown.{shown}
 use Rattle.shred_table.specs.Slots.{among}
 use Rattle.shred_world.specs.Views.{lent_slot}
-use Rattle.shred_batch.specs.ControlEntries.{control_access}
+use Rattle.shred_batch.specs.KeptControllers.{control_access}
 use Rattle.shred_batch.specs.Rounds.{IsControlOver, Rounds}
 use Rattle.shred_batch.specs.Works.{InnerRun}
 use Rattle.shred_batch.proofs.Turns.Rounds.{none-left, on-no, on-fault, on-inner_fault, on-yes, not-within}

@@ -7,7 +7,7 @@ use Rattle.shred_table.specs.Slots.{among}
 use Rattle.shred_world.specs.Views.{lent_slot}
 use Rattle.shred_world.specs.Worked.{Held}
 use Rattle.shred_group.specs.Steps.{Outcome}
-use Rattle.shred_batch.specs.ControlEntries.{control_access, IsOwnControl}
+use Rattle.shred_batch.specs.KeptControllers.{control_access, IsOwnControl}
 use Rattle.shred_batch.specs.Rounds.{Rounds}
 use Rattle.shred_batch.specs.Works.{InnerRun, IsTierWithin, tiers_plan}
 use Rattle.shred_batch.proofs.rounds.rounds_in_order.Given as goal
@@ -17,7 +17,7 @@ invariant-loop-round g l = record {
   plan : tiers_plan l.tiers ≡ tiers_plan l.initial.tiers;
   access : control_access l.control ≡ control_access l.initial.control;
   control : IsOwnControl g.C.ControllerOf.its_reads g.C.ControllerOf.its_writes l.control;
-  within : All (IsTierWithin (g.T.Rules.own l.rules) l.reads l.writes) l.tiers;
+  within : All (IsTierWithin (g.T.Rules.may_keep l.rules) l.reads l.writes) l.tiers;
   kinds : (id : ResourceId) → option_map g.V.ResourceValue.kind_of (shown g.V.ResourceValue.kind_of (lent_slot l.shelf) l.own id) ≡ option_map g.V.ResourceValue.kind_of (shown g.V.ResourceValue.kind_of (lent_slot l.shelf) l.initial.own id);
   slots : IsSameSlots l.initial.own l.own;
   frame : (id : ResourceId) → among l.writes id ≡ false → shown g.V.ResourceValue.kind_of (lent_slot l.shelf) l.own id ≡ shown g.V.ResourceValue.kind_of (lent_slot l.shelf) l.initial.own id;

@@ -35,14 +35,14 @@ returns-in-Err-clause-slots g c = λ id. c.in-Err.ensures.slots id ∙ c.loop-en
 
 pub returns-in-Err-clause-own_lists : goal.returns-in-Err-clause-own_lists
 returns-in-Err-clause-own_lists g c =
-    All-set (IsEntryOf (g.T.Rules.own c.args.rules.now)) c.loop-entry.entries c.loop-entry.entry-index c.run_entry.new.entry c.in-Err.ensures.own_lists c.loop-entry.invariant.own_lists
+    All-set (IsEntryOf (g.T.Rules.may_keep c.args.rules.now)) c.loop-entry.entries c.loop-entry.entry-index c.run_entry.new.entry c.in-Err.ensures.own_lists c.loop-entry.invariant.own_lists
 
 pub loop-entry-preserved : goal.loop-entry-preserved
 loop-entry-preserved g c = record {
   plan = map-set_same entry_plan c.loop-entry.entries c.loop-entry.entry-index c.run_entry.new.entry c.entry-item.result c.in_default.ensures.plan ∙ c.loop-entry.invariant.plan;
   kinds = λ id. c.in_default.ensures.kinds id ∙ c.loop-entry.invariant.kinds id;
   slots = λ id. c.in_default.ensures.slots id ∙ c.loop-entry.invariant.slots id;
-  own_lists = All-set (IsEntryOf (g.T.Rules.own c.args.rules.now)) c.loop-entry.entries c.loop-entry.entry-index c.run_entry.new.entry c.in_default.ensures.own_lists c.loop-entry.invariant.own_lists;
+  own_lists = All-set (IsEntryOf (g.T.Rules.may_keep c.args.rules.now)) c.loop-entry.entries c.loop-entry.entry-index c.run_entry.new.entry c.in_default.ensures.own_lists c.loop-entry.invariant.own_lists;
   places = places-set c.loop-entry.own c.run_entry.new.own c.in_default.ensures.slots c.args.single c.loop-entry.entries c.loop-entry.entry-index c.run_entry.new.entry c.in_default.ensures.place c.loop-entry.invariant.places;
   ran = SoFar-more (EntryRun g.V.ResourceValue.kind_of (g.T.Rules.step c.args.rules.now)) entry_plan entry_states c.loop-entry.entries (shown g.V.ResourceValue.kind_of (lent_slot c.args.shelf.now) c.loop-entry.own)
       c.loop-entry.invariant.plan c.loop-entry.invariant.ran c.entry-item.result c.run_entry.new.entry (shown g.V.ResourceValue.kind_of (lent_slot c.args.shelf.now) c.run_entry.new.own) (omega arith) c.in_default.ensures.ran;

@@ -28,7 +28,7 @@ turn_in_order-requires g c =
           (
             c.requires.only_own,
             (
-              subst (All (IsGroupOf (g.T.Rules.own c.args.rules.now))) same tier.owns,
+              subst (All (IsGroupOf (g.T.Rules.may_keep c.args.rules.now))) same tier.owns,
               (
                 subst (All KeepsRoom) same tier.room,
                 (
@@ -50,7 +50,7 @@ returns g c =
     let put = with_items_is was c.turn_in_order.new.groups same in
     let went = rw c.as_mut_slice.ensures.value at c.turn_in_order.ensures in
     record {
-      took = subst (λ groups. TookTurn g.V.ResourceValue.kind_of (g.T.Rules.step c.args.rules.now) (g.T.Rules.own c.args.rules.now) was.items (seen c.args.own.now) c.turn_in_order.result groups (seen c.turn_in_order.new.own)) (sym put) went.took;
+      took = subst (λ groups. TookTurn g.V.ResourceValue.kind_of (g.T.Rules.step c.args.rules.now) (g.T.Rules.may_keep c.args.rules.now) was.items (seen c.args.own.now) c.turn_in_order.result groups (seen c.turn_in_order.new.own)) (sym put) went.took;
       slots = went.slots;
       others = went.others;
     }

@@ -16,7 +16,7 @@ use Rattle.shred_group.specs.Steps.{Outcome, Step, Written, IsStep, declared_of}
 use Rattle.shred_group.specs.Entries.{entry_answer, EntryRun}
 
 -- under a declared id, the declared values are those that are held
-declared_of-declared : {V : Type 0} (a : Access ResourceId) (held : Held V) (id : ResourceId) → Declares a id → held id ≡ declared_of a held id
+pub declared_of-declared : {V : Type 0} (a : Access ResourceId) (held : Held V) (id : ResourceId) → Declares a id → held id ≡ declared_of a held id
 declared_of-declared a held id (inl r) = rw (among-contains a.reads id r) refl
 declared_of-declared a held id (inr w) = rw (among-contains a.writes id w) (either (among a.reads id)) where
   either : (b : Bool) → held id ≡ cond (b || true) (held id) None
@@ -24,7 +24,7 @@ declared_of-declared a held id (inr w) = rw (among-contains a.writes id w) (eith
   either false = refl
 
 -- under any other id, there is none
-declared_of-other : {V : Type 0} (a : Access ResourceId) (held : Held V) (id : ResourceId) → (Declares a id → ⊥) → declared_of a held id ≡ None
+pub declared_of-other : {V : Type 0} (a : Access ResourceId) (held : Held V) (id : ResourceId) → (Declares a id → ⊥) → declared_of a held id ≡ None
 declared_of-other a held id out = rw (among-false a.reads id (λ r. out (inl r)), among-false a.writes id (λ w. out (inr w))) refl
 
 module _ {V S E : Type 0} (kind : V → Kind) (step : Step V S E) (entry : model.PlanEntry ResourceId) (s t : S) (x y : Held V) (o : Outcome E)

@@ -1,0 +1,46 @@
+-- Plans whose entries what stands in them fits.
+use Rattle.std.proofs.Common.{ℕ, zero, suc, [], Option, Some, None, Contains}
+use Rattle.shred_model.specs.Access.{Access, Declares}
+use Rattle.shred_model.specs.Plan as model
+use Rattle.shred_table.specs.declared.id.ResourceId.{ResourceId}
+use Rattle.shred_group.specs.Sides.{plan_reads, plan_writes}
+use Rattle.shred_paths.specs.Occupants.{Occupant, Occupants, a_system, a_batch, inside}
+use Rattle.shred_paths.proofs.Opened.Runs.{EachAt}
+
+-- The inner access declares no id that the outer one does not, and writes none that this does not write.
+pub record IsNoMore (outer inner : Access ResourceId) : Type 0 where
+  pub declared : (id : ResourceId) → Declares inner id → Declares outer id
+  pub written : (id : ResourceId) → Contains inner.writes id → Contains outer.writes id
+
+-- all that a plan's entries may touch
+abbrev pub plan_access : model.Plan ResourceId → Access ResourceId
+plan_access plan = record { reads = plan_reads plan; writes = plan_writes plan }
+
+-- Fits says what fits an access.
+module _ (Fits : Occupants → Access ResourceId → Type 0) where
+  -- what stands in an entry fits its access
+  abbrev pub EntryFits : Occupants → ℕ → model.PlanEntry ResourceId → Type 0
+  EntryFits occupants place entry = Fits (inside occupants place) entry.access
+
+  -- so it is of each entry of a group
+  abbrev pub GroupFits : Occupants → ℕ → model.Group ResourceId → Type 0
+  GroupFits occupants place group = EachAt (EntryFits (inside occupants place)) 0 group
+
+  -- so it is of each group of a stage
+  abbrev pub StageFits : Occupants → model.Stage ResourceId → Type 0
+  StageFits occupants stage = EachAt (GroupFits occupants) 0 stage
+
+  -- so it is of each stage of a plan
+  abbrev pub PlanFits : Occupants → model.Plan ResourceId → Type 0
+  PlanFits occupants plan = EachAt (λ place stage. StageFits (inside occupants place) stage) 0 plan
+
+-- an occupant fits an access that has what its controller may touch, and its inner entries, whose own occupants fit them
+abbrev pub OccupantFits : (model.Plan ResourceId → Type 0) → Option Occupant → Access ResourceId → Type 0
+OccupantFits Inner (Some (a_batch control plan)) access = IsNoMore access control × IsNoMore access (plan_access plan) × Inner plan
+OccupantFits Inner (Some a_system) access = Unit {0}
+OccupantFits Inner None access = Unit {0}
+
+-- so it is at each depth
+unfoldable pub Fits : ℕ → Occupants → Access ResourceId → Type 0
+Fits zero occupants access = OccupantFits (λ plan. Unit {0}) (occupants []) access
+Fits (suc less) occupants access = OccupantFits (PlanFits (Fits less) occupants) (occupants []) access

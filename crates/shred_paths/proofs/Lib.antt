@@ -1,0 +1,9 @@
+pub mod Opened
+pub mod Fits
+pub mod Within
+pub mod Turns
+pub mod Stays
+pub mod Batches
+pub mod Works
+pub mod Owned
+pub mod Serializable

@@ -1,0 +1,134 @@
+-- What may be kept with its lists fits them.
+use Rattle.std.proofs.Common.{◌≡◌, ℕ, zero, suc, ◌+◌, ◌||◌, Bool, true, false, Contains, List, [], ◌∷◌, All, map, Option, Some, slice_get, inl, inr, refl, sym, ap, subst, arith}
+use Rattle.std.proofs.Math.Bool.{or-true}
+use Rattle.std.proofs.lemmas.List.Elements.{Contains-append_cases, recursion_from_All}
+use Rattle.std.specs.List.{AllByRecursion}
+use Rattle.std.specs.Prelude.{option_and_then}
+use Rattle.shred_model.specs.Access.{Access, Declares}
+use Rattle.shred_model.specs.Record.{Agent}
+use Rattle.shred_model.specs.States.{listed_states}
+use Rattle.shred_model.proofs.Records.Framed.{AllByRecursion-weaker}
+use Rattle.shred_table.specs.declared.id.ResourceId.{ResourceId}
+use Rattle.shred_table.specs.Slots.{among}
+use Rattle.shred_table.proofs.Tables.Ids.{among-contains, among-true}
+use Rattle.shred_group.specs.Entries.{entry_states, group_states}
+use Rattle.shred_group.specs.Hands.{KeepsRoom, some_writes}
+use Rattle.shred_group.specs.OwnLists.{IsEntryOf, IsGroupOf}
+use Rattle.shred_group.specs.PlanOf.{entry_plan, group_plan, groups_plan}
+use Rattle.shred_group.specs.Sides.{group_side, plan_reads, plan_writes, stage_side}
+use Rattle.shred_group.specs.declared.dispatch.entry.Group.{Group}
+use Rattle.shred_group.specs.declared.dispatch.entry.Side.TheVariants.{Reads, Writes}
+use Rattle.shred_batch.specs.Depths.{Declared, Owns, batch_of}
+use Rattle.shred_batch.specs.KeptControllers.{control_access}
+use Rattle.shred_batch.specs.Works.{IsTierWithin, tier_plan, tiers_plan}
+use Rattle.shred_batch.specs.declared.work.Nested.{Nested}
+use Rattle.shred_batch.specs.declared.work.Tier.{Tier}
+use Rattle.shred_batch.specs.declared.work.Work.{Work}
+use Rattle.shred_batch.specs.declared.work.Work.TheVariants.{System, Batch}
+use Rattle.shred_paths.specs.Occupants.{at_places, inside, said_inside, work_occupants}
+use Rattle.shred_paths.proofs.Fits.{Fits, IsNoMore, PlanFits, StageFits, plan_access}
+use Rattle.shred_paths.proofs.Opened.Runs.{EachAt}
+
+module _ {Y Z S : Type 0} (states : Y → Agent → Option S) (view : Y → Z) (P : (Agent → Option S) → Z → Type 0) where
+  from : (all rest : List Y) (n : ℕ) → ((k : ℕ) → slice_get all (k + n) ≡ slice_get rest k) → AllByRecursion (λ y. P (states y) (view y)) rest → EachAt (λ m z. P (inside (listed_states states all) m) z) n (map view rest)
+  from all [] n same each = tt
+  from all (y ∷ rest) n same each =
+      let first : 0 + n ≡ n = omega arith in
+      let here : slice_get all n ≡ Some y = subst (λ (k : ℕ). slice_get all k ≡ Some y) first (same 0) in (
+        subst (λ (st : Agent → Option S). P st (view y)) (λ i path. option_and_then (λ (w : Y). states w path) (sym here i)) each.0,
+        from all rest (suc n) (λ k. let next : suc k + n ≡ k + suc n = omega arith in subst (λ (j : ℕ). slice_get all j ≡ slice_get rest k) next (same (suc k))) each.1,
+      )
+
+  -- what each element has with its states, it has with those at its place
+  pub EachAt-listed : (ys : List Y) → AllByRecursion (λ y. P (states y) (view y)) ys → EachAt (λ n z. P (inside (listed_states states ys) n) z) 0 (map view ys)
+  EachAt-listed ys each = from ys ys 0 (λ k. let same : k + 0 ≡ k = omega arith in ap (slice_get ys) same) each
+
+among-writes : (reads writes : List ResourceId) (id : ResourceId) → (among reads id || among writes id) ≡ true → Declares (record { reads = reads; writes = writes }) id
+among-writes reads writes id e = told (among reads id) refl e where
+  told : (b : Bool) → among reads id ≡ b → (b || among writes id) ≡ true → Declares (record { reads = reads; writes = writes }) id
+  told true is h = inl (among-true reads id is)
+  told false is h = inr (among-true writes id h)
+
+-- lists that are within others, as tests tell it
+controls-within : (inner : Access ResourceId) (reads writes : List ResourceId) → ((id : ResourceId) → among inner.reads id ≡ true → (among reads id || among writes id) ≡ true) → ((id : ResourceId) → among inner.writes id ≡ true → among writes id ≡ true)
+    → IsNoMore (record { reads = reads; writes = writes }) inner
+controls-within inner reads writes reads_within writes_within = record {
+  declared = λ id d. elim d [
+    | inl c ↦ among-writes reads writes id (reads_within id (among-contains inner.reads id c))
+    | inr c ↦ inr (among-true writes id (writes_within id (among-contains inner.writes id c)))
+  ];
+  written = λ id c. among-true writes id (writes_within id (among-contains inner.writes id c));
+}
+
+-- what the entries of groups write, some group writes
+some-written : {V X : Type 0} (groups : List (Group V X)) → AllByRecursion KeepsRoom groups → (id : ResourceId) → Contains (stage_side Writes (groups_plan groups)) id → some_writes groups id ≡ true
+some-written [] room id (k, below, is) = absurd (omega arith)
+some-written (g ∷ rest) room id c = elim (Contains-append_cases (group_side Writes (group_plan g)) (stage_side Writes (groups_plan rest)) id c) [
+  | inl here ↦ let e : among g.written.items id ≡ true = subst (λ (l : List ResourceId). among l id ≡ true) (sym room.0.same_writes) (among-contains (group_side Writes (group_plan g)) id here) in rw e refl
+  | inr more ↦ rw (some-written rest room.1 id more) (or-true (among g.written.items id))
+]
+
+-- an inner plan is within the lists that its tiers are within
+module _ {V X : Type 0} (own : X → List ResourceId → List ResourceId → Type 0) (reads writes : List ResourceId) where
+  reads-within : (tiers : List (Tier V X)) → AllByRecursion (IsTierWithin own reads writes) tiers → (id : ResourceId) → Contains (plan_reads (tiers_plan tiers)) id → Declares (record { reads = reads; writes = writes }) id
+  reads-within [] within id (k, below, is) = absurd (omega arith)
+  reads-within (tier ∷ rest) within id c = elim (Contains-append_cases (stage_side Reads (tier_plan tier)) (plan_reads (tiers_plan rest)) id c) [
+    | inl here ↦ among-writes reads writes id (within.0.reads_within id (among-contains (stage_side Reads (tier_plan tier)) id here))
+    | inr more ↦ reads-within rest within.1 id more
+  ]
+
+  writes-within : (tiers : List (Tier V X)) → AllByRecursion (IsTierWithin own reads writes) tiers → (id : ResourceId) → Contains (plan_writes (tiers_plan tiers)) id → Contains writes id
+  writes-within [] within id (k, below, is) = absurd (omega arith)
+  writes-within (tier ∷ rest) within id c = elim (Contains-append_cases (stage_side Writes (tier_plan tier)) (plan_writes (tiers_plan rest)) id c) [
+    | inl here ↦ among-true writes id (within.0.writes_within id (some-written tier.groups.items (recursion_from_All KeepsRoom tier.groups.items within.0.room) id here))
+    | inr more ↦ writes-within rest within.1 id more
+  ]
+
+  tiers-within : (tiers : List (Tier V X)) → AllByRecursion (IsTierWithin own reads writes) tiers → IsNoMore (record { reads = reads; writes = writes }) (plan_access (tiers_plan tiers))
+  tiers-within tiers within = record {
+    declared = λ id d. elim d [ inl c ↦ reads-within tiers within id c | inr c ↦ inr (writes-within tiers within id c) ];
+    written = writes-within tiers within;
+  }
+
+-- what may be kept with its lists at this depth fits them
+abbrev pub OwnsFits : (V : Type 0) {S C : Type 0} → Declared S C → ℕ → Type 0
+OwnsFits V {S} {C} declared depth = (work : Work S (Nested V S C)) (reads writes : List ResourceId) → Owns declared depth work reads writes → Fits depth (work_occupants depth work) (record { reads = reads; writes = writes })
+
+module _ {V S C : Type 0} (declared : Declared S C) where
+  module _ (depth : ℕ) (fits : OwnsFits V declared depth) where
+    group-fits : (group : Group V (Work S (Nested V S C))) → IsGroupOf (Owns declared depth) group → EachAt (λ n entry. Fits depth (at_places 0 (work_occupants depth) (inside (group_states group) n)) entry.access) 0 (group_plan group)
+    group-fits group owns = EachAt-listed entry_states entry_plan (λ st entry. Fits depth (at_places 0 (work_occupants depth) st) entry.access) group.entries.items
+        (AllByRecursion-weaker (IsEntryOf (Owns declared depth)) _ (λ entry own. fits entry.system entry.reads.items entry.writes.items own.lists) group.entries.items (recursion_from_All _ group.entries.items owns))
+
+    groups-fit : (groups : List (Group V (Work S (Nested V S C)))) → All (IsGroupOf (Owns declared depth)) groups → StageFits (Fits depth) (at_places 2 (work_occupants depth) (listed_states group_states groups)) (groups_plan groups)
+    groups-fit groups owns = EachAt-listed group_states group_plan (λ st group. EachAt (λ n entry. Fits depth (at_places 0 (work_occupants depth) (inside st n)) entry.access) 0 group) groups
+        (AllByRecursion-weaker (IsGroupOf (Owns declared depth)) _ group-fits groups (recursion_from_All _ groups owns))
+
+    -- stages of such groups
+    stages-fit : {Y : Type 0} (groups : Y → List (Group V (Work S (Nested V S C)))) (ys : List Y) → AllByRecursion (λ y. All (IsGroupOf (Owns declared depth)) (groups y)) ys
+        → PlanFits (Fits depth) (at_places 3 (work_occupants depth) (listed_states (λ y. listed_states group_states (groups y)) ys)) (map (λ y. groups_plan (groups y)) ys)
+    stages-fit groups ys owns = EachAt-listed (λ y. listed_states group_states (groups y)) (λ y. groups_plan (groups y)) (λ st stage. StageFits (Fits depth) (at_places 2 (work_occupants depth) st) stage) ys
+        (AllByRecursion-weaker (λ y. All (IsGroupOf (Owns declared depth)) (groups y)) _ (λ y one. groups-fit (groups y) one) ys owns)
+
+  pub owns-fits : (depth : ℕ) → OwnsFits V declared depth
+  unfolding Owns Fits said_inside
+  owns-fits zero (System s) reads writes owns = tt
+  owns-fits (suc less) (System s) reads writes owns = tt
+  owns-fits zero (Batch nested) reads writes owns = absurd owns
+  owns-fits (suc less) (Batch nested) reads writes owns =
+      let batch = batch_of nested in
+      let tiers = recursion_from_All _ batch.tiers.items owns.tiers in (
+        controls-within (control_access batch.control) reads writes owns.reads_within owns.writes_within,
+        tiers-within (Owns declared less) reads writes batch.tiers.items tiers,
+        stages-fit less (owns-fits less) (λ (tier : Tier V (Work S (Nested V S C))). tier.groups.items) batch.tiers.items
+            (AllByRecursion-weaker (IsTierWithin (Owns declared less) reads writes) _ (λ tier one. one.owns) batch.tiers.items tiers),
+      )
+
+  -- the groups of a stage that may be kept with their lists fit them
+  pub stage-fits : (depth : ℕ) (groups : List (Group V (Work S (Nested V S C)))) → All (IsGroupOf (Owns declared depth)) groups → StageFits (Fits depth) (at_places 2 (work_occupants depth) (listed_states group_states groups)) (groups_plan groups)
+  stage-fits depth = groups-fit depth (owns-fits depth)
+
+  -- so do the stages of a plan
+  pub plan-fits : (depth : ℕ) {Y : Type 0} (groups : Y → List (Group V (Work S (Nested V S C)))) (ys : List Y) → AllByRecursion (λ y. All (IsGroupOf (Owns declared depth)) (groups y)) ys
+      → PlanFits (Fits depth) (at_places 3 (work_occupants depth) (listed_states (λ y. listed_states group_states (groups y)) ys)) (map (λ y. groups_plan (groups y)) ys)
+  plan-fits depth groups ys owns = stages-fit depth (owns-fits depth) groups ys owns

@@ -1,0 +1,91 @@
+-- The records of runs at every depth keep within the accesses of the entries that they are inside of.
+use Rattle.std.proofs.Common.{◌≡◌, ℕ, zero, suc, Bool, true, false, List, [], ◌∷◌, ◌++◌, Option, Some, None, Ok, Err, Result, Contains, inl, inr, subst}
+use Rattle.std.specs.List.{AllByRecursion}
+use Rattle.shred_model.specs.Access.{Access, Declares}
+use Rattle.shred_model.specs.Plan as model
+use Rattle.shred_model.specs.Record.{Record, Agent, IsFramed}
+use Rattle.shred_model.specs.Runs.{Answer}
+use Rattle.shred_model.proofs.Records.Framed.{AllByRecursion-append, AllByRecursion-same, AllByRecursion-weaker, AllFramed}
+use Rattle.shred_model.proofs.Records.Within.{IsWithin, RunsEach-within, RunsUpToFault-within, joined_access}
+use Rattle.shred_table.specs.declared.id.Kind.{Kind}
+use Rattle.shred_table.specs.declared.id.ResourceId.{ResourceId}
+use Rattle.shred_group.specs.declared.dispatch.run.StageFault.{StageFault}
+use Rattle.shred_group.specs.declared.system.Fault.{Fault}
+use Rattle.shred_group.specs.Steps.{Outcome}
+use Rattle.shred_batch.specs.Controls.{Control}
+use Rattle.shred_batch.specs.Depths.{Related}
+use Rattle.shred_paths.specs.DeepRecords.{DeepRecord, IsDeepStep, Told, at_most, is_done, once_more}
+use Rattle.shred_paths.specs.DeepRuns.{DeepBatchRun, DeepEntryRun, DeepGroupRun, DeepPlanRun, DeepRounds, DeepRun, DeepStageTurn, OccupantRun}
+use Rattle.shred_paths.specs.Occupants.{AgentState, Occupant, Occupants, a_batch, a_system, inside, of_controller, of_system}
+use Rattle.shred_paths.proofs.Fits.{EntryFits, Fits, GroupFits, IsNoMore, OccupantFits, PlanFits, StageFits, plan_access}
+use Rattle.shred_paths.proofs.Opened.Runs.{With, Each-with, UpToFault-with}
+
+module _ {V S C E : Type 0} where
+  -- a record of one step keeps within an access that has the step's
+  pub step-within : {X A : Type 0} (kind : V → Kind) (relation : Control V X A E) (state : X → AgentState S C) (tells : A → Told) (outer access : Access ResourceId) (answer : Result A (Fault E)) (r : DeepRecord V S C E) → IsNoMore outer access → IsDeepStep kind relation state tells access answer r → IsWithin outer r
+  step-within kind relation state tells outer access answer r no_more one = record {
+    framed = one.frame;
+    declared = λ id d. no_more.declared id (subst (λ (x : Access ResourceId). Declares x id) one.declared d);
+    written = λ id w. no_more.written id (subst (λ (x : Access ResourceId). Contains x.writes id) one.declared w);
+  }
+
+  wider : (inner outer : Access ResourceId) → IsNoMore outer inner → (list : List (DeepRecord V S C E)) → AllByRecursion (IsWithin inner) list → AllByRecursion (IsWithin outer) list
+  wider inner outer no_more list within = AllByRecursion-weaker (IsWithin inner) (IsWithin outer) (λ r h. record { framed = h.framed; declared = λ id d. no_more.declared id (h.declared id d); written = λ id w. no_more.written id (h.written id w) }) list within
+
+  module _ (Own : Occupants → Access ResourceId → List (DeepRecord V S C E) → Outcome E → Type 0) (Fits : Occupants → Access ResourceId → Type 0)
+      (own-within : (occupants : Occupants) (access : Access ResourceId) (list : List (DeepRecord V S C E)) (o : Outcome E) → Fits occupants access → Own occupants access list o → AllByRecursion (IsWithin access) list) where
+    entry_within : (all : Occupants) (n : ℕ) (entry : model.PlanEntry ResourceId) (list : List (DeepRecord V S C E)) (a : Answer (StageFault E)) → With (EntryFits Fits all) (DeepEntryRun Own all) n entry list a → AllByRecursion (IsWithin entry.access) list
+    entry_within all n entry list a (fit, (o, run, is)) = own-within (inside all n) entry.access list o fit run
+
+    -- of a group's run
+    pub group_within : (all : Occupants) (n : ℕ) (group : model.Group ResourceId) (list : List (DeepRecord V S C E)) (a : Answer (StageFault E)) → With (GroupFits Fits all) (DeepGroupRun Own all) n group list a → AllByRecursion (IsWithin (model.group_access group)) list
+    group_within all n group list a (fits, run) = RunsUpToFault-within (λ (e : model.PlanEntry ResourceId). e.access) (With (EntryFits Fits (inside all n)) (DeepEntryRun Own (inside all n))) (entry_within (inside all n)) 0 group list a
+        (UpToFault-with (EntryFits Fits (inside all n)) (DeepEntryRun Own (inside all n)) 0 group list a fits run)
+
+    -- of a stage's turn
+    pub turn_within : (all : Occupants) (stage : model.Stage ResourceId) (list : List (DeepRecord V S C E)) (a : Answer (StageFault E)) → StageFits Fits all stage → DeepStageTurn Own all stage list a → AllByRecursion (IsWithin (joined_access model.group_access stage)) list
+    turn_within all stage list a fits (inl run) = RunsEach-within model.group_access (With (GroupFits Fits all) (DeepGroupRun Own all)) (group_within all) 0 stage list a (Each-with (GroupFits Fits all) (DeepGroupRun Own all) 0 stage list a fits run)
+    turn_within all stage list a fits (inr refused) = AllByRecursion-same (IsWithin (joined_access model.group_access stage)) list [] refused.0 tt
+
+    -- of a plan's run
+    pub plan_within : {F : Type 0} (tells : ℕ → Answer (StageFault E) → Answer F) (all : Occupants) (plan : model.Plan ResourceId) (list : List (DeepRecord V S C E)) (answer : Answer F) → PlanFits Fits all plan → DeepPlanRun Own tells all plan list answer → AllByRecursion (IsWithin (plan_access plan)) list
+    plan_within {F} tells all plan list answer fits run = RunsUpToFault-within (joined_access model.group_access) (With (λ n stage. StageFits Fits (inside all n) stage) Turn)
+        (λ n stage part told turn. turn_within (inside all n) stage part turn.1.0 turn.0 turn.1.1) 0 plan list answer (UpToFault-with (λ n stage. StageFits Fits (inside all n) stage) Turn 0 plan list answer fits run) where
+          Turn : ℕ → model.Stage ResourceId → List (DeepRecord V S C E) → Answer F → Type 0
+          Turn n stage part told = (a : Answer (StageFault E)) × DeepStageTurn Own (inside all n) stage part a × (told ≡ tells n a)
+
+  module _ (kind : V → Kind) (asks : Control V C Bool E) (outer access : Access ResourceId) (no_more : IsNoMore outer access) (Inner : List (DeepRecord V S C E) → Answer (StageFault E) → Type 0)
+      (within : (list : List (DeepRecord V S C E)) (a : Answer (StageFault E)) → Inner list a → AllByRecursion (IsWithin outer) list) where
+    rounds_within : (left : ℕ) (list : List (DeepRecord V S C E)) (o : Outcome E) → DeepRounds kind asks access Inner left list o → AllByRecursion (IsWithin outer) list
+    rounds_within zero list o (is, done) = AllByRecursion-same (IsWithin outer) list [] is tt
+    rounds_within (suc more) list o (r, Ok true, one, (round, Ok tt, run, (others, is, rest))) = AllByRecursion-same (IsWithin outer) list (r ∷ (round ++ others)) is (
+      step-within kind asks of_controller once_more outer access (Ok true) r no_more one,
+      AllByRecursion-append (IsWithin outer) round others (within round (Ok tt) run) (rounds_within more others o rest),
+    )
+    rounds_within (suc more) list o (r, Ok true, one, (round, Err fault, run, (is, end))) = AllByRecursion-same (IsWithin outer) list (r ∷ round) is (step-within kind asks of_controller once_more outer access (Ok true) r no_more one, within round (Err fault) run)
+    rounds_within (suc more) list o (r, Ok false, one, (is, end)) = AllByRecursion-same (IsWithin outer) list (r ∷ []) is (step-within kind asks of_controller once_more outer access (Ok false) r no_more one, tt)
+    rounds_within (suc more) list o (r, Err fault, one, (is, end)) = AllByRecursion-same (IsWithin outer) list (r ∷ []) is (step-within kind asks of_controller once_more outer access (Err fault) r no_more one, tt)
+
+    batch_within : (begins : Control V C ℕ E) (list : List (DeepRecord V S C E)) (o : Outcome E) → DeepBatchRun kind asks access Inner begins list o → AllByRecursion (IsWithin outer) list
+    batch_within begins list o (r, Ok most, one, (others, is, rest)) = AllByRecursion-same (IsWithin outer) list (r ∷ others) is (step-within kind begins of_controller at_most outer access (Ok most) r no_more one, rounds_within most others o rest)
+    batch_within begins list o (r, Err fault, one, (is, end)) = AllByRecursion-same (IsWithin outer) list (r ∷ []) is (step-within kind begins of_controller at_most outer access (Err fault) r no_more one, tt)
+
+module _ {V S C E : Type 0} (kind : V → Kind) (related : Related V S C E) where
+  occupant_within : (InnerFits : model.Plan ResourceId → Type 0) (Inner : model.Plan ResourceId → List (DeepRecord V S C E) → Answer (StageFault E) → Type 0)
+      → ((plan : model.Plan ResourceId) (list : List (DeepRecord V S C E)) (a : Answer (StageFault E)) → InnerFits plan → Inner plan list a → AllByRecursion (IsWithin (plan_access plan)) list)
+      → (occupant : Option Occupant) (access : Access ResourceId) (list : List (DeepRecord V S C E)) (o : Outcome E) → OccupantFits InnerFits occupant access → OccupantRun kind related Inner occupant access list o → AllByRecursion (IsWithin access) list
+  occupant_within InnerFits Inner within (Some a_system) access list o fits (r, is, one) =
+      AllByRecursion-same (IsWithin access) list (r ∷ []) is (step-within kind related.steps of_system (λ done. is_done) access access o r (record { declared = λ id d. d; written = λ id w. w }) one, tt)
+  occupant_within InnerFits Inner within (Some (a_batch control plan)) access list o fits run = batch_within kind related.asks access control fits.0 (Inner plan) (λ part a inner. wider (plan_access plan) access fits.1 part (within plan part a fits.2 inner)) related.begins list o run
+  occupant_within InnerFits Inner within None access list o fits run = absurd run
+
+  -- the records of a run of what fits an access keep within it
+  pub deep_within : (depth : ℕ) (occupants : Occupants) (access : Access ResourceId) (list : List (DeepRecord V S C E)) (o : Outcome E) → Fits depth occupants access → DeepRun kind related depth occupants access list o → AllByRecursion (IsWithin access) list
+  unfolding DeepRun Fits
+  deep_within zero occupants access list o fits run = occupant_within (λ plan. Unit {0}) (λ plan part a. ⊥) (λ plan part a fit none. absurd none) (occupants []) access list o fits run
+  deep_within (suc less) occupants access list o fits run = occupant_within (PlanFits (Fits less) occupants) (DeepPlanRun (DeepRun kind related less) (λ place answer. answer) occupants)
+      (plan_within (DeepRun kind related less) (Fits less) (deep_within less) (λ place answer. answer) occupants) (occupants []) access list o fits run
+
+-- records within an access change only written values
+pub within-framed : {I V S O : Type 0} (access : Access I) (list : List (Record Agent I V S O)) → AllByRecursion (IsWithin access) list → AllFramed list
+within-framed access list within = AllByRecursion-weaker (IsWithin access) IsFramed (λ r h. h.framed) list within

@@ -1,0 +1,65 @@
+-- Which lists of records are runs of entries, groups, stages and plans, batches at every depth opened into the records of their controllers and systems.
+use Rattle.std.specs.Prelude.{◌≡◌, ◌⊎◌, ℕ, zero, suc, Bool, MatchBool, List, [], ◌∷◌, ◌++◌, Option, Some, None, Ok, Err, Result, MatchResult}
+use Rattle.shred_model.specs.Access.{Access}
+use Rattle.shred_model.specs.Plan as model
+use Rattle.shred_model.specs.Runs.{Answer, RunsUpToFault, RunsEach}
+use Rattle.shred_table.specs.declared.id.Kind.{Kind}
+use Rattle.shred_table.specs.declared.id.ResourceId.{ResourceId}
+use Rattle.shred_group.specs.declared.dispatch.run.StageFault.{StageFault}
+use Rattle.shred_group.specs.declared.dispatch.run.StageFault.TheVariants.{Memory}
+use Rattle.shred_group.specs.declared.system.Fault.{Fault}
+use Rattle.shred_group.specs.Entries.{entry_answer}
+use Rattle.shred_group.specs.Steps.{Outcome}
+use Rattle.shred_batch.specs.Controls.{Control}
+use Rattle.shred_batch.specs.Depths.{Related}
+use Rattle.shred_batch.specs.Rounds.{fault_within}
+use Rattle.shred_paths.specs.DeepRecords.{DeepRecord, IsDeepStep, is_done, at_most, once_more}
+use Rattle.shred_paths.specs.Occupants.{Occupant, Occupants, a_system, a_batch, inside, of_system, of_controller}
+
+-- Own says which lists are runs of what stands in an entry with this access.
+module _ {V S C E : Type 0} (Own : Occupants → Access ResourceId → List (DeepRecord V S C E) → Outcome E → Type 0) where
+  -- an entry's run is one of what stands in it
+  abbrev pub DeepEntryRun : Occupants → ℕ → model.PlanEntry ResourceId → List (DeepRecord V S C E) → Answer (StageFault E) → Type 0
+  DeepEntryRun occupants place entry list answer = (outcome : Outcome E) × Own (inside occupants place) entry.access list outcome × (answer ≡ entry_answer entry.id outcome)
+
+  -- a group's run joins its entries' runs, in order, up to the first that is not Done
+  abbrev pub DeepGroupRun : Occupants → ℕ → model.Group ResourceId → List (DeepRecord V S C E) → Answer (StageFault E) → Type 0
+  DeepGroupRun occupants place group list answer = RunsUpToFault (DeepEntryRun (inside occupants place)) 0 group list answer
+
+  -- a stage's run joins its groups' runs, in order, every group's, and its answer is that of the first that is not Done; or the stage is refused for memory before it begins, and then there is no record
+  abbrev pub DeepStageTurn : Occupants → model.Stage ResourceId → List (DeepRecord V S C E) → Answer (StageFault E) → Type 0
+  DeepStageTurn occupants stage list answer = RunsEach (DeepGroupRun occupants) 0 stage list answer ⊎ ((list ≡ []) × (answer ≡ Err Memory))
+
+  -- a plan's run joins its stages' turns, in order, up to the first that is not Done; `tells` says what the plan answers for the answer of the stage at a place
+  abbrev pub DeepPlanRun : {F : Type 0} → (ℕ → Answer (StageFault E) → Answer F) → Occupants → model.Plan ResourceId → List (DeepRecord V S C E) → Answer F → Type 0
+  DeepPlanRun {F} tells occupants plan list answer =
+      RunsUpToFault (λ place stage part (told : Answer F). (a : Answer (StageFault E)) × DeepStageTurn (inside occupants place) stage part a × (told ≡ tells place a)) 0 plan list answer
+
+module _ {V S C E : Type 0} (kind : V → Kind) (asks : Control V C Bool E) (access : Access ResourceId) (Inner : List (DeepRecord V S C E) → Answer (StageFault E) → Type 0) where
+  -- At most so many times: the controller is asked, which is one record; on yes a run of the inner plan follows, and on no the batch is Done; the first outcome that is not Done ends it. After the last round it is Done.
+  abbrev pub DeepRounds : ℕ → List (DeepRecord V S C E) → Outcome E → Type 0
+  DeepRounds zero list outcome = (list ≡ []) × (outcome ≡ Ok tt)
+  DeepRounds (suc more) list outcome = (r : DeepRecord V S C E) × (says : Result Bool (Fault E)) × IsDeepStep kind asks of_controller once_more access says r
+      × MatchResult says
+      (λ yes. MatchBool yes
+      ((round : List (DeepRecord V S C E)) × (a : Answer (StageFault E)) × Inner round a
+      × MatchResult a (λ done. (others : List (DeepRecord V S C E)) × (list ≡ r ∷ (round ++ others)) × DeepRounds more others outcome) (λ fault. (list ≡ r ∷ round) × (outcome ≡ Err (fault_within fault))))
+      ((list ≡ r ∷ []) × (outcome ≡ Ok tt)))
+      (λ fault. (list ≡ r ∷ []) × (outcome ≡ Err fault))
+
+  -- The controller begins, which is one record, and says how many rounds there are to be at most; these follow. A fault of that call ends the batch.
+  abbrev pub DeepBatchRun : Control V C ℕ E → List (DeepRecord V S C E) → Outcome E → Type 0
+  DeepBatchRun begins list outcome = (r : DeepRecord V S C E) × (bound : Result ℕ (Fault E)) × IsDeepStep kind begins of_controller at_most access bound r
+      × MatchResult bound (λ most. (others : List (DeepRecord V S C E)) × (list ≡ r ∷ others) × DeepRounds most others outcome) (λ fault. (list ≡ r ∷ []) × (outcome ≡ Err fault))
+
+module _ {V S C E : Type 0} (kind : V → Kind) (related : Related V S C E) where
+  -- a run of one occupant: of a system, one step under the entry's access; of a batch, a batch run, with the runs of its inner plan that are given
+  abbrev pub OccupantRun : (model.Plan ResourceId → List (DeepRecord V S C E) → Answer (StageFault E) → Type 0) → Option Occupant → Access ResourceId → List (DeepRecord V S C E) → Outcome E → Type 0
+  OccupantRun Inner (Some a_system) access list outcome = (r : DeepRecord V S C E) × (list ≡ r ∷ []) × IsDeepStep kind related.steps of_system (λ done. is_done) access outcome r
+  OccupantRun Inner (Some (a_batch control plan)) access list outcome = DeepBatchRun kind related.asks control (Inner plan) related.begins list outcome
+  OccupantRun Inner None access list outcome = ⊥
+
+  -- a run of what stands in an entry; the runs of a batch's inner plan are those in which batches nest less deep
+  unfoldable pub DeepRun : ℕ → Occupants → Access ResourceId → List (DeepRecord V S C E) → Outcome E → Type 0
+  DeepRun zero occupants access list outcome = OccupantRun (λ plan part answer. ⊥) (occupants []) access list outcome
+  DeepRun (suc less) occupants access list outcome = OccupantRun (DeepPlanRun (DeepRun less) (λ place answer. answer) occupants) (occupants []) access list outcome

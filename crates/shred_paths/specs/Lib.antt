@@ -1,0 +1,4 @@
+pub mod Occupants
+pub mod DeepRecords
+pub mod DeepRuns
+pub mod Occupied

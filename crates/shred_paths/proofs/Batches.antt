@@ -18,7 +18,7 @@ use Rattle.shred_group.proofs.Runs.StepRecord.{declared_of-declared, declared_of
 use Rattle.shred_batch.specs.Controls.{Control}
 use Rattle.shred_batch.specs.Rounds.{IsControlOver, Rounds, BatchRun}
 use Rattle.shred_batch.proofs.Runs.Restricted.{control-restricted}
-use Rattle.shred_paths.specs.DeepRecords.{DeepRecord, IsDeepStep, Told, outcome_of, at_most, once_more}
+use Rattle.shred_paths.specs.DeepRecords.{DeepRecord, IsDeepStep, Told, deep_outcome, at_most, once_more}
 use Rattle.shred_paths.specs.DeepRuns.{DeepRounds, DeepBatchRun}
 use Rattle.shred_paths.specs.Occupants.{AgentState, of_controller, with_own}
 
@@ -58,7 +58,7 @@ module _ {V S C E A : Type 0} (kind : V → Kind) (access : Access ResourceId) (
 
   pub call-told : IsControlOver kind control access c m answer e k → CallTold
   call-told over = record {
-    r = record { agent = []; access = access; before = of_controller c; seen = declared_of access m; outcome = outcome_of tells answer; after = of_controller e; left = declared_of access k };
+    r = record { agent = []; access = access; before = of_controller c; seen = declared_of access m; outcome = deep_outcome tells answer; after = of_controller e; left = declared_of access k };
     is_step = record {
       agent = refl;
       declared = refl;

@@ -4,7 +4,7 @@ use Rattle.shred_model.specs.Access.{Access, Declares}
 use Rattle.shred_model.specs.Plan as model
 use Rattle.shred_table.specs.declared.id.ResourceId.{ResourceId}
 use Rattle.shred_group.specs.Sides.{plan_reads, plan_writes}
-use Rattle.shred_paths.specs.Occupants.{Occupant, Occupants, a_system, a_batch, inside}
+use Rattle.shred_paths.specs.Occupants.{Occupant, Occupants, a_system, a_batch, inside_at}
 use Rattle.shred_paths.proofs.Opened.Runs.{EachAt}
 
 -- The inner access declares no id that the outer one does not, and writes none that this does not write.
@@ -20,11 +20,11 @@ plan_access plan = record { reads = plan_reads plan; writes = plan_writes plan }
 module _ (Fits : Occupants → Access ResourceId → Type 0) where
   -- what stands in an entry fits its access
   abbrev pub EntryFits : Occupants → ℕ → model.PlanEntry ResourceId → Type 0
-  EntryFits occupants place entry = Fits (inside occupants place) entry.access
+  EntryFits occupants place entry = Fits (inside_at occupants place) entry.access
 
   -- so it is of each entry of a group
   abbrev pub GroupFits : Occupants → ℕ → model.Group ResourceId → Type 0
-  GroupFits occupants place group = EachAt (EntryFits (inside occupants place)) 0 group
+  GroupFits occupants place group = EachAt (EntryFits (inside_at occupants place)) 0 group
 
   -- so it is of each group of a stage
   abbrev pub StageFits : Occupants → model.Stage ResourceId → Type 0
@@ -32,7 +32,7 @@ module _ (Fits : Occupants → Access ResourceId → Type 0) where
 
   -- so it is of each stage of a plan
   abbrev pub PlanFits : Occupants → model.Plan ResourceId → Type 0
-  PlanFits occupants plan = EachAt (λ place stage. StageFits (inside occupants place) stage) 0 plan
+  PlanFits occupants plan = EachAt (λ place stage. StageFits (inside_at occupants place) stage) 0 plan
 
 -- an occupant fits an access that has what its controller may touch, and its inner entries, whose own occupants fit them
 abbrev pub OccupantFits : (model.Plan ResourceId → Type 0) → Option Occupant → Access ResourceId → Type 0

@@ -25,12 +25,12 @@ use Rattle.shred_batch.specs.declared.work.Nested.{Nested}
 use Rattle.shred_batch.specs.declared.work.Tier.{Tier}
 use Rattle.shred_batch.specs.declared.work.Work.{Work}
 use Rattle.shred_batch.specs.declared.work.Work.TheVariants.{System, Batch}
-use Rattle.shred_paths.specs.Occupants.{at_places, inside, said_inside, work_occupants}
+use Rattle.shred_paths.specs.Occupants.{at_places, inside_at, said_inside, work_occupants}
 use Rattle.shred_paths.proofs.Fits.{Fits, IsNoMore, PlanFits, StageFits, plan_access}
 use Rattle.shred_paths.proofs.Opened.Runs.{EachAt}
 
 module _ {Y Z S : Type 0} (states : Y → Agent → Option S) (view : Y → Z) (P : (Agent → Option S) → Z → Type 0) where
-  from : (all rest : List Y) (n : ℕ) → ((k : ℕ) → slice_get all (k + n) ≡ slice_get rest k) → AllByRecursion (λ y. P (states y) (view y)) rest → EachAt (λ m z. P (inside (listed_states states all) m) z) n (map view rest)
+  from : (all rest : List Y) (n : ℕ) → ((k : ℕ) → slice_get all (k + n) ≡ slice_get rest k) → AllByRecursion (λ y. P (states y) (view y)) rest → EachAt (λ m z. P (inside_at (listed_states states all) m) z) n (map view rest)
   from all [] n same each = tt
   from all (y ∷ rest) n same each =
       let first : 0 + n ≡ n = omega arith in
@@ -40,7 +40,7 @@ module _ {Y Z S : Type 0} (states : Y → Agent → Option S) (view : Y → Z) (
       )
 
   -- what each element has with its states, it has with those at its place
-  pub EachAt-listed : (ys : List Y) → AllByRecursion (λ y. P (states y) (view y)) ys → EachAt (λ n z. P (inside (listed_states states ys) n) z) 0 (map view ys)
+  pub EachAt-listed : (ys : List Y) → AllByRecursion (λ y. P (states y) (view y)) ys → EachAt (λ n z. P (inside_at (listed_states states ys) n) z) 0 (map view ys)
   EachAt-listed ys each = from ys ys 0 (λ k. let same : k + 0 ≡ k = omega arith in ap (slice_get ys) same) each
 
 among-writes : (reads writes : List ResourceId) (id : ResourceId) → (among reads id || among writes id) ≡ true → Declares (record { reads = reads; writes = writes }) id
@@ -96,12 +96,12 @@ OwnsFits V {S} {C} declared depth = (work : Work S (Nested V S C)) (reads writes
 
 module _ {V S C : Type 0} (declared : Declared S C) where
   module _ (depth : ℕ) (fits : OwnsFits V declared depth) where
-    group-fits : (group : Group V (Work S (Nested V S C))) → IsGroupOf (Owns declared depth) group → EachAt (λ n entry. Fits depth (at_places 0 (work_occupants depth) (inside (group_states group) n)) entry.access) 0 (group_plan group)
+    group-fits : (group : Group V (Work S (Nested V S C))) → IsGroupOf (Owns declared depth) group → EachAt (λ n entry. Fits depth (at_places 0 (work_occupants depth) (inside_at (group_states group) n)) entry.access) 0 (group_plan group)
     group-fits group owns = EachAt-listed entry_states entry_plan (λ st entry. Fits depth (at_places 0 (work_occupants depth) st) entry.access) group.entries.items
         (AllByRecursion-weaker (IsEntryOf (Owns declared depth)) _ (λ entry own. fits entry.system entry.reads.items entry.writes.items own.lists) group.entries.items (recursion_from_All _ group.entries.items owns))
 
     groups-fit : (groups : List (Group V (Work S (Nested V S C)))) → All (IsGroupOf (Owns declared depth)) groups → StageFits (Fits depth) (at_places 2 (work_occupants depth) (listed_states group_states groups)) (groups_plan groups)
-    groups-fit groups owns = EachAt-listed group_states group_plan (λ st group. EachAt (λ n entry. Fits depth (at_places 0 (work_occupants depth) (inside st n)) entry.access) 0 group) groups
+    groups-fit groups owns = EachAt-listed group_states group_plan (λ st group. EachAt (λ n entry. Fits depth (at_places 0 (work_occupants depth) (inside_at st n)) entry.access) 0 group) groups
         (AllByRecursion-weaker (IsGroupOf (Owns declared depth)) _ group-fits groups (recursion_from_All _ groups owns))
 
     -- stages of such groups

@@ -16,7 +16,7 @@ use Rattle.shred_group.specs.Entries.{EntryRun, GroupRun, StageTurn}
 use Rattle.shred_group.specs.Steps.{Outcome, Step, Written, IsStep}
 use Rattle.shred_paths.specs.DeepRecords.{DeepRecord}
 use Rattle.shred_paths.specs.DeepRuns.{DeepEntryRun, DeepGroupRun, DeepStageTurn, DeepPlanRun}
-use Rattle.shred_paths.specs.Occupants.{AgentState, Occupants, inside}
+use Rattle.shred_paths.specs.Occupants.{AgentState, Occupants, inside_at}
 use Rattle.shred_paths.proofs.Fits.{EntryFits, GroupFits, PlanFits, StageFits}
 use Rattle.shred_paths.proofs.Opened.Lists.{AreOpened, AreOpened-none, under_place}
 use Rattle.shred_paths.proofs.Opened.Runs.{With, Each-with, UpToFault-with, Opening, Stays, StandsAt, RunsUpToFault-each, RunsEach-each, UpToFault-opened, Each-opened}
@@ -53,20 +53,20 @@ module _ {V X E S C : Type 0} (states : X → Agent → Option (AgentState S C))
     opened_one : (r : Written V X E) (own : List (DeepRecord V S C E)) → r.agent ≡ [] → own ≡ map (under_place r.agent) own ++ []
     opened_one r own at = sym (append-nil (map (under_place r.agent) own) ∙ ap (λ (place : Agent). map (under_place place) own) at ∙ map-id own)
 
-    entry_opened : (all : Occupants) (n : ℕ) (entry : model.PlanEntry ResourceId) (list : List (Written V X E)) (a : Answer (StageFault E)) → AllByRecursion (StandsAt occupants (inside all n)) list → With (EntryFits Fits all) (EntryRun kind step) n entry list a
+    entry_opened : (all : Occupants) (n : ℕ) (entry : model.PlanEntry ResourceId) (list : List (Written V X E)) (a : Answer (StageFault E)) → AllByRecursion (StandsAt occupants (inside_at all n)) list → With (EntryFits Fits all) (EntryRun kind step) n entry list a
         → Opening states (DeepEntryRun Own all n entry) list a
     entry_opened all n entry list a stand (fits, (r, is, at, one, answer)) =
-        let found : AllByRecursion (StandsAt occupants (inside all n)) (r ∷ []) = subst (AllByRecursion (StandsAt occupants (inside all n))) is stand in
-        let there : inside all n ≡ occupants r.before = subst (λ (place : Agent). (λ path. inside all n (place ++ path)) ≡ occupants r.before) at found.0 in
+        let found : AllByRecursion (StandsAt occupants (inside_at all n)) (r ∷ []) = subst (AllByRecursion (StandsAt occupants (inside_at all n))) is stand in
+        let there : inside_at all n ≡ occupants r.before = subst (λ (place : Agent). (λ path. inside_at all n (place ++ path)) ≡ occupants r.before) at found.0 in
         let e = expand entry.access r one (subst (λ (o : Occupants). Fits o entry.access) there fits) in
-        let run : Own (inside all n) entry.access e.list r.outcome = subst (λ (o : Occupants). Own o entry.access e.list r.outcome) (sym there) e.run in
-        let within : AllByRecursion (IsWithin r.access) e.list = subst (λ (x : Access ResourceId). AllByRecursion (IsWithin x) e.list) (sym one.declared) (own-within (inside all n) entry.access e.list r.outcome fits run) in
+        let run : Own (inside_at all n) entry.access e.list r.outcome = subst (λ (o : Occupants). Own o entry.access e.list r.outcome) (sym there) e.run in
+        let within : AllByRecursion (IsWithin r.access) e.list = subst (λ (x : Access ResourceId). AllByRecursion (IsWithin x) e.list) (sym one.declared) (own-within (inside_at all n) entry.access e.list r.outcome fits run) in
         record { opened = e.list; run = (r.outcome, run, answer); opens = subst (λ (l : List (Written V X E)). AreOpened states l e.list) (sym is) (e.list, [], opened_one r e.list at, e.replays, within, refl) }
 
-    group_opened : (all : Occupants) (n : ℕ) (group : model.Group ResourceId) (list : List (Written V X E)) (a : Answer (StageFault E)) → AllByRecursion (StandsAt occupants (inside all n)) list → With (GroupFits Fits all) (GroupRun kind step) n group list a
+    group_opened : (all : Occupants) (n : ℕ) (group : model.Group ResourceId) (list : List (Written V X E)) (a : Answer (StageFault E)) → AllByRecursion (StandsAt occupants (inside_at all n)) list → With (GroupFits Fits all) (GroupRun kind step) n group list a
         → Opening states (DeepGroupRun Own all n group) list a
-    group_opened all n group list a stand (fits, run) = UpToFault-opened states (With (EntryFits Fits (inside all n)) (EntryRun kind step)) (DeepEntryRun Own (inside all n)) occupants (inside all n) (entry_opened (inside all n)) 0 group list a stand
-        (UpToFault-with (EntryFits Fits (inside all n)) (EntryRun kind step) 0 group list a fits run)
+    group_opened all n group list a stand (fits, run) = UpToFault-opened states (With (EntryFits Fits (inside_at all n)) (EntryRun kind step)) (DeepEntryRun Own (inside_at all n)) occupants (inside_at all n) (entry_opened (inside_at all n)) 0 group list a stand
+        (UpToFault-with (EntryFits Fits (inside_at all n)) (EntryRun kind step) 0 group list a fits run)
 
     -- a stage's turn is opened, where each record is of what stands at its place
     pub turn_opened : (all : Occupants) (stage : model.Stage ResourceId) (list : List (Written V X E)) (a : Answer (StageFault E)) → StageFits Fits all stage → AllByRecursion (StandsAt occupants all) list → StageTurn kind step stage list a
@@ -81,9 +81,9 @@ module _ {V X E S C : Type 0} (states : X → Agent → Option (AgentState S C))
       -- and so is a plan's run
       pub plan_opened : (all : Occupants) (plan : model.Plan ResourceId) (list : List (Written V X E)) (answer : Answer F) → PlanFits Fits all plan → AllByRecursion (StandsAt occupants all) list → RunsUpToFault Run 0 plan list answer
           → Opening states (DeepPlanRun Own tells all plan) list answer
-      plan_opened all plan list answer fits stand run = UpToFault-opened states (With (λ n stage. StageFits Fits (inside all n) stage) Run) (λ n stage part told. (a : Answer (StageFault E)) × DeepStageTurn Own (inside all n) stage part a × (told ≡ tells n a)) occupants all
+      plan_opened all plan list answer fits stand run = UpToFault-opened states (With (λ n stage. StageFits Fits (inside_at all n) stage) Run) (λ n stage part told. (a : Answer (StageFault E)) × DeepStageTurn Own (inside_at all n) stage part a × (told ≡ tells n a)) occupants all
           (λ n stage part told standing turn.
           let read = reads n stage part told turn.1 in
-          let o = turn_opened (inside all n) stage part read.0 turn.0 standing read.1 in
+          let o = turn_opened (inside_at all n) stage part read.0 turn.0 standing read.1 in
           record { opened = o.opened; run = (read.0, o.run, read.2); opens = o.opens })
-          0 plan list answer stand (UpToFault-with (λ n stage. StageFits Fits (inside all n) stage) Run 0 plan list answer fits run)
+          0 plan list answer stand (UpToFault-with (λ n stage. StageFits Fits (inside_at all n) stage) Run 0 plan list answer fits run)

@@ -16,7 +16,7 @@ use Rattle.shred_batch.specs.Controls.{Control}
 use Rattle.shred_batch.specs.Depths.{Related}
 use Rattle.shred_paths.specs.DeepRecords.{DeepRecord, IsDeepStep, Told, at_most, is_done, once_more}
 use Rattle.shred_paths.specs.DeepRuns.{DeepBatchRun, DeepEntryRun, DeepGroupRun, DeepPlanRun, DeepRounds, DeepRun, DeepStageTurn, OccupantRun}
-use Rattle.shred_paths.specs.Occupants.{AgentState, Occupant, Occupants, a_batch, a_system, inside, of_controller, of_system}
+use Rattle.shred_paths.specs.Occupants.{AgentState, Occupant, Occupants, a_batch, a_system, inside_at, of_controller, of_system}
 use Rattle.shred_paths.proofs.Fits.{EntryFits, Fits, GroupFits, IsNoMore, OccupantFits, PlanFits, StageFits, plan_access}
 use Rattle.shred_paths.proofs.Opened.Runs.{With, Each-with, UpToFault-with}
 
@@ -35,12 +35,12 @@ module _ {V S C E : Type 0} where
   module _ (Own : Occupants → Access ResourceId → List (DeepRecord V S C E) → Outcome E → Type 0) (Fits : Occupants → Access ResourceId → Type 0)
       (own-within : (occupants : Occupants) (access : Access ResourceId) (list : List (DeepRecord V S C E)) (o : Outcome E) → Fits occupants access → Own occupants access list o → AllByRecursion (IsWithin access) list) where
     entry_within : (all : Occupants) (n : ℕ) (entry : model.PlanEntry ResourceId) (list : List (DeepRecord V S C E)) (a : Answer (StageFault E)) → With (EntryFits Fits all) (DeepEntryRun Own all) n entry list a → AllByRecursion (IsWithin entry.access) list
-    entry_within all n entry list a (fit, (o, run, is)) = own-within (inside all n) entry.access list o fit run
+    entry_within all n entry list a (fit, (o, run, is)) = own-within (inside_at all n) entry.access list o fit run
 
     -- of a group's run
     pub group_within : (all : Occupants) (n : ℕ) (group : model.Group ResourceId) (list : List (DeepRecord V S C E)) (a : Answer (StageFault E)) → With (GroupFits Fits all) (DeepGroupRun Own all) n group list a → AllByRecursion (IsWithin (model.group_access group)) list
-    group_within all n group list a (fits, run) = RunsUpToFault-within (λ (e : model.PlanEntry ResourceId). e.access) (With (EntryFits Fits (inside all n)) (DeepEntryRun Own (inside all n))) (entry_within (inside all n)) 0 group list a
-        (UpToFault-with (EntryFits Fits (inside all n)) (DeepEntryRun Own (inside all n)) 0 group list a fits run)
+    group_within all n group list a (fits, run) = RunsUpToFault-within (λ (e : model.PlanEntry ResourceId). e.access) (With (EntryFits Fits (inside_at all n)) (DeepEntryRun Own (inside_at all n))) (entry_within (inside_at all n)) 0 group list a
+        (UpToFault-with (EntryFits Fits (inside_at all n)) (DeepEntryRun Own (inside_at all n)) 0 group list a fits run)
 
     -- of a stage's turn
     pub turn_within : (all : Occupants) (stage : model.Stage ResourceId) (list : List (DeepRecord V S C E)) (a : Answer (StageFault E)) → StageFits Fits all stage → DeepStageTurn Own all stage list a → AllByRecursion (IsWithin (joined_access model.group_access stage)) list
@@ -49,10 +49,10 @@ module _ {V S C E : Type 0} where
 
     -- of a plan's run
     pub plan_within : {F : Type 0} (tells : ℕ → Answer (StageFault E) → Answer F) (all : Occupants) (plan : model.Plan ResourceId) (list : List (DeepRecord V S C E)) (answer : Answer F) → PlanFits Fits all plan → DeepPlanRun Own tells all plan list answer → AllByRecursion (IsWithin (plan_access plan)) list
-    plan_within {F} tells all plan list answer fits run = RunsUpToFault-within (joined_access model.group_access) (With (λ n stage. StageFits Fits (inside all n) stage) Turn)
-        (λ n stage part told turn. turn_within (inside all n) stage part turn.1.0 turn.0 turn.1.1) 0 plan list answer (UpToFault-with (λ n stage. StageFits Fits (inside all n) stage) Turn 0 plan list answer fits run) where
+    plan_within {F} tells all plan list answer fits run = RunsUpToFault-within (joined_access model.group_access) (With (λ n stage. StageFits Fits (inside_at all n) stage) Turn)
+        (λ n stage part told turn. turn_within (inside_at all n) stage part turn.1.0 turn.0 turn.1.1) 0 plan list answer (UpToFault-with (λ n stage. StageFits Fits (inside_at all n) stage) Turn 0 plan list answer fits run) where
           Turn : ℕ → model.Stage ResourceId → List (DeepRecord V S C E) → Answer F → Type 0
-          Turn n stage part told = (a : Answer (StageFault E)) × DeepStageTurn Own (inside all n) stage part a × (told ≡ tells n a)
+          Turn n stage part told = (a : Answer (StageFault E)) × DeepStageTurn Own (inside_at all n) stage part a × (told ≡ tells n a)
 
   module _ (kind : V → Kind) (asks : Control V C Bool E) (outer access : Access ResourceId) (no_more : IsNoMore outer access) (Inner : List (DeepRecord V S C E) → Answer (StageFault E) → Type 0)
       (within : (list : List (DeepRecord V S C E)) (a : Answer (StageFault E)) → Inner list a → AllByRecursion (IsWithin outer) list) where

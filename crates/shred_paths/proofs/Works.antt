@@ -23,7 +23,7 @@ use Rattle.shred_batch.specs.declared.work.Nested.{Nested}
 use Rattle.shred_batch.specs.declared.work.Tier.{Tier}
 use Rattle.shred_batch.specs.declared.work.Work.{Work}
 use Rattle.shred_batch.specs.declared.work.Work.TheVariants.{System, Batch}
-use Rattle.shred_paths.specs.DeepRecords.{DeepRecord, is_done, outcome_of}
+use Rattle.shred_paths.specs.DeepRecords.{DeepRecord, is_done, deep_outcome}
 use Rattle.shred_paths.specs.DeepRuns.{DeepPlanRun, DeepStageTurn, DeepRun, OccupantRun}
 use Rattle.shred_paths.specs.Occupants.{AgentState, Occupants, a_system, at_places, of_system, said_inside, with_own, work_occupants, work_states}
 use Rattle.shred_paths.proofs.Batches.{batch-opened, replays-beside}
@@ -127,7 +127,7 @@ module _ {V S C E : Type 0} (kind : V → Kind) (related : Related V S C E) wher
       (r, refl, record { agent = refl; declared = refl; outcome = refl; lies = (s, t, refl, refl, lies); sees_only = sees; keeps_kinds = kinds; frame = frame })
       (Goes-alone r m n refl (λ id d. refl) (λ id d. refl) (λ id out. frame id (λ w. out (inr w)))) where
         r : DeepRecord V S C E
-        r = record { agent = []; access = access; before = of_system s; seen = m; outcome = outcome_of (λ done. is_done) o; after = of_system t; left = n }
+        r = record { agent = []; access = access; before = of_system s; seen = m; outcome = deep_outcome (λ done. is_done) o; after = of_system t; left = n }
 
   expand_over : (depth : ℕ) → ExpandsOver depth
   unfolding WorkStep DeepRun Fits said_inside

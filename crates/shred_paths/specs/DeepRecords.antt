@@ -16,9 +16,9 @@ pub data Told : Type 0 where
   once_more : Bool → Told
 
 -- the outcome of a step, told by such an answer
-abbrev pub outcome_of : {A E : Type 0} → (A → Told) → Result A (Fault E) → Result Told (Fault E)
-outcome_of tells (Ok x) = Ok (tells x)
-outcome_of tells (Err fault) = Err fault
+abbrev pub deep_outcome : {A E : Type 0} → (A → Told) → Result A (Fault E) → Result Told (Fault E)
+deep_outcome tells (Ok x) = Ok (tells x)
+deep_outcome tells (Err fault) = Err fault
 
 -- a step of a system or of a controller, written down
 abbrev pub DeepRecord : Type 0 → Type 0 → Type 0 → Type 0 → Type 0
@@ -28,7 +28,7 @@ DeepRecord V S C E = Record Agent ResourceId V (AgentState S C) (Result Told (Fa
 pub record IsDeepStep {V S C E X A : Type 0} (kind : V → Kind) (relation : Control V X A E) (state : X → AgentState S C) (tells : A → Told) (access : Access ResourceId) (answer : Result A (Fault E)) (r : DeepRecord V S C E) : Type 0 where
   pub agent : r.agent ≡ []
   pub declared : r.access ≡ access
-  pub outcome : r.outcome ≡ outcome_of tells answer
+  pub outcome : r.outcome ≡ deep_outcome tells answer
   pub lies : (old : X) × (new : X) × (r.before ≡ state old) × (r.after ≡ state new) × relation old r.seen answer new r.left
   pub sees_only : (id : ResourceId) → (Declares access id → ⊥) → r.seen id ≡ None
   pub keeps_kinds : (id : ResourceId) → option_map kind (r.left id) ≡ option_map kind (r.seen id)

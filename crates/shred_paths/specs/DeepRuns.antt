@@ -14,17 +14,17 @@ use Rattle.shred_batch.specs.Controls.{Control}
 use Rattle.shred_batch.specs.Depths.{Related}
 use Rattle.shred_batch.specs.Rounds.{fault_within}
 use Rattle.shred_paths.specs.DeepRecords.{DeepRecord, IsDeepStep, is_done, at_most, once_more}
-use Rattle.shred_paths.specs.Occupants.{Occupant, Occupants, a_system, a_batch, inside, of_system, of_controller}
+use Rattle.shred_paths.specs.Occupants.{Occupant, Occupants, a_system, a_batch, inside_at, of_system, of_controller}
 
 -- Own says which lists are runs of what stands in an entry with this access.
 module _ {V S C E : Type 0} (Own : Occupants → Access ResourceId → List (DeepRecord V S C E) → Outcome E → Type 0) where
   -- an entry's run is one of what stands in it
   abbrev pub DeepEntryRun : Occupants → ℕ → model.PlanEntry ResourceId → List (DeepRecord V S C E) → Answer (StageFault E) → Type 0
-  DeepEntryRun occupants place entry list answer = (outcome : Outcome E) × Own (inside occupants place) entry.access list outcome × (answer ≡ entry_answer entry.id outcome)
+  DeepEntryRun occupants place entry list answer = (outcome : Outcome E) × Own (inside_at occupants place) entry.access list outcome × (answer ≡ entry_answer entry.id outcome)
 
   -- a group's run joins its entries' runs, in order, up to the first that is not Done
   abbrev pub DeepGroupRun : Occupants → ℕ → model.Group ResourceId → List (DeepRecord V S C E) → Answer (StageFault E) → Type 0
-  DeepGroupRun occupants place group list answer = RunsUpToFault (DeepEntryRun (inside occupants place)) 0 group list answer
+  DeepGroupRun occupants place group list answer = RunsUpToFault (DeepEntryRun (inside_at occupants place)) 0 group list answer
 
   -- a stage's run joins its groups' runs, in order, every group's, and its answer is that of the first that is not Done; or the stage is refused for memory before it begins, and then there is no record
   abbrev pub DeepStageTurn : Occupants → model.Stage ResourceId → List (DeepRecord V S C E) → Answer (StageFault E) → Type 0
@@ -33,7 +33,7 @@ module _ {V S C E : Type 0} (Own : Occupants → Access ResourceId → List (Dee
   -- a plan's run joins its stages' turns, in order, up to the first that is not Done; `tells` says what the plan answers for the answer of the stage at a place
   abbrev pub DeepPlanRun : {F : Type 0} → (ℕ → Answer (StageFault E) → Answer F) → Occupants → model.Plan ResourceId → List (DeepRecord V S C E) → Answer F → Type 0
   DeepPlanRun {F} tells occupants plan list answer =
-      RunsUpToFault (λ place stage part (told : Answer F). (a : Answer (StageFault E)) × DeepStageTurn (inside occupants place) stage part a × (told ≡ tells place a)) 0 plan list answer
+      RunsUpToFault (λ place stage part (told : Answer F). (a : Answer (StageFault E)) × DeepStageTurn (inside_at occupants place) stage part a × (told ≡ tells place a)) 0 plan list answer
 
 module _ {V S C E : Type 0} (kind : V → Kind) (asks : Control V C Bool E) (access : Access ResourceId) (Inner : List (DeepRecord V S C E) → Answer (StageFault E) → Type 0) where
   -- At most so many times: the controller is asked, which is one record; on yes a run of the inner plan follows, and on no the batch is Done; the first outcome that is not Done ends it. After the last round it is Done.

@@ -28,8 +28,8 @@ abbrev pub Occupants : Type 0
 Occupants = Agent → Option Occupant
 
 -- what is at each path inside the element at this place
-abbrev pub inside : {T : Type 0} → (Agent → Option T) → ℕ → Agent → Option T
-inside all place path = all (place ∷ path)
+abbrev pub inside_at : {T : Type 0} → (Agent → Option T) → ℕ → Agent → Option T
+inside_at all place path = all (place ∷ path)
 
 -- one itself, and what is inside it
 abbrev pub with_own : {T : Type 0} → T → (Agent → Option T) → Agent → Option T
@@ -40,7 +40,7 @@ with_own own all (place ∷ path) = all (place ∷ path)
 abbrev pub at_places : {X T : Type 0} → ℕ → (X → Agent → Option T) → (Agent → Option X) → Agent → Option T
 at_places zero within elements path = option_and_then (λ x. within x path) (elements [])
 at_places (suc more) within elements [] = None
-at_places (suc more) within elements (place ∷ path) = at_places more within (inside elements place) path
+at_places (suc more) within elements (place ∷ path) = at_places more within (inside_at elements place) path
 
 module _ {V S C T : Type 0} (system : S → T) (batch : OneBatch V C (Work S (Nested V S C)) → T) where
   -- What is said of each system and of each batch, by its path inside what stands in an entry: a batch has the empty path, and what stands in its inner plan the stage, the group, the place, and a path inside that. Deeper than the depth there is nothing.

@@ -14,7 +14,7 @@ use Rattle.shred_model.proofs.Records.Lift.{Replays-lifted}
 use Rattle.shred_model.proofs.Records.Membership.{is_declared}
 use Rattle.shred_model.proofs.Records.Within.{IsWithin}
 use Rattle.shred_model.proofs.Records.Telling.{Tells}
-use Rattle.shred_paths.specs.Occupants.{inside, at_places}
+use Rattle.shred_paths.specs.Occupants.{inside_at, at_places}
 use Rattle.shred_paths.proofs.Opened.Places.{at_places-alike}
 
 -- the record, of an agent inside the one at this place
@@ -74,9 +74,9 @@ module _ {I V X O S P : Type 0} (states : X → Agent → Option S) where
     goes-opened (suc n) r own (k ∷ []) a b v w size was is others finds puts out replays within = absurd (cc)
     goes-opened (suc n) r own (k ∷ (j ∷ place)) a b v w size was is others finds puts out replays within =
         subst (λ (l : List (Record Agent I V S P)). Replays (configuration_of (at_places (suc (suc n)) states a) v) l (configuration_of (at_places (suc (suc n)) states b) w)) (map-under_place k (j ∷ place) own)
-        (Replays-lifted (λ i. Unit {0}) (λ i. inl tt) k (map (under_place (j ∷ place)) own) (configuration_of (at_places (suc n) states (inside a k)) v) (configuration_of (at_places (suc n) states (inside b k)) w)
+        (Replays-lifted (λ i. Unit {0}) (λ i. inl tt) k (map (under_place (j ∷ place)) own) (configuration_of (at_places (suc n) states (inside_at a k)) v) (configuration_of (at_places (suc n) states (inside_at b k)) w)
         (configuration_of (at_places (suc (suc n)) states a) v) (configuration_of (at_places (suc (suc n)) states b) w) (anywhere (map (under_place (j ∷ place)) own))
-        (goes-opened n r own (j ∷ place) (inside a k) (inside b k) v w (cc) was is (λ q ne. others (k ∷ q) (λ e. ne cc)) finds puts out replays within)
+        (goes-opened n r own (j ∷ place) (inside_at a k) (inside_at b k) v w (cc) was is (λ q ne. others (k ∷ q) (λ e. ne cc)) finds puts out replays within)
         (record { values = λ i u. refl; states = λ path. refl })
         (record { values = λ i u. refl; states = λ path. refl })
         (record { values = λ i no. absurd (no tt); states = other })) where
@@ -86,7 +86,7 @@ module _ {I V X O S P : Type 0} (states : X → Agent → Option S) where
 
           other : (path : Agent) → ((q : Agent) → path ≢ k ∷ q) → at_places (suc (suc n)) states b path ≡ at_places (suc (suc n)) states a path
           other [] ne = refl
-          other (h ∷ path) ne = at_places-alike states (suc n) (inside a h) (inside b h) (λ q. others (h ∷ q) (λ e. ne path cc)) path
+          other (h ∷ path) ne = at_places-alike states (suc n) (inside_at a h) (inside_at b h) (λ q. others (h ∷ q) (λ e. ne path cc)) path
 
     -- a replay of the records, each of an agent at a place, is one of what they are opened into
     pub replays-opened : (n : ℕ) (list : List (Record Agent I V X O)) (opened : List (Record Agent I V S P)) (x y : Configuration Agent I V X) → AreOpened list opened → AllByRecursion (λ r. length r.agent ≡ suc n) list → Replays x list y

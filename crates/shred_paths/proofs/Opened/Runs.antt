@@ -6,7 +6,7 @@ use Rattle.shred_model.specs.Record.{Record, Agent, under}
 use Rattle.shred_model.specs.Replay.{Configuration, Replays}
 use Rattle.shred_model.specs.Runs.{Answer, RunsUpToFault, RunsEach}
 use Rattle.shred_model.proofs.Records.Framed.{EachPasses, RunsUpToFault-all, RunsEach-all}
-use Rattle.shred_paths.specs.Occupants.{inside, at_places}
+use Rattle.shred_paths.specs.Occupants.{inside_at, at_places}
 use Rattle.shred_paths.proofs.Opened.Lists.{AreOpened, AreOpened-none, AreOpened-append, AreOpened-under}
 use Rattle.shred_paths.proofs.Opened.Places.{at_places-at, at_places-alike, at_places-same}
 
@@ -77,7 +77,7 @@ module _ {I V X O S P : Type 0} (states : X → Agent → Option S) where
     pub opens : AreOpened states list opened
 
   module _ {Y F : Type 0} (Run : ℕ → Y → List (Record Agent I V X O) → Answer F → Type 0) (Deep : ℕ → Y → List (Record Agent I V S P) → Answer F → Type 0) {T : Type 0} (said : X → Agent → Option T) (all : Agent → Option T)
-      (one : (n : ℕ) (y : Y) (list : List (Record Agent I V X O)) (a : Answer F) → AllByRecursion (StandsAt said (inside all n)) list → Run n y list a → Opening (Deep n y) list a) where
+      (one : (n : ℕ) (y : Y) (list : List (Record Agent I V X O)) (a : Answer F) → AllByRecursion (StandsAt said (inside_at all n)) list → Run n y list a → Opening (Deep n y) list a) where
     joined : (n : ℕ) (list first others : List (Record Agent I V X O)) (os ps : List (Record Agent I V S P)) → list ≡ map (under n) first ++ others → AreOpened states first os → AreOpened states others ps → AreOpened states list (map (under n) os ++ ps)
     joined n list first others os ps is opens also = subst (λ (l : List (Record Agent I V X O)). AreOpened states l (map (under n) os ++ ps)) (sym is)
         (AreOpened-append states (map (under n) first) others (map (under n) os) ps (AreOpened-under states n first os opens) also)

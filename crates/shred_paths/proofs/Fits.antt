@@ -1,6 +1,7 @@
 -- Plans whose entries what stands in them fits.
-use Rattle.std.proofs.Common.{ℕ, zero, suc, [], Option, Some, None, Contains}
+use Rattle.std.proofs.Common.{ℕ, zero, suc, [], All, Option, Some, None, Contains}
 use Rattle.shred_model.specs.Access.{Access, Declares}
+use Rattle.shred_model.specs.Beside.{AreApart}
 use Rattle.shred_model.specs.Plan as model
 use Rattle.shred_table.specs.declared.id.ResourceId.{ResourceId}
 use Rattle.shred_group.specs.Sides.{plan_reads, plan_writes}
@@ -34,9 +35,9 @@ module _ (Fits : Occupants → Access ResourceId → Type 0) where
   abbrev pub PlanFits : Occupants → model.Plan ResourceId → Type 0
   PlanFits occupants plan = EachAt (λ place stage. StageFits (inside_at occupants place) stage) 0 plan
 
--- an occupant fits an access that has what its controller may touch, and its inner entries, whose own occupants fit them
+-- a batch fits an access that has what its controller and its inner plan may touch, where the groups of its inner stages do not conflict, and what stands in its inner entries fits them; a system fits any
 abbrev pub OccupantFits : (model.Plan ResourceId → Type 0) → Option Occupant → Access ResourceId → Type 0
-OccupantFits Inner (Some (a_batch control plan)) access = IsNoMore access control × IsNoMore access (plan_access plan) × Inner plan
+OccupantFits Inner (Some (a_batch control plan)) access = IsNoMore access control × IsNoMore access (plan_access plan) × All (AreApart model.group_access) plan × Inner plan
 OccupantFits Inner (Some a_system) access = Unit {0}
 OccupantFits Inner None access = Unit {0}
 

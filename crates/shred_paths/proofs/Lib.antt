@@ -7,3 +7,5 @@ pub mod Batches
 pub mod Works
 pub mod Owned
 pub mod Serializable
+pub mod Parallel
+pub mod Worked

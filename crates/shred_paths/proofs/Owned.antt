@@ -1,10 +1,12 @@
 -- What may be kept with its lists fits them.
 use Rattle.std.proofs.Common.{◌≡◌, ℕ, zero, suc, ◌+◌, ◌||◌, Bool, true, false, Contains, List, [], ◌∷◌, All, map, Option, Some, slice_get, inl, inr, refl, sym, ap, subst, arith}
 use Rattle.std.proofs.Math.Bool.{or-true}
-use Rattle.std.proofs.lemmas.List.Elements.{Contains-append_cases, recursion_from_All}
+use Rattle.std.proofs.lemmas.List.Elements.{All-cons, All-nil, Contains-append_cases, recursion_from_All}
 use Rattle.std.specs.List.{AllByRecursion}
 use Rattle.std.specs.Prelude.{option_and_then}
 use Rattle.shred_model.specs.Access.{Access, Declares}
+use Rattle.shred_model.specs.Beside.{AreApart}
+use Rattle.shred_model.specs.Plan as model
 use Rattle.shred_model.specs.Record.{Agent}
 use Rattle.shred_model.specs.States.{listed_states}
 use Rattle.shred_model.proofs.Records.Framed.{AllByRecursion-weaker}
@@ -90,6 +92,10 @@ module _ {V X : Type 0} (own : X → List ResourceId → List ResourceId → Typ
     written = writes-within tiers within;
   }
 
+  tiers-apart : (tiers : List (Tier V X)) → AllByRecursion (IsTierWithin own reads writes) tiers → All (AreApart model.group_access) (tiers_plan tiers)
+  tiers-apart [] within = All-nil (AreApart model.group_access)
+  tiers-apart (tier ∷ rest) within = All-cons (AreApart model.group_access) (tier_plan tier) (tiers_plan rest) within.0.apart (tiers-apart rest within.1)
+
 -- what may be kept with its lists at this depth fits them
 abbrev pub OwnsFits : (V : Type 0) {S C : Type 0} → Declared S C → ℕ → Type 0
 OwnsFits V {S} {C} declared depth = (work : Work S (Nested V S C)) (reads writes : List ResourceId) → Owns declared depth work reads writes → Fits depth (work_occupants depth work) (record { reads = reads; writes = writes })
@@ -120,6 +126,7 @@ module _ {V S C : Type 0} (declared : Declared S C) where
       let tiers = recursion_from_All _ batch.tiers.items owns.tiers in (
         controls-within (control_access batch.control) reads writes owns.reads_within owns.writes_within,
         tiers-within (Owns declared less) reads writes batch.tiers.items tiers,
+        tiers-apart (Owns declared less) reads writes batch.tiers.items tiers,
         stages-fit less (owns-fits less) (λ (tier : Tier V (Work S (Nested V S C))). tier.groups.items) batch.tiers.items
             (AllByRecursion-weaker (IsTierWithin (Owns declared less) reads writes) _ (λ tier one. one.owns) batch.tiers.items tiers),
       )

@@ -54,21 +54,20 @@ module _ {V S C E : Type 0} where
           Turn : ℕ → model.Stage ResourceId → List (DeepRecord V S C E) → Answer F → Type 0
           Turn n stage part told = (a : Answer (StageFault E)) × DeepStageTurn Own (inside_at all n) stage part a × (told ≡ tells n a)
 
-  module _ (kind : V → Kind) (asks : Control V C Bool E) (outer access : Access ResourceId) (no_more : IsNoMore outer access) (Inner : List (DeepRecord V S C E) → Answer (StageFault E) → Type 0)
-      (within : (list : List (DeepRecord V S C E)) (a : Answer (StageFault E)) → Inner list a → AllByRecursion (IsWithin outer) list) where
-    rounds_within : (left : ℕ) (list : List (DeepRecord V S C E)) (o : Outcome E) → DeepRounds kind asks access Inner left list o → AllByRecursion (IsWithin outer) list
-    rounds_within zero list o (is, done) = AllByRecursion-same (IsWithin outer) list [] is tt
-    rounds_within (suc more) list o (r, Ok true, one, (round, Ok tt, run, (others, is, rest))) = AllByRecursion-same (IsWithin outer) list (r ∷ (round ++ others)) is (
-      step-within kind asks of_controller once_more outer access (Ok true) r no_more one,
-      AllByRecursion-append (IsWithin outer) round others (within round (Ok tt) run) (rounds_within more others o rest),
-    )
-    rounds_within (suc more) list o (r, Ok true, one, (round, Err fault, run, (is, end))) = AllByRecursion-same (IsWithin outer) list (r ∷ round) is (step-within kind asks of_controller once_more outer access (Ok true) r no_more one, within round (Err fault) run)
-    rounds_within (suc more) list o (r, Ok false, one, (is, end)) = AllByRecursion-same (IsWithin outer) list (r ∷ []) is (step-within kind asks of_controller once_more outer access (Ok false) r no_more one, tt)
-    rounds_within (suc more) list o (r, Err fault, one, (is, end)) = AllByRecursion-same (IsWithin outer) list (r ∷ []) is (step-within kind asks of_controller once_more outer access (Err fault) r no_more one, tt)
+  -- What each record of a call of the controller has, and each record of an inner run, all records of a batch's run have.
+  module _ (kind : V → Kind) (asks : Control V C Bool E) (access : Access ResourceId) (Inner : List (DeepRecord V S C E) → Answer (StageFault E) → Type 0) (P : DeepRecord V S C E → Type 0)
+      (call : (A : Type 0) (control : Control V C A E) (tells : A → Told) (answer : Result A (Fault E)) (r : DeepRecord V S C E) → IsDeepStep kind control of_controller tells access answer r → P r)
+      (within : (list : List (DeepRecord V S C E)) (a : Answer (StageFault E)) → Inner list a → AllByRecursion P list) where
+    rounds-all : (left : ℕ) (list : List (DeepRecord V S C E)) (o : Outcome E) → DeepRounds kind asks access Inner left list o → AllByRecursion P list
+    rounds-all zero list o (is, done) = AllByRecursion-same P list [] is tt
+    rounds-all (suc more) list o (r, Ok true, one, (round, Ok tt, run, (others, is, rest))) = AllByRecursion-same P list (r ∷ (round ++ others)) is (call Bool asks once_more (Ok true) r one, AllByRecursion-append P round others (within round (Ok tt) run) (rounds-all more others o rest))
+    rounds-all (suc more) list o (r, Ok true, one, (round, Err fault, run, (is, end))) = AllByRecursion-same P list (r ∷ round) is (call Bool asks once_more (Ok true) r one, within round (Err fault) run)
+    rounds-all (suc more) list o (r, Ok false, one, (is, end)) = AllByRecursion-same P list (r ∷ []) is (call Bool asks once_more (Ok false) r one, tt)
+    rounds-all (suc more) list o (r, Err fault, one, (is, end)) = AllByRecursion-same P list (r ∷ []) is (call Bool asks once_more (Err fault) r one, tt)
 
-    batch_within : (begins : Control V C ℕ E) (list : List (DeepRecord V S C E)) (o : Outcome E) → DeepBatchRun kind asks access Inner begins list o → AllByRecursion (IsWithin outer) list
-    batch_within begins list o (r, Ok most, one, (others, is, rest)) = AllByRecursion-same (IsWithin outer) list (r ∷ others) is (step-within kind begins of_controller at_most outer access (Ok most) r no_more one, rounds_within most others o rest)
-    batch_within begins list o (r, Err fault, one, (is, end)) = AllByRecursion-same (IsWithin outer) list (r ∷ []) is (step-within kind begins of_controller at_most outer access (Err fault) r no_more one, tt)
+    pub batch-all : (begins : Control V C ℕ E) (list : List (DeepRecord V S C E)) (o : Outcome E) → DeepBatchRun kind asks access Inner begins list o → AllByRecursion P list
+    batch-all begins list o (r, Ok most, one, (others, is, rest)) = AllByRecursion-same P list (r ∷ others) is (call ℕ begins at_most (Ok most) r one, rounds-all most others o rest)
+    batch-all begins list o (r, Err fault, one, (is, end)) = AllByRecursion-same P list (r ∷ []) is (call ℕ begins at_most (Err fault) r one, tt)
 
 module _ {V S C E : Type 0} (kind : V → Kind) (related : Related V S C E) where
   occupant_within : (InnerFits : model.Plan ResourceId → Type 0) (Inner : model.Plan ResourceId → List (DeepRecord V S C E) → Answer (StageFault E) → Type 0)
@@ -76,7 +75,9 @@ module _ {V S C E : Type 0} (kind : V → Kind) (related : Related V S C E) wher
       → (occupant : Option Occupant) (access : Access ResourceId) (list : List (DeepRecord V S C E)) (o : Outcome E) → OccupantFits InnerFits occupant access → OccupantRun kind related Inner occupant access list o → AllByRecursion (IsWithin access) list
   occupant_within InnerFits Inner within (Some a_system) access list o fits (r, is, one) =
       AllByRecursion-same (IsWithin access) list (r ∷ []) is (step-within kind related.steps of_system (λ done. is_done) access access o r (record { declared = λ id d. d; written = λ id w. w }) one, tt)
-  occupant_within InnerFits Inner within (Some (a_batch control plan)) access list o fits run = batch_within kind related.asks access control fits.0 (Inner plan) (λ part a inner. wider (plan_access plan) access fits.1 part (within plan part a fits.2 inner)) related.begins list o run
+  occupant_within InnerFits Inner within (Some (a_batch control plan)) access list o fits run =
+      batch-all kind related.asks control (Inner plan) (IsWithin access) (λ A relation tells answer r one. step-within kind relation of_controller tells access control answer r fits.0 one)
+      (λ part a inner. wider (plan_access plan) access fits.1 part (within plan part a fits.3 inner)) related.begins list o run
   occupant_within InnerFits Inner within None access list o fits run = absurd run
 
   -- the records of a run of what fits an access keep within it

@@ -144,7 +144,7 @@ module _ {V S C E : Type 0} (kind : V → Kind) (related : Related V S C E) wher
       let plan = tiers_plan old.tiers.items in
       let occupants = inner_occupants less old.tiers.items in
       batch-opened kind related.asks (control_access old.control) (InnerRun kind (WorkStep kind related less)) (inner_states less) (DeepPlanRun (DeepRun kind related less) (λ place answer. answer) occupants plan)
-      (Kept less (as_record less (expand_over less)) occupants plan fits.2) (inner-opened less (as_record less (expand_over less)) occupants plan fits.2)
+      (Kept less (as_record less (expand_over less)) occupants plan fits.3) (inner-opened less (as_record less (expand_over less)) occupants plan fits.3)
       related.begins old.control.controller old.tiers.items m o new.control.controller new.tiers.items n (refl, refl) lies.run
 
   -- each step, at each depth, of what fits its access, is opened into a run of what stands there

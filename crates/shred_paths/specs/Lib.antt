@@ -2,3 +2,4 @@ pub mod Occupants
 pub mod DeepRecords
 pub mod DeepRuns
 pub mod Occupied
+pub mod Parallel

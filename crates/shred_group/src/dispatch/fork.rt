@@ -1,5 +1,5 @@
 //! Lanes that run one after the other, or beside each other on threads.
-ghost use Rattle.std.specs.Prelude.{◌≡◌, All};
+ghost use Rattle.std.specs.Prelude.{◌≡◌, ◌≤◌, All, Ok, length};
 ghost use Rattle.std.specs.Thread.{IsSync};
 ghost use Rattle.shred_model.specs.Beside.{AllWent};
 ghost use Rattle.shred_group.specs.Calls.{Accepts, Calls};
@@ -37,6 +37,7 @@ pub fn run_each<X, E: Drop, F: Fn(&mut X) -> Result<(), StageFault<E>>>(
 }
 
 // Runs every lane, in halves on up to `workers` threads, and answers the first answer, in order, that is not Done.
+#[cycle(fork)]
 pub fn run_lanes<
     R: Threads + Sync,
     X: Send,
@@ -49,20 +50,62 @@ pub fn run_lanes<
     if workers <= 1 || lanes.len() <= 1 {
         return run_each(run, lanes);
     }
+    fork_lanes(rt, run, lanes, workers)
+}
+
+// Runs two lanes or more in halves beside each other.
+#[cycle(fork)]
+fn fork_lanes<
+    R: Threads + Sync,
+    X: Send,
+    E: Drop + Send,
+    F: Fn(&mut X) -> Result<(), StageFault<E>> + Sync,
+>(rt: &R, run: &F, lanes: &mut [X], workers: usize) -> Result<(), StageFault<E>>
+    requires several { 2 ≤ length lanes.old }
+    requires accepts { All (Accepts F.Fn run.now) lanes.old }
+    ensures { AllWent (Calls F.Fn run.now) lanes.old result lanes.new }
+{
     let middle = lanes.len() / 2;
     let (front, back) = lanes.split_at_mut(middle);
     let half = workers / 2;
     let rest = workers - half;
-    let (a, b) = join_mut(
+    let mut answer = Ok(());
+    let mut other = Ok(());
+    join_mut(
         rt,
-        &mut || -> Result<(), StageFault<E>>
-            requires { IsSync R.row × IsSync F.row × All (Accepts F.Fn run.now) front.now }
-            ensures { AllWent (Calls F.Fn run.entry.now) front.entry.now result front.exit.now }
-        { run_lanes(rt, run, front, half) },
-        &mut || -> Result<(), StageFault<E>>
-            requires { IsSync R.row × IsSync F.row × All (Accepts F.Fn run.now) back.now }
-            ensures { AllWent (Calls F.Fn run.entry.now) back.entry.now result back.exit.now }
-        { run_lanes(rt, run, back, rest) },
+        &mut ||
+            requires { IsSync R.row × IsSync F.row × All (Accepts F.Fn run.now) front.now × (answer ≡ Ok tt) }
+            ensures { AllWent (Calls F.Fn run.entry.now) front.entry.now answer.exit front.exit.now }
+        {
+            if let Err(fault) = run_half(rt, run, front, half) {
+                answer = Err(fault);
+            }
+        },
+        &mut ||
+            requires { IsSync R.row × IsSync F.row × All (Accepts F.Fn run.now) back.now × (other ≡ Ok tt) }
+            ensures { AllWent (Calls F.Fn run.entry.now) back.entry.now other.exit back.exit.now }
+        {
+            if let Err(fault) = run_half(rt, run, back, rest) {
+                other = Err(fault);
+            }
+        },
     );
-    first(a, b)
+    first(answer, other)
+}
+
+// Runs a half of the lanes: a single one on this thread.
+#[cycle(fork)]
+fn run_half<
+    R: Threads + Sync,
+    X: Send,
+    E: Drop + Send,
+    F: Fn(&mut X) -> Result<(), StageFault<E>> + Sync,
+>(rt: &R, run: &F, lanes: &mut [X], workers: usize) -> Result<(), StageFault<E>>
+    requires { All (Accepts F.Fn run.now) lanes.old }
+    ensures { AllWent (Calls F.Fn run.now) lanes.old result lanes.new }
+{
+    if lanes.len() == 1 {
+        return run_one(run, &mut lanes[0]);
+    }
+    run_lanes(rt, run, lanes, workers)
 }

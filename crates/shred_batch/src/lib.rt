@@ -12,6 +12,7 @@ pub mod rules;
 pub mod run;
 pub mod run_beside;
 mod step;
+pub mod stepper;
 mod tiers;
 mod turn;
 pub mod work;

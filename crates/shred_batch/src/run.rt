@@ -17,25 +17,41 @@ ghost use Rattle.shred_world.specs.Views.{lent_slot};
 
 use crate::by_error::{ControllerOf, SystemOf};
 use crate::rounds::batch_in_order;
-use crate::rules::{Loan, Rules};
+use crate::rules::Loan;
+use crate::stepper::Stepper;
 use crate::work::{Batch, Nested, Work};
 use shred_group::Fault;
 use shred_world::{ResourceValue, Table, View};
 
-/// The rules of what nests to at most this depth: 0 is that of systems alone.
+/// The steps of what nests to at most this depth, where 0 is that of systems alone; a closure makes them.
 #[derive(Drop)]
-pub struct Depth {
+pub struct Nesting<'f, F> {
     pub depth: usize,
+    pub run: &'f F,
 }
 
-impl<V: ResourceValue, S: SystemOf<V, E>, C: ControllerOf<V, E>, E> Rules<
-    V,
-    Work<S, Nested<V, S, C>>,
+impl<
+    'f,
+    V: ResourceValue,
+    S: SystemOf<V, E>,
+    C: ControllerOf<V, E>,
     E,
-> for Depth {
+    F: Fn(&mut Work<S, Nested<V, S, C>>, &Loan<'_, V>, &mut Table<V>) -> Result<(), Fault<E>>,
+> Stepper<V, Work<S, Nested<V, S, C>>, E> for Nesting<'f, F> {
     ghost may_keep = { λ at. Owns (record { reads = S.its_reads; writes = S.its_writes; control_reads = C.its_reads; control_writes = C.its_writes }) at.depth };
 
     ghost step = { λ at. WorkStep V.kind_of (record { steps = S.steps; begins = C.begins; asks = C.asks }) at.depth };
+
+    ghost works = { λ at. IsStepper V (Work S (Nested V S C)) E V.kind_of (Owns (record { reads = S.its_reads; writes = S.its_writes; control_reads = C.its_reads; control_writes = C.its_writes }) at.depth) (WorkStep V.kind_of (record { steps = S.steps; begins = C.begins; asks = C.asks }) at.depth) (F.pre at.run.now) (F.post at.run.now) };
+
+    fn make(
+        &self,
+        work: &mut Work<S, Nested<V, S, C>>,
+        loan: &Loan<V>,
+        own: &mut Table<V>,
+    ) -> Result<(), Fault<E>> {
+        (self.run)(work, loan, own)
+    }
 }
 
 // One step of a system.
@@ -84,8 +100,7 @@ fn batch_at<
     let writes = loan.writes;
     let shelf = loan.shelf;
     batch_in_order(
-        &Depth { depth: less },
-        run,
+        &Nesting { depth: less, run },
         reads,
         writes,
         shelf,

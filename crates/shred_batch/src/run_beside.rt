@@ -13,7 +13,7 @@ ghost use Rattle.shred_world.specs.Views.{lent_slot};
 use crate::beside::batch_beside;
 use crate::by_error::{ControllerOf, SystemOf};
 use crate::rules::Loan;
-use crate::run::{Depth, step_in_order, step_system};
+use crate::run::{Nesting, step_in_order, step_system};
 use crate::work::{Batch, Nested, Work};
 use shred_group::Fault;
 use shred_world::{ResourceValue, Table};
@@ -48,8 +48,7 @@ fn batch_at<
     let shelf = loan.shelf;
     batch_beside(
         rt,
-        &Depth { depth: less },
-        run,
+        &Nesting { depth: less, run },
         reads,
         writes,
         shelf,

@@ -12,14 +12,14 @@ use Rattle.shred_batch.proofs.beside.rounds_beside.Goals as goal
 
 pub returns-clause-ran : goal.returns-clause-ran
 returns-clause-ran g c =
-    c.loop-round.invariant.ran (Ok tt) _ _ _ (none-left g.V.ResourceValue.kind_of g.C.ControllerOf.asks (control_access c.args.control.now) (InnerRun g.V.ResourceValue.kind_of (g.T.Rules.step c.args.rules.now)) (c.args.most - c.loop-round.round) (omega arith)
+    c.loop-round.invariant.ran (Ok tt) _ _ _ (none-left g.V.ResourceValue.kind_of g.C.ControllerOf.asks (control_access c.args.control.now) (InnerRun g.V.ResourceValue.kind_of (g.T.Stepper.step c.args.by.now)) (c.args.most - c.loop-round.round) (omega arith)
     c.loop-round.control.controller c.loop-round.tiers (shown g.V.ResourceValue.kind_of (lent_slot c.args.shelf.now) c.loop-round.own))
 
 pub returns-in-Ok-false-clause-ran : goal.returns-in-Ok-false-clause-ran
 returns-in-Ok-false-clause-ran g c =
     let seen = shown g.V.ResourceValue.kind_of (lent_slot c.args.shelf.now) in
     let one = subst (λ (access : Access ResourceId). IsControlOver g.V.ResourceValue.kind_of g.C.ControllerOf.asks access c.loop-round.control.controller (seen c.loop-round.own) c.ask.result c.ask.new.self.controller (seen c.ask.new.own)) c.loop-round.invariant.access c.ask.ensures.ran in
-    c.loop-round.invariant.ran (Ok tt) _ _ _ (on-no g.V.ResourceValue.kind_of g.C.ControllerOf.asks (control_access c.args.control.now) (InnerRun g.V.ResourceValue.kind_of (g.T.Rules.step c.args.rules.now)) (c.args.most - c.loop-round.round) (c.args.most - (c.loop-round.round + 1)) (omega arith)
+    c.loop-round.invariant.ran (Ok tt) _ _ _ (on-no g.V.ResourceValue.kind_of g.C.ControllerOf.asks (control_access c.args.control.now) (InnerRun g.V.ResourceValue.kind_of (g.T.Stepper.step c.args.by.now)) (c.args.most - c.loop-round.round) (c.args.most - (c.loop-round.round + 1)) (omega arith)
     c.loop-round.control.controller c.ask.new.self.controller c.loop-round.tiers (seen c.loop-round.own) (seen c.ask.new.own)
     (subst (λ says. IsControlOver g.V.ResourceValue.kind_of g.C.ControllerOf.asks (control_access c.args.control.now) c.loop-round.control.controller (seen c.loop-round.own) says c.ask.new.self.controller (seen c.ask.new.own)) (c.in-Ok-false.is ∙ ap Ok c.in-Ok-false.field-0-test) one))
 
@@ -27,14 +27,14 @@ pub returns-in-Err-clause-ran : goal.returns-in-Err-clause-ran
 returns-in-Err-clause-ran g c =
     let seen = shown g.V.ResourceValue.kind_of (lent_slot c.args.shelf.now) in
     let one = subst (λ (access : Access ResourceId). IsControlOver g.V.ResourceValue.kind_of g.C.ControllerOf.asks access c.loop-round.control.controller (seen c.loop-round.own) c.ask.result c.ask.new.self.controller (seen c.ask.new.own)) c.loop-round.invariant.access c.ask.ensures.ran in
-    c.loop-round.invariant.ran (Err c.in-Err.fault) _ _ _ (on-fault g.V.ResourceValue.kind_of g.C.ControllerOf.asks (control_access c.args.control.now) (InnerRun g.V.ResourceValue.kind_of (g.T.Rules.step c.args.rules.now)) (c.args.most - c.loop-round.round) (c.args.most - (c.loop-round.round + 1)) (omega arith)
+    c.loop-round.invariant.ran (Err c.in-Err.fault) _ _ _ (on-fault g.V.ResourceValue.kind_of g.C.ControllerOf.asks (control_access c.args.control.now) (InnerRun g.V.ResourceValue.kind_of (g.T.Stepper.step c.args.by.now)) (c.args.most - c.loop-round.round) (c.args.most - (c.loop-round.round + 1)) (omega arith)
     c.loop-round.control.controller c.ask.new.self.controller c.loop-round.tiers (seen c.loop-round.own) (seen c.ask.new.own) c.in-Err.fault
     (subst (λ says. IsControlOver g.V.ResourceValue.kind_of g.C.ControllerOf.asks (control_access c.args.control.now) c.loop-round.control.controller (seen c.loop-round.own) says c.ask.new.self.controller (seen c.ask.new.own)) c.in-Err.is one))
 
 pub returns-in-Err-tiers_beside-clause-ran : goal.returns-in-Err-tiers_beside-clause-ran
 returns-in-Err-tiers_beside-clause-ran g c =
     let seen = shown g.V.ResourceValue.kind_of (lent_slot c.args.shelf.now) in
-    let Inner = InnerRun g.V.ResourceValue.kind_of (g.T.Rules.step c.args.rules.now) in
+    let Inner = InnerRun g.V.ResourceValue.kind_of (g.T.Stepper.step c.args.by.now) in
     let one = subst (λ (access : Access ResourceId). IsControlOver g.V.ResourceValue.kind_of g.C.ControllerOf.asks access c.loop-round.control.controller (seen c.loop-round.own) c.ask.result c.ask.new.self.controller (seen c.ask.new.own)) c.loop-round.invariant.access c.ask.ensures.ran in
     let yes = subst (λ says. IsControlOver g.V.ResourceValue.kind_of g.C.ControllerOf.asks (control_access c.args.control.now) c.loop-round.control.controller (seen c.loop-round.own) says c.ask.new.self.controller (seen c.ask.new.own)) (c.in-Ok-true.is ∙ ap Ok c.in-Ok-true.field-0-test) one in
     c.loop-round.invariant.ran (Err c.within.result) _ _ _
@@ -46,7 +46,7 @@ returns-in-Err-tiers_beside-clause-ran g c =
 pub loop-round-preserved : goal.loop-round-preserved
 loop-round-preserved g c =
     let seen = shown g.V.ResourceValue.kind_of (lent_slot c.args.shelf.now) in
-    let Inner = InnerRun g.V.ResourceValue.kind_of (g.T.Rules.step c.args.rules.now) in
+    let Inner = InnerRun g.V.ResourceValue.kind_of (g.T.Stepper.step c.args.by.now) in
     let one = subst (λ (access : Access ResourceId). IsControlOver g.V.ResourceValue.kind_of g.C.ControllerOf.asks access c.loop-round.control.controller (seen c.loop-round.own) c.ask.result c.ask.new.self.controller (seen c.ask.new.own)) c.loop-round.invariant.access c.ask.ensures.ran in
     let yes = subst (λ says. IsControlOver g.V.ResourceValue.kind_of g.C.ControllerOf.asks (control_access c.args.control.now) c.loop-round.control.controller (seen c.loop-round.own) says c.ask.new.self.controller (seen c.ask.new.own)) (c.in-Ok-true.is ∙ ap Ok c.in-Ok-true.field-0-test) one in
     record {

@@ -8,13 +8,11 @@ use Rattle.shred_batch.specs.KeptControllers.{control_access}
 use Rattle.shred_batch.specs.Rounds.{BatchRun}
 use Rattle.shred_batch.specs.Works.{InnerRun, IsTierWithin, tiers_plan}
 use Rattle.shred_batch.specs.declared.work.Tier.{Tier}
-use Rattle.shred_batch.specs.declared.work.Nested.{Nested}
-use Rattle.shred_batch.specs.declared.work.Work.{Work}
 use Rattle.shred_batch.proofs.rounds.batch_in_order.Goals as goal
 
 pub run_in_order-requires : goal.run_in_order-requires
 run_in_order-requires g c =
-    (omega arith, (c.requires.stepper, (c.requires.own_slots, (c.requires.only_own, (c.requires.within.control, (c.requires.within.writes_within, subst (All (IsTierWithin (g.T.Rules.may_keep c.args.rules.now) c.args.reads.now c.args.writes.now)) (sym c.as_mut_slice.ensures.value) c.requires.within.tiers))))))
+    (omega arith, (c.requires.works, (c.requires.own_slots, (c.requires.only_own, (c.requires.within.control, (c.requires.within.writes_within, subst (All (IsTierWithin (g.T.Stepper.may_keep c.args.by.now) c.args.reads.now c.args.writes.now)) (sym c.as_mut_slice.ensures.value) c.requires.within.tiers))))))
 
 pub returns : goal.returns
 returns g c =
@@ -24,7 +22,7 @@ returns g c =
     let put = with_items_is was c.run_in_order.new.tiers same in
     let went = rw c.as_mut_slice.ensures.value at c.run_in_order.ensures in
     record {
-      run = subst (λ (tiers : List (Tier g.row.V.Denot (Work g.row.S.Denot (Nested g.row.V.Denot g.row.S.Denot g.row.C.Denot)))). BatchRun g.V.ResourceValue.kind_of g.C.ControllerOf.asks (control_access c.args.batch.now.control) (InnerRun g.V.ResourceValue.kind_of (g.T.Rules.step c.args.rules.now)) g.C.ControllerOf.begins c.args.batch.now.control.controller was.items (seen c.args.own.now) c.run_in_order.result c.run_in_order.new.control.controller tiers (seen c.run_in_order.new.own)) (sym put) went.ran;
+      run = subst (λ (tiers : List (Tier g.row.V.Denot g.row.X.Denot)). BatchRun g.V.ResourceValue.kind_of g.C.ControllerOf.asks (control_access c.args.batch.now.control) (InnerRun g.V.ResourceValue.kind_of (g.T.Stepper.step c.args.by.now)) g.C.ControllerOf.begins c.args.batch.now.control.controller was.items (seen c.args.own.now) c.run_in_order.result c.run_in_order.new.control.controller tiers (seen c.run_in_order.new.own)) (sym put) went.ran;
       same_access = went.access;
       same_plan = ap tiers_plan put ∙ went.plan;
       kinds = went.kinds;
@@ -34,6 +32,6 @@ returns g c =
         control = went.control;
         reads_within = λ id some. c.requires.within.reads_within id (ap (λ access. among access.reads id) (sym went.access) ∙ some);
         writes_within = λ id some. c.requires.within.writes_within id (ap (λ access. among access.writes id) (sym went.access) ∙ some);
-        tiers = subst (All (IsTierWithin (g.T.Rules.may_keep c.args.rules.now) c.args.reads.now c.args.writes.now)) (sym put) went.within;
+        tiers = subst (All (IsTierWithin (g.T.Stepper.may_keep c.args.by.now) c.args.reads.now c.args.writes.now)) (sym put) went.within;
       };
     }

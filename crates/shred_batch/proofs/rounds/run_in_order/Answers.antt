@@ -11,7 +11,7 @@ use Rattle.shred_batch.proofs.rounds.run_in_order.Goals as goal
 pub returns-in-Ok-clause-ran : goal.returns-in-Ok-clause-ran
 returns-in-Ok-clause-ran g c =
     let seen = shown g.V.ResourceValue.kind_of (lent_slot c.args.shelf.now) in
-    let Inner = InnerRun g.V.ResourceValue.kind_of (g.T.Rules.step c.args.rules.now) in (
+    let Inner = InnerRun g.V.ResourceValue.kind_of (g.T.Stepper.step c.args.by.now) in (
       Ok c.in-Ok.most,
       c.begin.new.self.controller,
       seen c.begin.new.own,

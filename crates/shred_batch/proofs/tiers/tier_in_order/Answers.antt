@@ -12,8 +12,6 @@ use Rattle.shred_group.specs.Hands.{KeepsRoom, some_writes}
 use Rattle.shred_group.specs.OwnLists.{IsGroupOf}
 use Rattle.shred_group.specs.PlanOf.{groups_plan}
 use Rattle.shred_group.specs.Turns.{TookTurn}
-use Rattle.shred_batch.specs.declared.work.Nested.{Nested}
-use Rattle.shred_batch.specs.declared.work.Work.{Work}
 use Rattle.shred_batch.proofs.tiers.tier_in_order.Goals as goal
 
 pub turn_in_order-requires : goal.turn_in_order-requires
@@ -22,18 +20,18 @@ turn_in_order-requires g c =
     let tier = c.requires.within in (
       omega arith,
       (
-        c.requires.stepper,
+        c.requires.works,
         (
           c.requires.own_slots,
           (
             c.requires.only_own,
             (
-              subst (All (IsGroupOf (g.T.Rules.may_keep c.args.rules.now))) same tier.owns,
+              subst (All (IsGroupOf (g.T.Stepper.may_keep c.args.by.now))) same tier.owns,
               (
                 subst (All KeepsRoom) same tier.room,
                 (
-                  subst (λ (groups : List (Group g.row.V.Denot (Work g.row.S.Denot (Nested g.row.V.Denot g.row.S.Denot g.row.C.Denot)))). AreApart group_access (groups_plan groups)) same tier.apart,
-                  subst (λ (groups : List (Group g.row.V.Denot (Work g.row.S.Denot (Nested g.row.V.Denot g.row.S.Denot g.row.C.Denot)))). (id : ResourceId) → some_writes groups id ≡ true → among c.args.writes.now id ≡ true) same tier.writes_within,
+                  subst (λ (groups : List (Group g.row.V.Denot g.row.X.Denot)). AreApart group_access (groups_plan groups)) same tier.apart,
+                  subst (λ (groups : List (Group g.row.V.Denot g.row.X.Denot)). (id : ResourceId) → some_writes groups id ≡ true → among c.args.writes.now id ≡ true) same tier.writes_within,
                 ),
               ),
             ),
@@ -50,7 +48,7 @@ returns g c =
     let put = with_items_is was c.turn_in_order.new.groups same in
     let went = rw c.as_mut_slice.ensures.value at c.turn_in_order.ensures in
     record {
-      took = subst (λ groups. TookTurn g.V.ResourceValue.kind_of (g.T.Rules.step c.args.rules.now) (g.T.Rules.may_keep c.args.rules.now) was.items (seen c.args.own.now) c.turn_in_order.result groups (seen c.turn_in_order.new.own)) (sym put) went.took;
+      took = subst (λ groups. TookTurn g.V.ResourceValue.kind_of (g.T.Stepper.step c.args.by.now) (g.T.Stepper.may_keep c.args.by.now) was.items (seen c.args.own.now) c.turn_in_order.result groups (seen c.turn_in_order.new.own)) (sym put) went.took;
       slots = went.slots;
       others = went.others;
     }

@@ -15,10 +15,10 @@ abbrev pub invariant-loop-tier : goal.invariant-loop-tier
 invariant-loop-tier g l = record {
   plan : tiers_plan l.tiers ≡ tiers_plan l.initial.tiers;
   ids : map tier_numbers l.tiers ≡ map tier_numbers l.initial.tiers;
-  within : All (IsTierWithin (g.T.Rules.may_keep l.rules) l.reads l.writes) l.tiers;
+  within : All (IsTierWithin (g.T.Stepper.may_keep l.by) l.reads l.writes) l.tiers;
   kinds : (id : ResourceId) → option_map g.V.ResourceValue.kind_of (shown g.V.ResourceValue.kind_of (lent_slot l.shelf) l.own id) ≡ option_map g.V.ResourceValue.kind_of (shown g.V.ResourceValue.kind_of (lent_slot l.shelf) l.initial.own id);
   slots : IsSameSlots l.initial.own l.own;
   frame : (id : ResourceId) → among l.writes id ≡ false → shown g.V.ResourceValue.kind_of (lent_slot l.shelf) l.own id ≡ shown g.V.ResourceValue.kind_of (lent_slot l.shelf) l.initial.own id;
-  ran : SoFar (λ place. StageTurn g.V.ResourceValue.kind_of (g.T.Rules.step l.rules)) l.tier-index (tiers_plan l.initial.tiers)
+  ran : SoFar (λ place. StageTurn g.V.ResourceValue.kind_of (g.T.Stepper.step l.by)) l.tier-index (tiers_plan l.initial.tiers)
       (configuration_of (listed_states tier_states l.initial.tiers) (shown g.V.ResourceValue.kind_of (lent_slot l.shelf) l.initial.own)) (configuration_of (listed_states tier_states l.tiers) (shown g.V.ResourceValue.kind_of (lent_slot l.shelf) l.own));
 }

@@ -19,14 +19,14 @@ loop-tier-init g c = record {
   kinds = λ id. refl;
   slots = λ id. refl;
   frame = λ id out. refl;
-  ran = SoFar-start (λ place. StageTurn g.V.ResourceValue.kind_of (g.T.Rules.step c.args.rules.now)) (tiers_plan c.args.tiers.now) (configuration_of (listed_states tier_states c.args.tiers.now) (shown g.V.ResourceValue.kind_of (lent_slot c.args.shelf.now) c.args.own.now));
+  ran = SoFar-start (λ place. StageTurn g.V.ResourceValue.kind_of (g.T.Stepper.step c.args.by.now)) (tiers_plan c.args.tiers.now) (configuration_of (listed_states tier_states c.args.tiers.now) (shown g.V.ResourceValue.kind_of (lent_slot c.args.shelf.now) c.args.own.now));
 }
 
 pub tier_in_order-requires : goal.tier_in_order-requires
 tier_in_order-requires g c = (
   omega arith,
   (
-    c.requires.stepper,
+    c.requires.works,
     (
       still_has_slots c.args.writes.now (lent_slot c.args.shelf.now) c.args.own.now c.loop-tier.own c.loop-tier.invariant.slots c.requires.own_slots,
       (
@@ -39,7 +39,7 @@ tier_in_order-requires g c = (
 
 pub returns-in-Err-clause-ran : goal.returns-in-Err-clause-ran
 returns-in-Err-clause-ran g c = record {
-  ran = SoFar-fault (λ place. StageTurn g.V.ResourceValue.kind_of (g.T.Rules.step c.args.rules.now)) tier_plan tier_states c.loop-tier.tiers (shown g.V.ResourceValue.kind_of (lent_slot c.args.shelf.now) c.loop-tier.own)
+  ran = SoFar-fault (λ place. StageTurn g.V.ResourceValue.kind_of (g.T.Stepper.step c.args.by.now)) tier_plan tier_states c.loop-tier.tiers (shown g.V.ResourceValue.kind_of (lent_slot c.args.shelf.now) c.loop-tier.own)
       c.loop-tier.invariant.plan c.loop-tier.invariant.ran c.tier-item.result c.tier_in_order.new.tier (shown g.V.ResourceValue.kind_of (lent_slot c.args.shelf.now) c.tier_in_order.new.own) (omega arith) c.in-Err.fault c.in-Err.ensures.took.ran;
   same_plan = map-set_same tier_plan c.loop-tier.tiers c.loop-tier.tier-index c.tier_in_order.new.tier c.tier-item.result c.in-Err.ensures.took.plan ∙ c.loop-tier.invariant.plan;
   same_ids = map-set_same tier_numbers c.loop-tier.tiers c.loop-tier.tier-index c.tier_in_order.new.tier c.tier-item.result c.in-Err.ensures.took.ids ∙ c.loop-tier.invariant.ids;
@@ -51,8 +51,8 @@ returns-in-Err-clause-plan g c = map-set_same tier_plan c.loop-tier.tiers c.loop
 pub returns-in-Err-clause-within : goal.returns-in-Err-clause-within
 returns-in-Err-clause-within g c =
     let here = c.loop-tier.invariant.within c.loop-tier.tier-index c.tier-item.result (omega arith) in
-    All-set (IsTierWithin (g.T.Rules.may_keep c.args.rules.now) c.args.reads.now c.args.writes.now) c.loop-tier.tiers c.loop-tier.tier-index c.tier_in_order.new.tier
-    (within-after g.V.ResourceValue.kind_of (g.T.Rules.may_keep c.args.rules.now) (g.T.Rules.step c.args.rules.now) c.args.reads.now c.args.writes.now (lent_slot c.args.shelf.now) _ c.loop-tier.own _ c.tier_in_order.new.tier c.tier_in_order.new.own here c.in-Err.ensures) c.loop-tier.invariant.within
+    All-set (IsTierWithin (g.T.Stepper.may_keep c.args.by.now) c.args.reads.now c.args.writes.now) c.loop-tier.tiers c.loop-tier.tier-index c.tier_in_order.new.tier
+    (within-after g.V.ResourceValue.kind_of (g.T.Stepper.may_keep c.args.by.now) (g.T.Stepper.step c.args.by.now) c.args.reads.now c.args.writes.now (lent_slot c.args.shelf.now) _ c.loop-tier.own _ c.tier_in_order.new.tier c.tier_in_order.new.own here c.in-Err.ensures) c.loop-tier.invariant.within
 
 pub returns-in-Err-clause-kinds : goal.returns-in-Err-clause-kinds
 returns-in-Err-clause-kinds g c = λ id. c.in-Err.ensures.took.kinds id ∙ c.loop-tier.invariant.kinds id
@@ -63,7 +63,7 @@ returns-in-Err-clause-slots g c = λ id. c.in-Err.ensures.slots id ∙ c.loop-ti
 pub returns-in-Err-clause-frame : goal.returns-in-Err-clause-frame
 returns-in-Err-clause-frame g c =
     let here = c.loop-tier.invariant.within c.loop-tier.tier-index c.tier-item.result (omega arith) in
-    λ id out. frame-after g.V.ResourceValue.kind_of (g.T.Rules.may_keep c.args.rules.now) (g.T.Rules.step c.args.rules.now) c.args.reads.now c.args.writes.now (lent_slot c.args.shelf.now) _ c.loop-tier.own _ c.tier_in_order.new.tier c.tier_in_order.new.own here c.in-Err.ensures id out
+    λ id out. frame-after g.V.ResourceValue.kind_of (g.T.Stepper.may_keep c.args.by.now) (g.T.Stepper.step c.args.by.now) c.args.reads.now c.args.writes.now (lent_slot c.args.shelf.now) _ c.loop-tier.own _ c.tier_in_order.new.tier c.tier_in_order.new.own here c.in-Err.ensures id out
     ∙ c.loop-tier.invariant.frame id out
 
 pub loop-tier-preserved : goal.loop-tier-preserved
@@ -72,20 +72,20 @@ loop-tier-preserved g c =
     record {
       plan = map-set_same tier_plan c.loop-tier.tiers c.loop-tier.tier-index c.tier_in_order.new.tier c.tier-item.result c.in_default.ensures.took.plan ∙ c.loop-tier.invariant.plan;
       ids = map-set_same tier_numbers c.loop-tier.tiers c.loop-tier.tier-index c.tier_in_order.new.tier c.tier-item.result c.in_default.ensures.took.ids ∙ c.loop-tier.invariant.ids;
-      within = All-set (IsTierWithin (g.T.Rules.may_keep c.args.rules.now) c.args.reads.now c.args.writes.now) c.loop-tier.tiers c.loop-tier.tier-index c.tier_in_order.new.tier
-          (within-after g.V.ResourceValue.kind_of (g.T.Rules.may_keep c.args.rules.now) (g.T.Rules.step c.args.rules.now) c.args.reads.now c.args.writes.now (lent_slot c.args.shelf.now) _ c.loop-tier.own _ c.tier_in_order.new.tier c.tier_in_order.new.own here c.in_default.ensures) c.loop-tier.invariant.within;
+      within = All-set (IsTierWithin (g.T.Stepper.may_keep c.args.by.now) c.args.reads.now c.args.writes.now) c.loop-tier.tiers c.loop-tier.tier-index c.tier_in_order.new.tier
+          (within-after g.V.ResourceValue.kind_of (g.T.Stepper.may_keep c.args.by.now) (g.T.Stepper.step c.args.by.now) c.args.reads.now c.args.writes.now (lent_slot c.args.shelf.now) _ c.loop-tier.own _ c.tier_in_order.new.tier c.tier_in_order.new.own here c.in_default.ensures) c.loop-tier.invariant.within;
       kinds = λ id. c.in_default.ensures.took.kinds id ∙ c.loop-tier.invariant.kinds id;
       slots = λ id. c.in_default.ensures.slots id ∙ c.loop-tier.invariant.slots id;
       frame = λ id out.
-          frame-after g.V.ResourceValue.kind_of (g.T.Rules.may_keep c.args.rules.now) (g.T.Rules.step c.args.rules.now) c.args.reads.now c.args.writes.now (lent_slot c.args.shelf.now) _ c.loop-tier.own _ c.tier_in_order.new.tier c.tier_in_order.new.own here c.in_default.ensures id out
+          frame-after g.V.ResourceValue.kind_of (g.T.Stepper.may_keep c.args.by.now) (g.T.Stepper.step c.args.by.now) c.args.reads.now c.args.writes.now (lent_slot c.args.shelf.now) _ c.loop-tier.own _ c.tier_in_order.new.tier c.tier_in_order.new.own here c.in_default.ensures id out
           ∙ c.loop-tier.invariant.frame id out;
-      ran = SoFar-more (λ place. StageTurn g.V.ResourceValue.kind_of (g.T.Rules.step c.args.rules.now)) tier_plan tier_states c.loop-tier.tiers (shown g.V.ResourceValue.kind_of (lent_slot c.args.shelf.now) c.loop-tier.own)
+      ran = SoFar-more (λ place. StageTurn g.V.ResourceValue.kind_of (g.T.Stepper.step c.args.by.now)) tier_plan tier_states c.loop-tier.tiers (shown g.V.ResourceValue.kind_of (lent_slot c.args.shelf.now) c.loop-tier.own)
           c.loop-tier.invariant.plan c.loop-tier.invariant.ran c.tier-item.result c.tier_in_order.new.tier (shown g.V.ResourceValue.kind_of (lent_slot c.args.shelf.now) c.tier_in_order.new.own) (omega arith) c.in_default.ensures.took.ran;
     }
 
 pub returns-clause-ran : goal.returns-clause-ran
 returns-clause-ran g c = record {
-  ran = SoFar-end (λ place. StageTurn g.V.ResourceValue.kind_of (g.T.Rules.step c.args.rules.now)) tier_plan tier_states c.loop-tier.tiers (shown g.V.ResourceValue.kind_of (lent_slot c.args.shelf.now) c.loop-tier.own)
+  ran = SoFar-end (λ place. StageTurn g.V.ResourceValue.kind_of (g.T.Stepper.step c.args.by.now)) tier_plan tier_states c.loop-tier.tiers (shown g.V.ResourceValue.kind_of (lent_slot c.args.shelf.now) c.loop-tier.own)
       c.loop-tier.invariant.plan c.loop-tier.invariant.ran (omega arith);
   same_plan = c.loop-tier.invariant.plan;
   same_ids = c.loop-tier.invariant.ids;

@@ -22,12 +22,12 @@ run_beside-answer-requires-after_bounds g c κs within =
     let left = left-before lent c.args.writes.now own after c.requires.own_slots (some_writes c.args.groups.now) c.requires.within c.move_all_out.ensures.left in (
       omega arith,
       (
-        c.requires.stepper,
+        c.requires.works,
         (
           has-after lent c.args.writes.now own after c.requires.own_slots (some_writes c.args.groups.now) c.move_all_out.ensures.left,
           (
             only-after lent c.args.writes.now own after c.requires.only_own (some_writes c.args.groups.now) c.move_all_out.ensures.left,
-            ready-all (g.T.Rules.may_keep c.args.rules.now) (lent_before own lent) (lent_before after lent) c.args.groups.now c.move_all_out.new.groups c.requires.room c.requires.own_lists moved left,
+            ready-all (g.T.Stepper.may_keep c.args.by.now) (lent_before own lent) (lent_before after lent) c.args.groups.now c.move_all_out.new.groups c.requires.room c.requires.own_lists moved left,
           ),
         ),
       ),
@@ -40,7 +40,7 @@ move_all_back-requires-clause-apart g c =
     let after = c.move_all_out.new.table in
     let moved = moved-before lent c.args.writes.now own c.requires.own_slots c.args.groups.now c.move_all_out.new.groups c.requires.within c.move_all_out.ensures.hands in
     let left = left-before lent c.args.writes.now own after c.requires.own_slots (some_writes c.args.groups.now) c.requires.within c.move_all_out.ensures.left in
-    forked-apart g.V.ResourceValue.kind_of (g.T.Rules.step c.args.rules.now) (g.T.Rules.may_keep c.args.rules.now) (lent_before own lent) (lent_before after lent) c.args.groups.now c.move_all_out.new.groups c.run_beside-answer.new.groups c.run_beside-answer.result
+    forked-apart g.V.ResourceValue.kind_of (g.T.Stepper.step c.args.by.now) (g.T.Stepper.may_keep c.args.by.now) (lent_before own lent) (lent_before after lent) c.args.groups.now c.move_all_out.new.groups c.run_beside-answer.new.groups c.run_beside-answer.result
     c.requires.apart c.requires.room moved left c.run_beside-answer.ensures
 
 pub move_all_back-requires-clause-fit : goal.move_all_back-requires-clause-fit
@@ -50,7 +50,7 @@ move_all_back-requires-clause-fit g c =
     let after = c.move_all_out.new.table in
     let moved = moved-before lent c.args.writes.now own c.requires.own_slots c.args.groups.now c.move_all_out.new.groups c.requires.within c.move_all_out.ensures.hands in
     let left = left-before lent c.args.writes.now own after c.requires.own_slots (some_writes c.args.groups.now) c.requires.within c.move_all_out.ensures.left in
-    forked-fits g.V.ResourceValue.kind_of (g.T.Rules.step c.args.rules.now) (g.T.Rules.may_keep c.args.rules.now) (lent_before own lent) (lent_before after lent) c.args.groups.now c.move_all_out.new.groups c.run_beside-answer.new.groups c.run_beside-answer.result
+    forked-fits g.V.ResourceValue.kind_of (g.T.Stepper.step c.args.by.now) (g.T.Stepper.may_keep c.args.by.now) (lent_before own lent) (lent_before after lent) c.args.groups.now c.move_all_out.new.groups c.run_beside-answer.new.groups c.run_beside-answer.result
     c.requires.apart c.requires.room moved left c.run_beside-answer.ensures
 
 pub returns-clause-took : goal.returns-clause-took
@@ -63,9 +63,9 @@ returns-clause-took g c =
     let moved = moved-before lent c.args.writes.now own c.requires.own_slots c.args.groups.now c.move_all_out.new.groups c.requires.within c.move_all_out.ensures.hands in
     let left = left-before lent c.args.writes.now own after c.requires.own_slots (some_writes c.args.groups.now) c.requires.within c.move_all_out.ensures.left in
     let has = has-after lent c.args.writes.now own after c.requires.own_slots (some_writes c.args.groups.now) c.move_all_out.ensures.left in
-    let wrote_same = wrote g.V.ResourceValue.kind_of (g.T.Rules.step c.args.rules.now) (g.T.Rules.may_keep c.args.rules.now) (lent_before own lent) (lent_before after lent) c.args.groups.now c.move_all_out.new.groups ran c.run_beside-answer.result
+    let wrote_same = wrote g.V.ResourceValue.kind_of (g.T.Stepper.step c.args.by.now) (g.T.Stepper.may_keep c.args.by.now) (lent_before own lent) (lent_before after lent) c.args.groups.now c.move_all_out.new.groups ran c.run_beside-answer.result
     c.requires.apart c.requires.room moved left c.run_beside-answer.ensures in
-    turn-taken g.V.ResourceValue.kind_of (g.T.Rules.step c.args.rules.now) (g.T.Rules.may_keep c.args.rules.now) (lent_before own lent) (lent_before after lent) c.args.groups.now c.move_all_out.new.groups ran c.run_beside-answer.result
+    turn-taken g.V.ResourceValue.kind_of (g.T.Stepper.step c.args.by.now) (g.T.Stepper.may_keep c.args.by.now) (lent_before own lent) (lent_before after lent) c.args.groups.now c.move_all_out.new.groups ran c.run_beside-answer.result
     c.requires.apart c.requires.room moved left c.run_beside-answer.ensures
     (lent_before end lent) c.move_all_back.new.groups (back-before lent c.args.writes.now after end has ran (λ q some. c.requires.within q (sym (wrote_same q) ∙ some)) c.move_all_back.ensures.back)
     (λ q none. ap (λ s. or_slot s (lent q)) (c.move_all_back.ensures.others q none)) c.move_all_back.ensures.hands
@@ -81,6 +81,6 @@ returns-clause-others g c =
     let after = c.move_all_out.new.table in
     let moved = moved-before lent c.args.writes.now own c.requires.own_slots c.args.groups.now c.move_all_out.new.groups c.requires.within c.move_all_out.ensures.hands in
     let left = left-before lent c.args.writes.now own after c.requires.own_slots (some_writes c.args.groups.now) c.requires.within c.move_all_out.ensures.left in
-    let wrote_same = wrote g.V.ResourceValue.kind_of (g.T.Rules.step c.args.rules.now) (g.T.Rules.may_keep c.args.rules.now) (lent_before own lent) (lent_before after lent) c.args.groups.now c.move_all_out.new.groups c.run_beside-answer.new.groups c.run_beside-answer.result
+    let wrote_same = wrote g.V.ResourceValue.kind_of (g.T.Stepper.step c.args.by.now) (g.T.Stepper.may_keep c.args.by.now) (lent_before own lent) (lent_before after lent) c.args.groups.now c.move_all_out.new.groups c.run_beside-answer.new.groups c.run_beside-answer.result
     c.requires.apart c.requires.room moved left c.run_beside-answer.ensures in
     λ q none. c.move_all_back.ensures.others q (wrote_same q ∙ none) ∙ c.move_all_out.ensures.left q ∙ ap (λ b. cond b (emptied (slot_at own q)) (slot_at own q)) none

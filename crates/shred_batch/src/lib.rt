@@ -4,6 +4,7 @@
 
 pub mod beside;
 pub mod by_error;
+mod calls;
 pub mod control;
 pub mod controller;
 pub mod multi;

@@ -1,19 +1,16 @@
 //! Turns of a plan's groups over a table that has what they may write, with what is only read lent shared behind it: what each
 //! group writes is moved into its hand, the groups run, and all goes back.
-ghost use Rattle.std.specs.Prelude.{◌≡◌, All, true, false};
-ghost use Rattle.shred_model.specs.Beside.{AllWent, AreApart};
-ghost use Rattle.shred_model.specs.Plan.{group_access};
-ghost use Rattle.shred_group.specs.Hands.{KeepsRoom, some_writes};
+ghost use Rattle.std.specs.Prelude.{◌≡◌, All};
+ghost use Rattle.shred_batch.specs.Loans.{HasLoanSlots};
+ghost use Rattle.shred_batch.specs.TierTurns.{AreGroupsWithin, TookTierTurn};
+ghost use Rattle.shred_model.specs.Beside.{AllWent};
 ghost use Rattle.shred_group.specs.Lanes.{IsReady, GroupWent};
-ghost use Rattle.shred_group.specs.OwnLists.{IsGroupOf};
 ghost use Rattle.shred_group.specs.OwnSlots.{lent_before, HasOnlySlots};
-ghost use Rattle.shred_group.specs.PlanOf.{groups_plan};
-ghost use Rattle.shred_group.specs.Turns.{TookTurn};
 ghost use Rattle.shred_table.specs.declared.id.ResourceId.{ResourceId};
-ghost use Rattle.shred_table.specs.Shown.{shown, HasOwnSlots, IsSameSlots};
-ghost use Rattle.shred_table.specs.Slots.{among, slot_at};
+ghost use Rattle.shred_table.specs.Shown.{HasOwnSlots};
 ghost use Rattle.shred_world.specs.Views.{lent_slot};
 
+use crate::rules::Loan;
 use crate::step::run_entries;
 use crate::stepper::Stepper;
 use shred_group::dispatch::entry::Group;
@@ -60,17 +57,17 @@ pub(crate) fn behind<'s, V>(
 // The groups, one after the other over the table, which nobody writes.
 fn run_in_order<V: ResourceValue + Drop, X, E: Drop, T: Stepper<V, X, E>>(
     by: &T,
-    writes: &[ResourceId],
-    shelf: &[Shelf<V>; 1],
+    loan: &Loan<V>,
     own: &Table<V>,
     groups: &mut [Group<V, X>],
 ) -> Result<(), StageFault<E>>
     requires works { T.works by.now }
-    requires own_slots { HasOwnSlots writes.now (lent_slot shelf.now) own.now }
-    requires only_own { HasOnlySlots writes.now own.now }
-    requires ready { All (IsReady (T.may_keep by.now) (lent_before own.now (lent_slot shelf.now))) groups.old }
-    ensures { AllWent (GroupWent V.kind_of (T.step by.now) (T.may_keep by.now) (lent_before own.now (lent_slot shelf.now))) groups.old result groups.new }
+    requires has { HasLoanSlots loan.now own.now }
+    requires ready { All (IsReady (T.may_keep by.now) (lent_before own.now (lent_slot loan.now.shelf.now))) groups.old }
+    ensures { AllWent (GroupWent V.kind_of (T.step by.now) (T.may_keep by.now) (lent_before own.now (lent_slot loan.now.shelf.now))) groups.old result groups.new }
 {
+    let writes = loan.writes;
+    let shelf = loan.shelf;
     let nearest = &behind(own, writes, shelf);
     let lane = |group: &mut Group<V, X>| -> Result<(), StageFault<E>>
         requires { T.works by.now × IsReady (T.may_keep by.now) (lent_slot nearest.now) group.old }
@@ -89,18 +86,18 @@ fn run_beside<
 >(
     rt: &R,
     by: &T,
-    writes: &[ResourceId],
-    shelf: &[Shelf<V>; 1],
+    loan: &Loan<V>,
     own: &Table<V>,
     groups: &mut [Group<V, X>],
     workers: usize,
 ) -> Result<(), StageFault<E>>
     requires works { T.works by.now }
-    requires own_slots { HasOwnSlots writes.now (lent_slot shelf.now) own.now }
-    requires only_own { HasOnlySlots writes.now own.now }
-    requires ready { All (IsReady (T.may_keep by.now) (lent_before own.now (lent_slot shelf.now))) groups.old }
-    ensures { AllWent (GroupWent V.kind_of (T.step by.now) (T.may_keep by.now) (lent_before own.now (lent_slot shelf.now))) groups.old result groups.new }
+    requires has { HasLoanSlots loan.now own.now }
+    requires ready { All (IsReady (T.may_keep by.now) (lent_before own.now (lent_slot loan.now.shelf.now))) groups.old }
+    ensures { AllWent (GroupWent V.kind_of (T.step by.now) (T.may_keep by.now) (lent_before own.now (lent_slot loan.now.shelf.now))) groups.old result groups.new }
 {
+    let writes = loan.writes;
+    let shelf = loan.shelf;
     let nearest = &behind(own, writes, shelf);
     let lane = |group: &mut Group<V, X>| -> Result<(), StageFault<E>>
         requires { T.works by.now × IsReady (T.may_keep by.now) (lent_slot nearest.now) group.old }
@@ -112,24 +109,17 @@ fn run_beside<
 // The turn of the groups, one after the other on the caller's thread.
 pub(crate) fn turn_in_order<V: ResourceValue + Drop, X, E: Drop, T: Stepper<V, X, E>>(
     by: &T,
-    writes: &[ResourceId],
-    shelf: &[Shelf<V>; 1],
+    loan: &Loan<V>,
     groups: &mut [Group<V, X>],
     own: &mut Table<V>,
 ) -> Result<(), StageFault<E>>
     requires works { T.works by.now }
-    requires own_slots { HasOwnSlots writes.now (lent_slot shelf.now) own.old }
-    requires only_own { HasOnlySlots writes.now own.old }
-    requires own_lists { All (IsGroupOf (T.may_keep by.now)) groups.old }
-    requires room { All KeepsRoom groups.old }
-    requires apart { AreApart group_access (groups_plan groups.old) }
-    requires within { (id : ResourceId) → some_writes groups.old id ≡ true → among writes.now id ≡ true }
-    ensures took { TookTurn V.kind_of (T.step by.now) (T.may_keep by.now) groups.old (shown V.kind_of (lent_slot shelf.now) own.old) result groups.new (shown V.kind_of (lent_slot shelf.now) own.new) }
-    ensures slots { IsSameSlots own.old own.new }
-    ensures others { (id : ResourceId) → some_writes groups.old id ≡ false → slot_at own.new id ≡ slot_at own.old id }
+    requires has { HasLoanSlots loan.now own.old }
+    requires groups { AreGroupsWithin (T.may_keep by.now) loan.now.writes.now groups.old }
+    ensures { TookTierTurn V.kind_of (T.may_keep by.now) (T.step by.now) (lent_slot loan.now.shelf.now) groups.old own.old result groups.new own.new }
 {
     move_all_out(groups, own);
-    let answer = run_in_order(by, writes, shelf, own, groups);
+    let answer = run_in_order(by, loan, own, groups);
     move_all_back(groups, own);
     answer
 }
@@ -144,25 +134,18 @@ pub(crate) fn turn_beside<
 >(
     rt: &R,
     by: &T,
-    writes: &[ResourceId],
-    shelf: &[Shelf<V>; 1],
+    loan: &Loan<V>,
     groups: &mut [Group<V, X>],
     own: &mut Table<V>,
     workers: usize,
 ) -> Result<(), StageFault<E>>
     requires works { T.works by.now }
-    requires own_slots { HasOwnSlots writes.now (lent_slot shelf.now) own.old }
-    requires only_own { HasOnlySlots writes.now own.old }
-    requires own_lists { All (IsGroupOf (T.may_keep by.now)) groups.old }
-    requires room { All KeepsRoom groups.old }
-    requires apart { AreApart group_access (groups_plan groups.old) }
-    requires within { (id : ResourceId) → some_writes groups.old id ≡ true → among writes.now id ≡ true }
-    ensures took { TookTurn V.kind_of (T.step by.now) (T.may_keep by.now) groups.old (shown V.kind_of (lent_slot shelf.now) own.old) result groups.new (shown V.kind_of (lent_slot shelf.now) own.new) }
-    ensures slots { IsSameSlots own.old own.new }
-    ensures others { (id : ResourceId) → some_writes groups.old id ≡ false → slot_at own.new id ≡ slot_at own.old id }
+    requires has { HasLoanSlots loan.now own.old }
+    requires groups { AreGroupsWithin (T.may_keep by.now) loan.now.writes.now groups.old }
+    ensures { TookTierTurn V.kind_of (T.may_keep by.now) (T.step by.now) (lent_slot loan.now.shelf.now) groups.old own.old result groups.new own.new }
 {
     move_all_out(groups, own);
-    let answer = run_beside(rt, by, writes, shelf, own, groups, workers);
+    let answer = run_beside(rt, by, loan, own, groups, workers);
     move_all_back(groups, own);
     answer
 }

@@ -32,8 +32,8 @@ returns g c =
       ran = subst (λ (items : List (SystemEntry g.row.V.Denot g.row.X.Denot)). Ran (GroupRun g.V.ResourceValue.kind_of (g.T.Stepper.step c.args.by.now) 0 (group_plan c.args.group.now)) (configuration_of (listed_states entry_states was.items) (seen c.args.group.now.hand)) c.run_entries.result (configuration_of (listed_states entry_states items) (seen c.run_entries.new.own))) (sym put) went.ran;
       plan = ap (map entry_plan) put ∙ went.plan;
       own_lists = subst (All (IsEntryOf (g.T.Stepper.may_keep c.args.by.now))) (sym put) went.own_lists;
-      ids = refl;
-      written = refl;
+      ids = refl {a = c.args.group.now.ids};
+      written = refl {a = c.args.group.now.written};
       kinds = went.kinds;
       slots = went.slots;
     }

@@ -8,7 +8,7 @@ use Rattle.shred_table.specs.declared.table.Table.{Table}
 use Rattle.shred_table.specs.Shown.{shown, HasOwnSlots, IsSameSlots}
 use Rattle.shred_table.specs.Slots.{among}
 use Rattle.shred_world.specs.Views.{lent_slot}
-use Rattle.shred_batch.specs.declared.rules.Loan.{Loan}
+use Rattle.shred_batch.specs.declared.loan.Loan.{Loan}
 
 -- The table has slots of written ids alone, and one for each for which one is lent.
 pub record HasLoanSlots {V : Type 0} (loan : Loan V) (own : Table V) : Type 0 where

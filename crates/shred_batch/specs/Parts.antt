@@ -8,24 +8,25 @@ use Rattle.shred_batch.specs.KeptControllers.{control_access, IsOwnControl}
 use Rattle.shred_batch.specs.Loans.{KeepsLoan}
 use Rattle.shred_batch.specs.Works.{IsTierWithin, tiers_plan}
 use Rattle.shred_batch.specs.declared.control.KeptController.{KeptController}
-use Rattle.shred_batch.specs.declared.rules.Loan.{Loan}
+use Rattle.shred_batch.specs.declared.loan.Loan.{Loan}
 use Rattle.shred_batch.specs.declared.work.Tier.{Tier}
 
+module _ {V C X : Type 0} (own : X → List ResourceId → List ResourceId → Type 0) (loan : Loan V) (control_reads control_writes : C → List ResourceId) where
+  -- The lists kept of the controller are those that it declares, it writes nothing but what is in the loan's written list, and the tiers are within the loan's lists.
+  pub record ArePartsWithin (control : KeptController V C) (tiers : List (Tier V X)) : Type 0 where
+    pub own_lists : IsOwnControl control_reads control_writes control
+    pub writes_within : (id : ResourceId) → among control.writes.items id ≡ true → among loan.writes.now id ≡ true
+    pub within : All (IsTierWithin own loan.reads.now loan.writes.now) tiers
+
 module _ {V X : Type 0} (kind : V → Kind) (own : X → List ResourceId → List ResourceId → Type 0) (loan : Loan V) where
-  -- The plan of the tiers stays, and they are within the loan's lists still; what the table shows keeps its kinds, its slots, and what is not written.
+  -- The plan of the tiers stays, and they are within the loan's lists still; the table keeps what `KeepsLoan` says.
   pub record KeepsTiers (old : List (Tier V X)) (before : Table V) (new : List (Tier V X)) (after : Table V) : Type 0 where
     pub plan : tiers_plan new ≡ tiers_plan old
     pub within : All (IsTierWithin own loan.reads.now loan.writes.now) new
     pub keeps : KeepsLoan kind loan before after
 
   module _ {C : Type 0} (control_reads control_writes : C → List ResourceId) where
-    -- The lists kept of the controller are those that it declares, it writes nothing but what is in the loan's written list, and the tiers are within its lists.
-    pub record ArePartsWithin (control : KeptController V C) (tiers : List (Tier V X)) : Type 0 where
-      pub own_lists : IsOwnControl control_reads control_writes control
-      pub writes_within : (id : ResourceId) → among control.writes.items id ≡ true → among loan.writes.now id ≡ true
-      pub within : All (IsTierWithin own loan.reads.now loan.writes.now) tiers
-
-    -- What was kept of the controller stays, with the plan of the tiers; both are within the loan's lists still, and so is what the table shows.
+    -- What was kept of the controller stays, and is what it declares still; the tiers and the table keep what `KeepsTiers` says.
     pub record KeepsParts (old : KeptController V C) (held : List (Tier V X)) (before : Table V) (new : KeptController V C) (left : List (Tier V X)) (after : Table V) : Type 0 where
       pub access : control_access new ≡ control_access old
       pub own_lists : IsOwnControl control_reads control_writes new

@@ -10,7 +10,7 @@ use Rattle.shred_table.specs.Shown.{Lent, shown, IsSameSlots}
 use Rattle.shred_table.specs.Slots.{among}
 use Rattle.shred_world.specs.Views.{lent_slot}
 use Rattle.shred_batch.specs.Loans.{HasLoanSlots}
-use Rattle.shred_batch.specs.declared.rules.Loan.{Loan}
+use Rattle.shred_batch.specs.declared.loan.Loan.{Loan}
 
 -- The step lies in the relation on what the two lists show; it keeps kinds, slots, the lists, and each value that is not written.
 pub record IsStepBy {V X E : Type 0} (kind : V → Kind) (own : X → List ResourceId → List ResourceId → Type 0) (step : Step V X E) (reads writes : List ResourceId) (lent : Lent V)

@@ -11,7 +11,7 @@ use Rattle.shred_world.specs.Views.{lent_slot}
 use Rattle.shred_batch.specs.Loans.{HasLoanSlots}
 use Rattle.shred_batch.specs.TierTurns.{TookTierTurn}
 use Rattle.shred_batch.specs.Works.{IsTierWithin}
-use Rattle.shred_batch.specs.declared.rules.Loan.{Loan}
+use Rattle.shred_batch.specs.declared.loan.Loan.{Loan}
 use Rattle.shred_batch.specs.declared.work.Tier.{Tier}
 
 module _ (V X E : Type 0) (kind : V → Kind) (own : X → List ResourceId → List ResourceId → Type 0) (step : Step V X E) where

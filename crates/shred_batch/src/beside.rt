@@ -8,8 +8,8 @@ ghost use Rattle.shred_batch.specs.Works.{IsBatchWithin, IsTierWithin};
 ghost use Rattle.shred_world.specs.Views.{lent_slot};
 
 use crate::by_error::ControllerOf;
+use crate::loan::Loan;
 use crate::rounds::run_batch;
-use crate::rules::Loan;
 use crate::stepper::Stepper;
 use crate::tiers::{ByTurn, tier_beside};
 use crate::work::{Batch, Tier};

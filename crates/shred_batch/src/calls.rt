@@ -10,7 +10,7 @@ ghost use Rattle.shred_table.specs.Slots.{among};
 ghost use Rattle.shred_world.specs.Views.{lent_slot};
 
 use crate::by_error::{ControllerOf, SystemOf};
-use crate::rules::Loan;
+use crate::loan::Loan;
 use shred_group::Fault;
 use shred_world::{ResourceValue, Table, View};
 

@@ -13,7 +13,7 @@ ghost use Rattle.shred_table.specs.Slots.{among};
 ghost use Rattle.shred_world.specs.Views.{lent_slot};
 
 use crate::calls::{Call, call_over};
-use crate::rules::Loan;
+use crate::loan::Loan;
 use crate::turn::behind;
 use shred_group::Fault;
 use shred_world::parting::move_each;

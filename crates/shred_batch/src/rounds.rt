@@ -12,7 +12,7 @@ ghost use Rattle.shred_world.specs.Views.{lent_slot};
 use crate::by_error::ControllerOf;
 use crate::calls::{Ask, Begin};
 use crate::control::KeptController;
-use crate::rules::Loan;
+use crate::loan::Loan;
 use crate::stepper::{Stepper, Turner};
 use crate::tiers::{InOrder, run_tiers};
 use crate::work::{Batch, Tier};
@@ -40,7 +40,7 @@ fn rounds<V: ResourceValue + Drop, X, C: ControllerOf<V, E>, E: Drop, T: Turner<
 ) -> Result<(), Fault<E>>
     requires works { T.works by.now }
     requires has { HasLoanSlots loan.now own.old }
-    requires parts { ArePartsWithin V.kind_of (T.may_keep by.now) loan.now C.its_reads C.its_writes control.old tiers.old }
+    requires parts { ArePartsWithin (T.may_keep by.now) loan.now C.its_reads C.its_writes control.old tiers.old }
     ensures ran { Rounds V.kind_of C.asks (control_access control.old) (InnerRun V.kind_of (T.step by.now)) most control.old.controller tiers.old (shown V.kind_of (lent_slot loan.now.shelf.now) own.old) result control.new.controller tiers.new (shown V.kind_of (lent_slot loan.now.shelf.now) own.new) }
     ensures kept { KeepsParts V.kind_of (T.may_keep by.now) loan.now C.its_reads C.its_writes control.old tiers.old own.old control.new tiers.new own.new }
 {
@@ -68,7 +68,7 @@ fn run_parts<V: ResourceValue + Drop, X, C: ControllerOf<V, E>, E: Drop, T: Turn
 ) -> Result<(), Fault<E>>
     requires works { T.works by.now }
     requires has { HasLoanSlots loan.now own.old }
-    requires parts { ArePartsWithin V.kind_of (T.may_keep by.now) loan.now C.its_reads C.its_writes control.old tiers.old }
+    requires parts { ArePartsWithin (T.may_keep by.now) loan.now C.its_reads C.its_writes control.old tiers.old }
     ensures ran { BatchRun V.kind_of C.asks (control_access control.old) (InnerRun V.kind_of (T.step by.now)) C.begins control.old.controller tiers.old (shown V.kind_of (lent_slot loan.now.shelf.now) own.old) result control.new.controller tiers.new (shown V.kind_of (lent_slot loan.now.shelf.now) own.new) }
     ensures kept { KeepsParts V.kind_of (T.may_keep by.now) loan.now C.its_reads C.its_writes control.old tiers.old own.old control.new tiers.new own.new }
 {
@@ -102,7 +102,7 @@ pub(crate) fn run_batch<
 
 /// A run of a batch over `own`, which has slots of written ids alone, and one for each for which one is lent; what is only
 /// read is lent shared behind it. The loan has the lists of the batch's entry. The groups of its tiers run one after the other
-/// on the caller's thread. `by` makes the steps of what stands in the entries of the inner plan.
+/// on the caller's thread. `by` makes the steps of what stands in the entries of its inner plan.
 pub fn batch_in_order<
     V: ResourceValue + Drop,
     X,

@@ -11,8 +11,8 @@ ghost use Rattle.shred_world.specs.Views.{lent_slot};
 
 use crate::by_error::{ControllerOf, SystemOf};
 use crate::calls::{RunSystem, call_over};
+use crate::loan::Loan;
 use crate::rounds::batch_in_order;
-use crate::rules::Loan;
 use crate::stepper::Stepper;
 use crate::work::{Batch, Nested, Work};
 use shred_group::Fault;

@@ -1,5 +1,4 @@
 //! One step of what stands in an entry, where the groups of a batch's inner plan run on threads.
-ghost use Rattle.std.specs.Prelude.{⊤};
 ghost use Rattle.shred_batch.specs.BatchRuns.{RanAsBatch};
 ghost use Rattle.shred_batch.specs.Depths.{Declared, Owns, Related, WorkStep};
 ghost use Rattle.shred_batch.specs.Loans.{HasLoanSlots};
@@ -10,7 +9,7 @@ ghost use Rattle.shred_world.specs.Views.{lent_slot};
 use crate::beside::batch_beside;
 use crate::by_error::{ControllerOf, SystemOf};
 use crate::calls::{RunSystem, call_over};
-use crate::rules::Loan;
+use crate::loan::Loan;
 use crate::run::step_in_order;
 use crate::stepper::Stepper;
 use crate::work::{Batch, Nested, Work};

@@ -1,5 +1,5 @@
-//! Steps of what stands in the entries of a group, one after the other. What one step does is a closure that is passed in,
-//! since a batch's step leads back to the steps of its inner plan.
+//! Steps of what stands in the entries of a group, one after the other. What makes one step is passed in, since a
+//! batch's step leads back to the steps of its inner plan.
 ghost use Rattle.std.specs.Prelude.{◌≡◌, false, map, All};
 ghost use Rattle.std.specs.Option.{option_map};
 ghost use Rattle.shred_model.specs.Runs.{Ran};
@@ -15,7 +15,7 @@ ghost use Rattle.shred_table.specs.Shown.{shown, HasOwnSlots, IsSameSlots};
 ghost use Rattle.shred_table.specs.Slots.{among};
 ghost use Rattle.shred_world.specs.Views.{lent_slot};
 
-use crate::rules::Loan;
+use crate::loan::Loan;
 use crate::stepper::Stepper;
 use shred_group::dispatch::entry::SystemEntry;
 use shred_group::dispatch::run::before;

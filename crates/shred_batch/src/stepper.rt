@@ -2,7 +2,7 @@
 ghost use Rattle.std.specs.Prelude.{List};
 ghost use Rattle.shred_table.specs.declared.id.ResourceId.{ResourceId};
 
-use crate::rules::Loan;
+use crate::loan::Loan;
 use crate::work::Tier;
 use shred_group::{Fault, StageFault};
 use shred_world::{ResourceValue, Table};

@@ -1,6 +1,5 @@
 //! The tiers of an inner plan, one after the other; the groups of each on the caller's thread alone, or beside each other.
 ghost use Rattle.std.specs.Prelude.{All};
-ghost use Rattle.std.specs.Borrow.{Bor, MutBor};
 ghost use Rattle.shred_batch.specs.Loans.{HasLoanSlots};
 ghost use Rattle.shred_batch.specs.Parts.{KeepsTiers};
 ghost use Rattle.shred_batch.specs.TierTurns.{TookTierTurn};
@@ -9,7 +8,7 @@ ghost use Rattle.shred_batch.specs.Works.{InnerRun, IsTierWithin};
 ghost use Rattle.shred_table.specs.Shown.{shown};
 ghost use Rattle.shred_world.specs.Views.{lent_slot};
 
-use crate::rules::Loan;
+use crate::loan::Loan;
 use crate::stepper::{Stepper, Turner};
 use crate::turn::{turn_beside, turn_in_order};
 use crate::work::Tier;

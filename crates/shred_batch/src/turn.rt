@@ -10,13 +10,13 @@ ghost use Rattle.shred_table.specs.declared.id.ResourceId.{ResourceId};
 ghost use Rattle.shred_table.specs.Shown.{HasOwnSlots};
 ghost use Rattle.shred_world.specs.Views.{lent_slot};
 
-use crate::rules::Loan;
+use crate::loan::Loan;
 use crate::step::run_entries;
 use crate::stepper::Stepper;
+use shred_group::StageFault;
 use shred_group::dispatch::entry::Group;
 use shred_group::dispatch::fork::{run_each, run_lanes};
 use shred_group::dispatch::hands::{move_all_back, move_all_out};
-use shred_group::{Fault, StageFault};
 use shred_world::{ResourceId, ResourceValue, Shelf, Table};
 use std::thread::Threads;
 

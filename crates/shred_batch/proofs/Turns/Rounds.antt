@@ -18,7 +18,7 @@ use Rattle.shred_batch.specs.KeptControllers.{control_access, IsOwnControl}
 use Rattle.shred_batch.specs.Loans.{KeepsLoan}
 use Rattle.shred_batch.specs.Parts.{KeepsParts, KeepsTiers}
 use Rattle.shred_batch.specs.declared.control.KeptController.{KeptController}
-use Rattle.shred_batch.specs.declared.rules.Loan.{Loan}
+use Rattle.shred_batch.specs.declared.loan.Loan.{Loan}
 use Rattle.shred_batch.specs.declared.work.Tier.{Tier}
 use Rattle.shred_batch.proofs.Turns.Tiers.{keeps-more}
 use Rattle.shred_batch.specs.Rounds.{IsControlOver, Rounds, BatchRun, fault_within}
@@ -71,10 +71,11 @@ module _ {V X C E : Type 0} (loan : Loan V) (kind : V → Kind) (own : X → Lis
     {A : Type 0} (asks : Control V C A E) (answer : Result A (Fault E)) (new : KeptController V C) (after : Table V)
     (one : IsControlOver kind asks (control_access start) control.controller (shown kind (lent_slot loan.shelf.now) mid) answer new.controller (shown kind (lent_slot loan.shelf.now) after))
     (slots : IsSameSlots mid after) (own_lists : IsOwnControl control_reads control_writes new) (access : control_access new ≡ control_access control) where
-  -- what a call of the controller keeps
+  -- what the call keeps of the table
   asked : KeepsLoan kind loan mid after
   asked = record { kinds = one.keeps_kinds; slots = slots; frame = λ id out. one.frame id (not-within (among start.writes.items id) (among loan.writes.now id) (writes_within id) out) }
 
+  -- what it keeps of the parts
   pub parts-asked : KeepsParts kind own loan control_reads control_writes start tiers before new mids after
   parts-asked = record {
     access = access ∙ kept.access;

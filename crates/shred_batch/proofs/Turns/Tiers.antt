@@ -26,7 +26,7 @@ use Rattle.shred_batch.specs.Loans.{HasLoanSlots, KeepsLoan}
 use Rattle.shred_batch.specs.Parts.{KeepsTiers}
 use Rattle.shred_batch.specs.TierTurns.{TookTierTurn}
 use Rattle.shred_batch.specs.Works.{IsTierWithin, tier_plan}
-use Rattle.shred_batch.specs.declared.rules.Loan.{Loan}
+use Rattle.shred_batch.specs.declared.loan.Loan.{Loan}
 use Rattle.shred_batch.specs.declared.work.Tier.{Tier}
 
 -- what groups with their hands write is what their plan writes
@@ -65,14 +65,16 @@ module _ {V : Type 0} (loan : Loan V) where
     only_own = still_only_slots loan.writes.now before after same has.only_own;
   }
 
+  -- nothing changes
   pub keeps-all : (kind : V → Kind) (own : Table V) → KeepsLoan kind loan own own
   keeps-all kind own = record { kinds = λ id. refl; slots = λ id. refl; frame = λ id out. refl }
 
+  -- one change, and then another
   pub keeps-more : (kind : V → Kind) (before mid after : Table V) → KeepsLoan kind loan mid after → KeepsLoan kind loan before mid → KeepsLoan kind loan before after
   keeps-more kind before mid after then first = record { kinds = λ id. then.kinds id ∙ first.kinds id; slots = λ id. then.slots id ∙ first.slots id; frame = λ id out. then.frame id out ∙ first.frame id out }
 
   module _ {X E : Type 0} (kind : V → Kind) (own : X → List ResourceId → List ResourceId → Type 0) (step : Step V X E) (start : List (Tier V X)) (before : Table V) where
-    -- where one more tier took its turn, the plan stays
+    -- where one more tier took its turn, all of that stays
     pub tiers-more : (tiers : List (Tier V X)) (mid : Table V) → KeepsTiers kind own loan start before tiers mid → (k : ℕ) (d : Tier V X) → k < length tiers
         → (answer : Answer (StageFault E)) (new : Tier V X) (after : Table V) → TookTierTurn kind own step (lent_slot loan.shelf.now) (get_or tiers k d).groups.items mid answer new.groups.items after
         → KeepsTiers kind own loan start before (set tiers k new) after

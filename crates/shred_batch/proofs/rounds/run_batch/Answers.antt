@@ -14,7 +14,7 @@ pub run_parts-requires : goal.run_parts-requires
 run_parts-requires g c = record {
   works = c.requires.works;
   has = c.requires.has;
-  parts = subst (ArePartsWithin g.V.ResourceValue.kind_of (g.T.Turner.may_keep c.args.by.now) c.args.loan.now g.C.ControllerOf.its_reads g.C.ControllerOf.its_writes c.args.batch.now.control) (sym c.as_mut_slice.ensures.value)
+  parts = subst (ArePartsWithin (g.T.Turner.may_keep c.args.by.now) c.args.loan.now g.C.ControllerOf.its_reads g.C.ControllerOf.its_writes c.args.batch.now.control) (sym c.as_mut_slice.ensures.value)
       (record { own_lists = c.requires.within.control; writes_within = c.requires.within.writes_within; within = c.requires.within.tiers });
 }
 

@@ -1,5 +1,5 @@
 //! One step of what stands in an entry: of a system, or of a batch, whose inner plan leads back here.
-ghost use Rattle.std.specs.Prelude.{◌-◌};
+ghost use Rattle.std.specs.Prelude.{◌-◌, List};
 ghost use Rattle.shred_batch.specs.Depths.{Declared, Owns, Related, WorkStep};
 ghost use Rattle.shred_batch.specs.BatchRuns.{RanAsBatch};
 ghost use Rattle.shred_batch.specs.Loans.{HasLoanSlots};
@@ -7,6 +7,7 @@ ghost use Rattle.shred_batch.specs.Steppers.{IsStepBy, IsStepper};
 ghost use Rattle.shred_batch.specs.Works.{IsBatchWithin};
 ghost use Rattle.shred_batch.specs.declared.work.Nested.{Nested};
 ghost use Rattle.shred_batch.specs.declared.work.Work.{Work};
+ghost use Rattle.shred_table.specs.declared.id.ResourceId.{ResourceId};
 ghost use Rattle.shred_world.specs.Views.{lent_slot};
 
 use crate::by_error::{ControllerOf, SystemOf};
@@ -18,26 +19,48 @@ use crate::work::{Batch, Nested, Work};
 use shred_group::Fault;
 use shred_world::{ResourceValue, Table};
 
-/// The steps of what nests to at most this depth, where 0 is that of systems alone; a closure makes them.
+/// Which two lists each system and each batch may be kept with, and the relation in which their steps lie.
+pub trait Rules<V, S, C, E> {
+    ghost use Rattle.shred_group.specs.Steps.{Step};
+
+    ghost may_keep: { Self → Work S (Nested V S C) → List ResourceId → List ResourceId → Type 0 };
+
+    ghost step: { Self → Step V (Work S (Nested V S C)) E };
+}
+
+/// The rules of what nests to at most this depth: 0 is that of systems alone.
 #[derive(Drop)]
-pub struct Nesting<'f, F> {
+pub struct Depth {
     pub depth: usize,
+}
+
+impl<V: ResourceValue, S: SystemOf<V, E>, C: ControllerOf<V, E>, E> Rules<V, S, C, E> for Depth {
+    ghost may_keep = { λ at. Owns (record { reads = S.its_reads; writes = S.its_writes; control_reads = C.its_reads; control_writes = C.its_writes }) at.depth };
+
+    ghost step = { λ at. WorkStep V.kind_of (record { steps = S.steps; begins = C.begins; asks = C.asks }) at.depth };
+}
+
+/// Steps that a closure makes, by these rules.
+#[derive(Drop)]
+pub struct ByRules<'f, D, F> {
+    pub rules: &'f D,
     pub run: &'f F,
 }
 
 impl<
     'f,
     V: ResourceValue,
-    S: SystemOf<V, E>,
-    C: ControllerOf<V, E>,
+    S,
+    C,
     E,
+    D: Rules<V, S, C, E>,
     F: Fn(&mut Work<S, Nested<V, S, C>>, &Loan<'_, V>, &mut Table<V>) -> Result<(), Fault<E>>,
-> Stepper<V, Work<S, Nested<V, S, C>>, E> for Nesting<'f, F> {
-    ghost may_keep = { λ at. Owns (record { reads = S.its_reads; writes = S.its_writes; control_reads = C.its_reads; control_writes = C.its_writes }) at.depth };
+> Stepper<V, Work<S, Nested<V, S, C>>, E> for ByRules<'f, D, F> {
+    ghost may_keep = { λ by. D.may_keep by.rules.now };
 
-    ghost step = { λ at. WorkStep V.kind_of (record { steps = S.steps; begins = C.begins; asks = C.asks }) at.depth };
+    ghost step = { λ by. D.step by.rules.now };
 
-    ghost works = { λ at. IsStepper V (Work S (Nested V S C)) E V.kind_of (Owns (record { reads = S.its_reads; writes = S.its_writes; control_reads = C.its_reads; control_writes = C.its_writes }) at.depth) (WorkStep V.kind_of (record { steps = S.steps; begins = C.begins; asks = C.asks }) at.depth) (F.pre at.run.now) (F.post at.run.now) };
+    ghost works = { λ by. IsStepper V (Work S (Nested V S C)) E V.kind_of (D.may_keep by.rules.now) (D.step by.rules.now) (F.pre by.run.now) (F.post by.run.now) };
 
     fn make(
         &self,
@@ -47,6 +70,29 @@ impl<
     ) -> Result<(), Fault<E>> {
         (self.run)(work, loan, own)
     }
+}
+
+// A run of a batch, where the closure makes the steps of its inner plan.
+fn batch_by<
+    V: ResourceValue + Drop,
+    S,
+    C: ControllerOf<V, E>,
+    E: Drop,
+    D: Rules<V, S, C, E>,
+    F: Fn(&mut Work<S, Nested<V, S, C>>, &Loan<'_, V>, &mut Table<V>) -> Result<(), Fault<E>>,
+>(
+    rules: &D,
+    run: &F,
+    loan: &Loan<V>,
+    batch: &mut Batch<V, C, Work<S, Nested<V, S, C>>>,
+    own: &mut Table<V>,
+) -> Result<(), Fault<E>>
+    requires stepper { IsStepper V (Work S (Nested V S C)) E V.kind_of (D.may_keep rules.now) (D.step rules.now) (F.pre run.now) (F.post run.now) }
+    requires has { HasLoanSlots loan.now own.old }
+    requires within { IsBatchWithin C.its_reads C.its_writes (D.may_keep rules.now) loan.now.reads.now loan.now.writes.now batch.old }
+    ensures { RanAsBatch V.kind_of (D.may_keep rules.now) (D.step rules.now) C.its_reads C.its_writes C.begins C.asks loan.now.reads.now loan.now.writes.now (lent_slot loan.now.shelf.now) batch.old own.old result batch.new own.new }
+{
+    batch_in_order(&ByRules { rules, run }, loan, batch, own)
 }
 
 // A run of a batch whose batches nest less deep.
@@ -68,15 +114,7 @@ fn batch_at<V: ResourceValue + Drop, S: SystemOf<V, E>, C: ControllerOf<V, E>, E
         requires { Owns (record { reads = S.its_reads; writes = S.its_writes; control_reads = C.its_reads; control_writes = C.its_writes }) less work.old loan.now.reads.now loan.now.writes.now × HasLoanSlots loan.now own.old }
         ensures { IsStepBy V.kind_of (Owns (record { reads = S.its_reads; writes = S.its_writes; control_reads = C.its_reads; control_writes = C.its_writes }) less) (WorkStep V.kind_of (record { steps = S.steps; begins = C.begins; asks = C.asks }) less) loan.now.reads.now loan.now.writes.now (lent_slot loan.now.shelf.now) work.old own.old result work.new own.new }
     { step_in_order(less, work, loan, own) };
-    batch_in_order(
-        &Nesting {
-            depth: less,
-            run: &step,
-        },
-        loan,
-        batch,
-        own,
-    )
+    batch_by(&Depth { depth: less }, &step, loan, batch, own)
 }
 
 /// One step of a system, or a run of a batch whose batches nest less deep than `depth`, over `own`, which has slots of written

@@ -10,19 +10,14 @@ use crate::beside::batch_beside;
 use crate::by_error::{ControllerOf, SystemOf};
 use crate::calls::{RunSystem, call_over};
 use crate::loan::Loan;
-use crate::run::step_in_order;
+use crate::run::{Depth, step_in_order};
 use crate::stepper::Stepper;
 use crate::work::{Batch, Nested, Work};
 use shred_group::Fault;
 use shred_world::{ResourceValue, Table};
 use std::thread::Threads;
 
-// The steps of what nests to at most this depth, each on its caller's thread.
-#[derive(Drop)]
-struct Depth {
-    depth: usize,
-}
-
+// Its steps, each on its caller's thread.
 impl<V: ResourceValue + Drop, S: SystemOf<V, E>, C: ControllerOf<V, E>, E: Drop> Stepper<
     V,
     Work<S, Nested<V, S, C>>,

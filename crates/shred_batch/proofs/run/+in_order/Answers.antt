@@ -9,8 +9,8 @@ use Rattle.shred_batch.specs.declared.work.Work.TheVariants.{System, Batch}
 use Rattle.shred_batch.proofs.Runs.WorkSteps.{deep, system-lists, batch-within, system-step, batch-step}
 use Rattle.shred_batch.proofs.run.+in_order.Goals as goal
 
-pub batch_at-batch_in_order-requires-clause-works : goal.batch_at-batch_in_order-requires-clause-works
-batch_at-batch_in_order-requires-clause-works g c = λ x. record { accepts = λ w p t own has. (omega arith, ((λ a m. m), ((λ a m. m), ((λ a m. m), ((λ a m. m), (own, has)))))); steps = λ w v p t u o own has post. post }
+pub batch_at-batch_by-requires-clause-stepper : goal.batch_at-batch_by-requires-clause-stepper
+batch_at-batch_by-requires-clause-stepper g c = λ x. record { accepts = λ w p t own has. (omega arith, ((λ a m. m), ((λ a m. m), ((λ a m. m), ((λ a m. m), (own, has)))))); steps = λ w v p t u o own has post. post }
 
 pub batch_at-step-step_in_order-requires : goal.batch_at-step-step_in_order-requires
 batch_at-step-step_in_order-requires g c = λ x κs within. (omega arith, (within.0, (within.1.0, (within.1.1.0, (within.1.1.1, (x.requires.0, x.requires.1))))))

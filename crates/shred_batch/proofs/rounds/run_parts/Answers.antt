@@ -1,4 +1,4 @@
-use Rattle.std.proofs.Common.{Ok, refl, sym, ◌∙◌, ap, subst}
+use Rattle.std.proofs.Common.{Ok, refl, sym, ◌∙◌, ap, subst, rules}
 use Rattle.shred_model.specs.Access.{Access}
 use Rattle.shred_table.specs.declared.id.ResourceId.{ResourceId}
 use Rattle.shred_table.specs.Shown.{shown}
@@ -12,20 +12,6 @@ use Rattle.shred_batch.proofs.Turns.Rounds.{parts-asked}
 use Rattle.shred_batch.proofs.Turns.Tiers.{has-still, keeps-all, keeps-more}
 use Rattle.shred_batch.proofs.rounds.run_parts.Goals as goal
 
-pub call-requires : goal.call-requires
-call-requires g c = record { own_lists = c.requires.parts.own_lists; writes_within = c.requires.parts.writes_within; has = c.requires.has }
-
-pub rounds-requires : goal.rounds-requires
-rounds-requires g c = record {
-  works = c.requires.works;
-  has = has-still c.args.loan.now c.args.own.now c.call.new.own c.call.ensures.slots c.requires.has;
-  parts = record {
-    own_lists = c.call.ensures.own_lists;
-    writes_within = λ id some. c.requires.parts.writes_within id (ap (λ access. among access.writes id) (sym c.call.ensures.access) ∙ some);
-    within = c.requires.parts.within;
-  };
-}
-
 pub returns-in-Ok-clause-ran : goal.returns-in-Ok-clause-ran
 returns-in-Ok-clause-ran g c =
     let seen = shown g.V.ResourceValue.kind_of (lent_slot c.args.loan.now.shelf.now) in
@@ -36,6 +22,19 @@ returns-in-Ok-clause-ran g c =
       subst (λ bound. IsControlOver g.V.ResourceValue.kind_of g.C.ControllerOf.begins (control_access c.args.control.now) c.args.control.now.controller (seen c.args.own.now) bound c.call.new.self.controller (seen c.call.new.own)) c.in-Ok.is c.call.ensures.ran,
       subst (λ (access : Access ResourceId). Rounds g.V.ResourceValue.kind_of g.C.ControllerOf.asks access Inner c.in-Ok.most c.call.new.self.controller c.args.tiers.now (seen c.call.new.own) c.rounds.result c.rounds.new.control.controller c.rounds.new.tiers (seen c.rounds.new.own)) c.call.ensures.access c.rounds.ensures.ran,
     )
+
+pub call-requires-clause-has : goal.call-requires-clause-has
+call-requires-clause-has g c = search (rules, has-still)
+
+pub rounds-requires-clause-has : goal.rounds-requires-clause-has
+rounds-requires-clause-has g c = search (rules, has-still)
+
+pub rounds-requires-clause-parts : goal.rounds-requires-clause-parts
+rounds-requires-clause-parts g c = record {
+  own_lists = c.call.ensures.own_lists;
+  writes_within = λ id some. c.requires.parts.writes_within id (ap (λ access. among access.writes id) (sym c.call.ensures.access) ∙ some);
+  within = search rules;
+}
 
 pub returns-in-Ok-clause-kept : goal.returns-in-Ok-clause-kept
 returns-in-Ok-clause-kept g c =

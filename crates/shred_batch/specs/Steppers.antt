@@ -2,15 +2,15 @@
 use Rattle.std.specs.Prelude.{◌≡◌, false, List}
 use Rattle.std.specs.Borrow.{Bor, MutBor}
 use Rattle.std.specs.Option.{option_map}
-use Rattle.shred_group.specs.OwnSlots.{HasOnlySlots}
 use Rattle.shred_group.specs.Steps.{Outcome, Step, declared_of}
 use Rattle.shred_table.specs.declared.id.Kind.{Kind}
 use Rattle.shred_table.specs.declared.id.ResourceId.{ResourceId}
 use Rattle.shred_table.specs.declared.table.Table.{Table}
-use Rattle.shred_table.specs.Shown.{Lent, shown, HasOwnSlots, IsSameSlots}
+use Rattle.shred_table.specs.Shown.{Lent, shown, IsSameSlots}
 use Rattle.shred_table.specs.Slots.{among}
 use Rattle.shred_world.specs.Views.{lent_slot}
-use Rattle.shred_batch.specs.declared.rules.Loan.{Loan}
+use Rattle.shred_batch.specs.Loans.{HasLoanSlots}
+use Rattle.shred_batch.specs.declared.loan.Loan.{Loan}
 
 -- The step lies in the relation on what the two lists show; it keeps kinds, slots, the lists, and each value that is not written.
 pub record IsStepBy {V X E : Type 0} (kind : V → Kind) (own : X → List ResourceId → List ResourceId → Type 0) (step : Step V X E) (reads writes : List ResourceId) (lent : Lent V)
@@ -24,6 +24,6 @@ pub record IsStepBy {V X E : Type 0} (kind : V → Kind) (own : X → List Resou
 module _ (V X E : Type 0) (kind : V → Kind) (own : X → List ResourceId → List ResourceId → Type 0) (step : Step V X E) where
   -- The closure may be called over a table that has slots of written ids alone, and one for each for which one is lent, and each call is a step.
   pub record IsStepper (pre : MutBor X → Bor (Loan V) → MutBor (Table V) → Type 0) (post : MutBor X → Bor (Loan V) → MutBor (Table V) → Outcome E → MutBor X → MutBor (Table V) → Type 0) : Type 0 where
-    pub accepts : (x : MutBor X) (p : Bor (Loan V)) (t : MutBor (Table V)) → own x.now p.now.reads.now p.now.writes.now → HasOwnSlots p.now.writes.now (lent_slot p.now.shelf.now) t.now → HasOnlySlots p.now.writes.now t.now → pre x p t
-    pub steps : (x y : MutBor X) (p : Bor (Loan V)) (t u : MutBor (Table V)) (o : Outcome E) → own x.now p.now.reads.now p.now.writes.now → HasOwnSlots p.now.writes.now (lent_slot p.now.shelf.now) t.now → HasOnlySlots p.now.writes.now t.now
+    pub accepts : (x : MutBor X) (p : Bor (Loan V)) (t : MutBor (Table V)) → own x.now p.now.reads.now p.now.writes.now → HasLoanSlots p.now t.now → pre x p t
+    pub steps : (x y : MutBor X) (p : Bor (Loan V)) (t u : MutBor (Table V)) (o : Outcome E) → own x.now p.now.reads.now p.now.writes.now → HasLoanSlots p.now t.now
         → post x p t o y u → IsStepBy kind own step p.now.reads.now p.now.writes.now (lent_slot p.now.shelf.now) x.now t.now o y.now u.now

@@ -1,29 +1,26 @@
-//! Runs of a batch: its controller begins, and then the rounds follow, on the caller's thread.
-ghost use Rattle.std.specs.Prelude.{◌≡◌, ◌||◌, All, false, true};
-ghost use Rattle.std.specs.Option.{option_map};
-ghost use Rattle.shred_batch.specs.KeptControllers.{control_access, IsOwnControl};
-ghost use Rattle.shred_batch.specs.Rounds.{BatchRun, Rounds, fault_within};
+//! Runs of a batch: its controller begins, and then the rounds follow.
+ghost use Rattle.std.specs.Prelude.{◌≡◌};
 ghost use Rattle.shred_batch.specs.BatchRuns.{RanAsBatch};
-ghost use Rattle.shred_batch.specs.Steppers.{IsStepper};
-ghost use Rattle.shred_batch.specs.Works.{InnerRun, IsBatchWithin, IsTierWithin, tiers_plan};
-ghost use Rattle.shred_batch.specs.declared.work.Nested.{Nested};
-ghost use Rattle.shred_batch.specs.declared.work.Work.{Work};
-ghost use Rattle.shred_group.specs.OwnSlots.{HasOnlySlots};
-ghost use Rattle.shred_table.specs.declared.id.ResourceId.{ResourceId};
-ghost use Rattle.shred_table.specs.Shown.{shown, HasOwnSlots, IsSameSlots};
-ghost use Rattle.shred_table.specs.Slots.{among};
+ghost use Rattle.shred_batch.specs.KeptControllers.{control_access};
+ghost use Rattle.shred_batch.specs.Loans.{HasLoanSlots};
+ghost use Rattle.shred_batch.specs.Parts.{ArePartsWithin, KeepsParts};
+ghost use Rattle.shred_batch.specs.Rounds.{BatchRun, Rounds, fault_within};
+ghost use Rattle.shred_batch.specs.Works.{InnerRun, IsBatchWithin};
+ghost use Rattle.shred_table.specs.Shown.{shown};
 ghost use Rattle.shred_world.specs.Views.{lent_slot};
 
 use crate::by_error::ControllerOf;
+use crate::calls::{Ask, Begin};
 use crate::control::KeptController;
-use crate::rules::{Loan, Rules};
-use crate::tiers::tiers_in_order;
-use crate::work::{Batch, Nested, Tier, Work};
+use crate::loan::Loan;
+use crate::stepper::{Stepper, Turner};
+use crate::tiers::{InOrder, run_tiers};
+use crate::work::{Batch, Tier};
 use shred_group::{Fault, StageFault};
-use shred_world::{ResourceId, ResourceValue, Shelf, Table};
+use shred_world::{ResourceValue, Table};
 
 // A fault of the inner plan, as the batch's own.
-pub(crate) fn within<E>(fault: StageFault<E>) -> Fault<E>
+fn within<E>(fault: StageFault<E>) -> Fault<E>
     ensures { result ≡ fault_within fault }
 {
     match fault {
@@ -33,43 +30,24 @@ pub(crate) fn within<E>(fault: StageFault<E>) -> Fault<E>
 }
 
 // At most that many rounds.
-fn rounds_in_order<
-    V: ResourceValue + Drop,
-    S,
-    C: ControllerOf<V, E>,
-    E: Drop,
-    T: Rules<V, Work<S, Nested<V, S, C>>, E>,
-    F: Fn(&mut Work<S, Nested<V, S, C>>, &Loan<'_, V>, &mut Table<V>) -> Result<(), Fault<E>>,
->(
-    rules: &T,
-    run: &F,
-    reads: &[ResourceId],
-    writes: &[ResourceId],
-    shelf: &[Shelf<V>; 1],
+fn rounds<V: ResourceValue + Drop, X, C: ControllerOf<V, E>, E: Drop, T: Turner<V, X, E>>(
+    by: &T,
+    loan: &Loan<V>,
     control: &mut KeptController<V, C>,
-    tiers: &mut [Tier<V, Work<S, Nested<V, S, C>>>],
+    tiers: &mut [Tier<V, X>],
     own: &mut Table<V>,
     most: usize,
 ) -> Result<(), Fault<E>>
-    requires stepper { IsStepper V (Work S (Nested V S C)) E V.kind_of (T.may_keep rules.now) (T.step rules.now) (F.pre run.now) (F.post run.now) }
-    requires own_slots { HasOwnSlots writes.now (lent_slot shelf.now) own.old }
-    requires only_own { HasOnlySlots writes.now own.old }
-    requires control { IsOwnControl C.its_reads C.its_writes control.old }
-    requires writes_within { (id : ResourceId) → among control.old.writes.items id ≡ true → among writes.now id ≡ true }
-    requires within { All (IsTierWithin (T.may_keep rules.now) reads.now writes.now) tiers.old }
-    ensures ran { Rounds V.kind_of C.asks (control_access control.old) (InnerRun V.kind_of (T.step rules.now)) most control.old.controller tiers.old (shown V.kind_of (lent_slot shelf.now) own.old) result control.new.controller tiers.new (shown V.kind_of (lent_slot shelf.now) own.new) }
-    ensures plan { tiers_plan tiers.new ≡ tiers_plan tiers.old }
-    ensures access { control_access control.new ≡ control_access control.old }
-    ensures control { IsOwnControl C.its_reads C.its_writes control.new }
-    ensures within { All (IsTierWithin (T.may_keep rules.now) reads.now writes.now) tiers.new }
-    ensures kinds { (id : ResourceId) → option_map V.kind_of (shown V.kind_of (lent_slot shelf.now) own.new id) ≡ option_map V.kind_of (shown V.kind_of (lent_slot shelf.now) own.old id) }
-    ensures slots { IsSameSlots own.old own.new }
-    ensures frame { (id : ResourceId) → among writes.now id ≡ false → shown V.kind_of (lent_slot shelf.now) own.new id ≡ shown V.kind_of (lent_slot shelf.now) own.old id }
+    requires works { T.works by.now }
+    requires has { HasLoanSlots loan.now own.old }
+    requires parts { ArePartsWithin (T.may_keep by.now) loan.now C.its_reads C.its_writes control.old tiers.old }
+    ensures ran { Rounds V.kind_of C.asks (control_access control.old) (InnerRun V.kind_of (T.step by.now)) most control.old.controller tiers.old (shown V.kind_of (lent_slot loan.now.shelf.now) own.old) result control.new.controller tiers.new (shown V.kind_of (lent_slot loan.now.shelf.now) own.new) }
+    ensures kept { KeepsParts V.kind_of (T.may_keep by.now) loan.now C.its_reads C.its_writes control.old tiers.old own.old control.new tiers.new own.new }
 {
     for round in 0..most {
-        match control.ask(writes, shelf, own) {
+        match control.call(&Ask, loan, own) {
             Ok(true) => {
-                if let Err(fault) = tiers_in_order(rules, run, reads, writes, shelf, tiers, own) {
+                if let Err(fault) = run_tiers(by, loan, tiers, own) {
                     return Err(within(fault));
                 }
             }
@@ -80,79 +58,62 @@ fn rounds_in_order<
     Ok(())
 }
 
-// A run of a batch.
-fn run_in_order<
-    V: ResourceValue + Drop,
-    S,
-    C: ControllerOf<V, E>,
-    E: Drop,
-    T: Rules<V, Work<S, Nested<V, S, C>>, E>,
-    F: Fn(&mut Work<S, Nested<V, S, C>>, &Loan<'_, V>, &mut Table<V>) -> Result<(), Fault<E>>,
->(
-    rules: &T,
-    run: &F,
-    reads: &[ResourceId],
-    writes: &[ResourceId],
-    shelf: &[Shelf<V>; 1],
+// A run of a batch, of its two parts.
+fn run_parts<V: ResourceValue + Drop, X, C: ControllerOf<V, E>, E: Drop, T: Turner<V, X, E>>(
+    by: &T,
+    loan: &Loan<V>,
     control: &mut KeptController<V, C>,
-    tiers: &mut [Tier<V, Work<S, Nested<V, S, C>>>],
+    tiers: &mut [Tier<V, X>],
     own: &mut Table<V>,
 ) -> Result<(), Fault<E>>
-    requires stepper { IsStepper V (Work S (Nested V S C)) E V.kind_of (T.may_keep rules.now) (T.step rules.now) (F.pre run.now) (F.post run.now) }
-    requires own_slots { HasOwnSlots writes.now (lent_slot shelf.now) own.old }
-    requires only_own { HasOnlySlots writes.now own.old }
-    requires control { IsOwnControl C.its_reads C.its_writes control.old }
-    requires writes_within { (id : ResourceId) → among control.old.writes.items id ≡ true → among writes.now id ≡ true }
-    requires within { All (IsTierWithin (T.may_keep rules.now) reads.now writes.now) tiers.old }
-    ensures ran { BatchRun V.kind_of C.asks (control_access control.old) (InnerRun V.kind_of (T.step rules.now)) C.begins control.old.controller tiers.old (shown V.kind_of (lent_slot shelf.now) own.old) result control.new.controller tiers.new (shown V.kind_of (lent_slot shelf.now) own.new) }
-    ensures plan { tiers_plan tiers.new ≡ tiers_plan tiers.old }
-    ensures access { control_access control.new ≡ control_access control.old }
-    ensures control { IsOwnControl C.its_reads C.its_writes control.new }
-    ensures within { All (IsTierWithin (T.may_keep rules.now) reads.now writes.now) tiers.new }
-    ensures kinds { (id : ResourceId) → option_map V.kind_of (shown V.kind_of (lent_slot shelf.now) own.new id) ≡ option_map V.kind_of (shown V.kind_of (lent_slot shelf.now) own.old id) }
-    ensures slots { IsSameSlots own.old own.new }
-    ensures frame { (id : ResourceId) → among writes.now id ≡ false → shown V.kind_of (lent_slot shelf.now) own.new id ≡ shown V.kind_of (lent_slot shelf.now) own.old id }
+    requires works { T.works by.now }
+    requires has { HasLoanSlots loan.now own.old }
+    requires parts { ArePartsWithin (T.may_keep by.now) loan.now C.its_reads C.its_writes control.old tiers.old }
+    ensures ran { BatchRun V.kind_of C.asks (control_access control.old) (InnerRun V.kind_of (T.step by.now)) C.begins control.old.controller tiers.old (shown V.kind_of (lent_slot loan.now.shelf.now) own.old) result control.new.controller tiers.new (shown V.kind_of (lent_slot loan.now.shelf.now) own.new) }
+    ensures kept { KeepsParts V.kind_of (T.may_keep by.now) loan.now C.its_reads C.its_writes control.old tiers.old own.old control.new tiers.new own.new }
 {
-    match control.begin(writes, shelf, own) {
-        Ok(most) => rounds_in_order(rules, run, reads, writes, shelf, control, tiers, own, most),
+    match control.call(&Begin, loan, own) {
+        Ok(most) => rounds(by, loan, control, tiers, own, most),
         Err(fault) => Err(fault),
     }
 }
 
-/// A run of a batch over `own`, which has slots of ids of `writes` alone, and one for each for which one is lent; what is only
-/// read is lent shared behind it by `shelf`. `reads` and `writes` are the lists of the batch's entry. The groups of its tiers
-/// run one after the other on the caller's thread. `run` makes one step of what stands in an entry of the inner plan, and
-/// `rules` says what such a step is.
-pub fn batch_in_order<
+// A run of a batch.
+pub(crate) fn run_batch<
     V: ResourceValue + Drop,
-    S,
+    X,
     C: ControllerOf<V, E>,
     E: Drop,
-    T: Rules<V, Work<S, Nested<V, S, C>>, E>,
-    F: Fn(&mut Work<S, Nested<V, S, C>>, &Loan<'_, V>, &mut Table<V>) -> Result<(), Fault<E>>,
->(
-    rules: &T,
-    run: &F,
-    reads: &[ResourceId],
-    writes: &[ResourceId],
-    shelf: &[Shelf<V>; 1],
-    batch: &mut Batch<V, C, Work<S, Nested<V, S, C>>>,
-    own: &mut Table<V>,
-) -> Result<(), Fault<E>>
-    requires stepper { IsStepper V (Work S (Nested V S C)) E V.kind_of (T.may_keep rules.now) (T.step rules.now) (F.pre run.now) (F.post run.now) }
-    requires own_slots { HasOwnSlots writes.now (lent_slot shelf.now) own.old }
-    requires only_own { HasOnlySlots writes.now own.old }
-    requires within { IsBatchWithin C.its_reads C.its_writes (T.may_keep rules.now) reads.now writes.now batch.old }
-    ensures { RanAsBatch V.kind_of (T.may_keep rules.now) (T.step rules.now) C.its_reads C.its_writes C.begins C.asks reads.now writes.now (lent_slot shelf.now) batch.old own.old result batch.new own.new }
+    T: Turner<V, X, E>,
+>(by: &T, loan: &Loan<V>, batch: &mut Batch<V, C, X>, own: &mut Table<V>) -> Result<(), Fault<E>>
+    requires works { T.works by.now }
+    requires has { HasLoanSlots loan.now own.old }
+    requires within { IsBatchWithin C.its_reads C.its_writes (T.may_keep by.now) loan.now.reads.now loan.now.writes.now batch.old }
+    ensures { RanAsBatch V.kind_of (T.may_keep by.now) (T.step by.now) C.its_reads C.its_writes C.begins C.asks loan.now.reads.now loan.now.writes.now (lent_slot loan.now.shelf.now) batch.old own.old result batch.new own.new }
 {
-    run_in_order(
-        rules,
-        run,
-        reads,
-        writes,
-        shelf,
+    run_parts(
+        by,
+        loan,
         &mut batch.control,
         batch.tiers.as_mut_slice(),
         own,
     )
+}
+
+/// A run of a batch over `own`, which has slots of written ids alone, and one for each for which one is lent; what is only
+/// read is lent shared behind it. The loan has the lists of the batch's entry. The groups of its tiers run one after the other
+/// on the caller's thread. `by` makes the steps of what stands in the entries of its inner plan.
+pub fn batch_in_order<
+    V: ResourceValue + Drop,
+    X,
+    C: ControllerOf<V, E>,
+    E: Drop,
+    T: Stepper<V, X, E>,
+>(by: &T, loan: &Loan<V>, batch: &mut Batch<V, C, X>, own: &mut Table<V>) -> Result<(), Fault<E>>
+    requires works { T.works by.now }
+    requires has { HasLoanSlots loan.now own.old }
+    requires within { IsBatchWithin C.its_reads C.its_writes (T.may_keep by.now) loan.now.reads.now loan.now.writes.now batch.old }
+    ensures { RanAsBatch V.kind_of (T.may_keep by.now) (T.step by.now) C.its_reads C.its_writes C.begins C.asks loan.now.reads.now loan.now.writes.now (lent_slot loan.now.shelf.now) batch.old own.old result batch.new own.new }
+{
+    run_batch(&InOrder { by }, loan, batch, own)
 }

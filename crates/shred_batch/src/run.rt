@@ -1,26 +1,32 @@
 //! One step of what stands in an entry: of a system, or of a batch, whose inner plan leads back here.
-ghost use Rattle.std.specs.Prelude.{◌≡◌, ◌-◌, ◌≤◌, false};
-ghost use Rattle.std.specs.Option.{option_map};
+ghost use Rattle.std.specs.Prelude.{◌-◌, List};
 ghost use Rattle.shred_batch.specs.Depths.{Declared, Owns, Related, WorkStep};
 ghost use Rattle.shred_batch.specs.BatchRuns.{RanAsBatch};
+ghost use Rattle.shred_batch.specs.Loans.{HasLoanSlots};
 ghost use Rattle.shred_batch.specs.Steppers.{IsStepBy, IsStepper};
 ghost use Rattle.shred_batch.specs.Works.{IsBatchWithin};
 ghost use Rattle.shred_batch.specs.declared.work.Nested.{Nested};
 ghost use Rattle.shred_batch.specs.declared.work.Work.{Work};
-ghost use Rattle.shred_group.specs.OwnLists.{declared_lists};
-ghost use Rattle.shred_group.specs.OwnSlots.{HasOnlySlots};
-ghost use Rattle.shred_group.specs.Steps.{declared_of};
 ghost use Rattle.shred_table.specs.declared.id.ResourceId.{ResourceId};
-ghost use Rattle.shred_table.specs.Shown.{shown, HasOwnSlots, IsSameSlots};
-ghost use Rattle.shred_table.specs.Slots.{among};
 ghost use Rattle.shred_world.specs.Views.{lent_slot};
 
 use crate::by_error::{ControllerOf, SystemOf};
+use crate::calls::{RunSystem, call_over};
+use crate::loan::Loan;
 use crate::rounds::batch_in_order;
-use crate::rules::{Loan, Rules};
+use crate::stepper::Stepper;
 use crate::work::{Batch, Nested, Work};
 use shred_group::Fault;
-use shred_world::{ResourceValue, Table, View};
+use shred_world::{ResourceValue, Table};
+
+/// Which two lists each system and each batch may be kept with, and the relation in which their steps lie.
+pub trait Rules<V, S, C, E> {
+    ghost use Rattle.shred_group.specs.Steps.{Step};
+
+    ghost may_keep: { Self → Work S (Nested V S C) → List ResourceId → List ResourceId → Type 0 };
+
+    ghost step: { Self → Step V (Work S (Nested V S C)) E };
+}
 
 /// The rules of what nests to at most this depth: 0 is that of systems alone.
 #[derive(Drop)]
@@ -28,96 +34,87 @@ pub struct Depth {
     pub depth: usize,
 }
 
-impl<V: ResourceValue, S: SystemOf<V, E>, C: ControllerOf<V, E>, E> Rules<
-    V,
-    Work<S, Nested<V, S, C>>,
-    E,
-> for Depth {
+impl<V: ResourceValue, S: SystemOf<V, E>, C: ControllerOf<V, E>, E> Rules<V, S, C, E> for Depth {
     ghost may_keep = { λ at. Owns (record { reads = S.its_reads; writes = S.its_writes; control_reads = C.its_reads; control_writes = C.its_writes }) at.depth };
 
     ghost step = { λ at. WorkStep V.kind_of (record { steps = S.steps; begins = C.begins; asks = C.asks }) at.depth };
 }
 
-// One step of a system.
-pub(crate) fn step_system<V: ResourceValue, S: SystemOf<V, E>, E>(
-    system: &mut S,
-    loan: &Loan<V>,
-    own: &mut Table<V>,
-) -> Result<(), Fault<E>>
-    requires own_lists { declared_lists S.its_reads S.its_writes system.old loan.now.reads.now loan.now.writes.now }
-    requires own_slots { HasOwnSlots loan.now.writes.now (lent_slot loan.now.shelf.now) own.old }
-    requires only_own { HasOnlySlots loan.now.writes.now own.old }
-    ensures lies { S.steps system.old (declared_of (record { reads = loan.now.reads.now; writes = loan.now.writes.now }) (shown V.kind_of (lent_slot loan.now.shelf.now) own.old)) result system.new (declared_of (record { reads = loan.now.reads.now; writes = loan.now.writes.now }) (shown V.kind_of (lent_slot loan.now.shelf.now) own.new)) }
-    ensures kinds { (id : ResourceId) → option_map V.kind_of (shown V.kind_of (lent_slot loan.now.shelf.now) own.new id) ≡ option_map V.kind_of (shown V.kind_of (lent_slot loan.now.shelf.now) own.old id) }
-    ensures slots { IsSameSlots own.old own.new }
-    ensures frame { (id : ResourceId) → among loan.now.writes.now id ≡ false → shown V.kind_of (lent_slot loan.now.shelf.now) own.new id ≡ shown V.kind_of (lent_slot loan.now.shelf.now) own.old id }
-    ensures own_lists { declared_lists S.its_reads S.its_writes system.new loan.now.reads.now loan.now.writes.now }
-{
-    let reads = loan.reads;
-    let writes = loan.writes;
-    let shelf = loan.shelf;
-    let mut view = View::over(reads, writes, shelf, own);
-    system.step(&mut view)
+/// Steps that a closure makes, by these rules.
+#[derive(Drop)]
+pub struct ByRules<'f, D, F> {
+    pub rules: &'f D,
+    pub run: &'f F,
 }
 
-// A run of a batch whose batches nest less deep, where the closure makes the steps of its inner plan.
-fn batch_at<
+impl<
+    'f,
+    V: ResourceValue,
+    S,
+    C,
+    E,
+    D: Rules<V, S, C, E>,
+    F: Fn(&mut Work<S, Nested<V, S, C>>, &Loan<'_, V>, &mut Table<V>) -> Result<(), Fault<E>>,
+> Stepper<V, Work<S, Nested<V, S, C>>, E> for ByRules<'f, D, F> {
+    ghost may_keep = { λ by. D.may_keep by.rules.now };
+
+    ghost step = { λ by. D.step by.rules.now };
+
+    ghost works = { λ by. IsStepper V (Work S (Nested V S C)) E V.kind_of (D.may_keep by.rules.now) (D.step by.rules.now) (F.pre by.run.now) (F.post by.run.now) };
+
+    fn make(
+        &self,
+        work: &mut Work<S, Nested<V, S, C>>,
+        loan: &Loan<V>,
+        own: &mut Table<V>,
+    ) -> Result<(), Fault<E>> {
+        (self.run)(work, loan, own)
+    }
+}
+
+// A run of a batch, where the closure makes the steps of its inner plan.
+fn batch_by<
     V: ResourceValue + Drop,
-    S: SystemOf<V, E>,
+    S,
     C: ControllerOf<V, E>,
     E: Drop,
+    D: Rules<V, S, C, E>,
     F: Fn(&mut Work<S, Nested<V, S, C>>, &Loan<'_, V>, &mut Table<V>) -> Result<(), Fault<E>>,
 >(
-    less: usize,
+    rules: &D,
     run: &F,
     loan: &Loan<V>,
     batch: &mut Batch<V, C, Work<S, Nested<V, S, C>>>,
     own: &mut Table<V>,
 ) -> Result<(), Fault<E>>
-    requires stepper { IsStepper V (Work S (Nested V S C)) E V.kind_of (Owns (record { reads = S.its_reads; writes = S.its_writes; control_reads = C.its_reads; control_writes = C.its_writes }) less) (WorkStep V.kind_of (record { steps = S.steps; begins = C.begins; asks = C.asks }) less) (F.pre run.now) (F.post run.now) }
-    requires own_slots { HasOwnSlots loan.now.writes.now (lent_slot loan.now.shelf.now) own.old }
-    requires only_own { HasOnlySlots loan.now.writes.now own.old }
+    requires stepper { IsStepper V (Work S (Nested V S C)) E V.kind_of (D.may_keep rules.now) (D.step rules.now) (F.pre run.now) (F.post run.now) }
+    requires has { HasLoanSlots loan.now own.old }
+    requires within { IsBatchWithin C.its_reads C.its_writes (D.may_keep rules.now) loan.now.reads.now loan.now.writes.now batch.old }
+    ensures { RanAsBatch V.kind_of (D.may_keep rules.now) (D.step rules.now) C.its_reads C.its_writes C.begins C.asks loan.now.reads.now loan.now.writes.now (lent_slot loan.now.shelf.now) batch.old own.old result batch.new own.new }
+{
+    batch_in_order(&ByRules { rules, run }, loan, batch, own)
+}
+
+// A run of a batch whose batches nest less deep.
+#[cycle(in_order)]
+fn batch_at<V: ResourceValue + Drop, S: SystemOf<V, E>, C: ControllerOf<V, E>, E: Drop>(
+    less: usize,
+    loan: &Loan<V>,
+    batch: &mut Batch<V, C, Work<S, Nested<V, S, C>>>,
+    own: &mut Table<V>,
+) -> Result<(), Fault<E>>
+    requires has { HasLoanSlots loan.now own.old }
     requires within { IsBatchWithin C.its_reads C.its_writes (Owns (record { reads = S.its_reads; writes = S.its_writes; control_reads = C.its_reads; control_writes = C.its_writes }) less) loan.now.reads.now loan.now.writes.now batch.old }
     ensures { RanAsBatch V.kind_of (Owns (record { reads = S.its_reads; writes = S.its_writes; control_reads = C.its_reads; control_writes = C.its_writes }) less) (WorkStep V.kind_of (record { steps = S.steps; begins = C.begins; asks = C.asks }) less) C.its_reads C.its_writes C.begins C.asks loan.now.reads.now loan.now.writes.now (lent_slot loan.now.shelf.now) batch.old own.old result batch.new own.new }
 {
-    let reads = loan.reads;
-    let writes = loan.writes;
-    let shelf = loan.shelf;
-    batch_in_order(
-        &Depth { depth: less },
-        run,
-        reads,
-        writes,
-        shelf,
-        batch,
-        own,
-    )
-}
-
-// One step of a system or a batch, where the closure makes the steps of a batch's inner plan.
-fn step_work<
-    V: ResourceValue + Drop,
-    S: SystemOf<V, E>,
-    C: ControllerOf<V, E>,
-    E: Drop,
-    F: Fn(&mut Work<S, Nested<V, S, C>>, &Loan<'_, V>, &mut Table<V>) -> Result<(), Fault<E>>,
->(
-    depth: usize,
-    run: &F,
-    work: &mut Work<S, Nested<V, S, C>>,
-    loan: &Loan<V>,
-    own: &mut Table<V>,
-) -> Result<(), Fault<E>>
-    requires stepper { 1 ≤ depth → IsStepper V (Work S (Nested V S C)) E V.kind_of (Owns (record { reads = S.its_reads; writes = S.its_writes; control_reads = C.its_reads; control_writes = C.its_writes }) (depth - 1)) (WorkStep V.kind_of (record { steps = S.steps; begins = C.begins; asks = C.asks }) (depth - 1)) (F.pre run.now) (F.post run.now) }
-    requires own_lists { Owns (record { reads = S.its_reads; writes = S.its_writes; control_reads = C.its_reads; control_writes = C.its_writes }) depth work.old loan.now.reads.now loan.now.writes.now }
-    requires own_slots { HasOwnSlots loan.now.writes.now (lent_slot loan.now.shelf.now) own.old }
-    requires only_own { HasOnlySlots loan.now.writes.now own.old }
-    ensures { IsStepBy V.kind_of (Owns (record { reads = S.its_reads; writes = S.its_writes; control_reads = C.its_reads; control_writes = C.its_writes }) depth) (WorkStep V.kind_of (record { steps = S.steps; begins = C.begins; asks = C.asks }) depth) loan.now.reads.now loan.now.writes.now (lent_slot loan.now.shelf.now) work.old own.old result work.new own.new }
-{
-    match work {
-        Work::System(system) => step_system(system, loan, own),
-        Work::Batch(nested) => batch_at(depth - 1, run, loan, &mut nested.batch, own),
-    }
+    let step = |work: &mut Work<S, Nested<V, S, C>>, loan: &Loan<V>, own: &mut Table<V>| -> Result<
+        (),
+        Fault<E>,
+    >
+        requires { Owns (record { reads = S.its_reads; writes = S.its_writes; control_reads = C.its_reads; control_writes = C.its_writes }) less work.old loan.now.reads.now loan.now.writes.now × HasLoanSlots loan.now own.old }
+        ensures { IsStepBy V.kind_of (Owns (record { reads = S.its_reads; writes = S.its_writes; control_reads = C.its_reads; control_writes = C.its_writes }) less) (WorkStep V.kind_of (record { steps = S.steps; begins = C.begins; asks = C.asks }) less) loan.now.reads.now loan.now.writes.now (lent_slot loan.now.shelf.now) work.old own.old result work.new own.new }
+    { step_in_order(less, work, loan, own) };
+    batch_by(&Depth { depth: less }, &step, loan, batch, own)
 }
 
 /// One step of a system, or a run of a batch whose batches nest less deep than `depth`, over `own`, which has slots of written
@@ -131,16 +128,11 @@ pub fn step_in_order<V: ResourceValue + Drop, S: SystemOf<V, E>, C: ControllerOf
     own: &mut Table<V>,
 ) -> Result<(), Fault<E>>
     requires own_lists { Owns (record { reads = S.its_reads; writes = S.its_writes; control_reads = C.its_reads; control_writes = C.its_writes }) depth work.old loan.now.reads.now loan.now.writes.now }
-    requires own_slots { HasOwnSlots loan.now.writes.now (lent_slot loan.now.shelf.now) own.old }
-    requires only_own { HasOnlySlots loan.now.writes.now own.old }
+    requires has { HasLoanSlots loan.now own.old }
     ensures { IsStepBy V.kind_of (Owns (record { reads = S.its_reads; writes = S.its_writes; control_reads = C.its_reads; control_writes = C.its_writes }) depth) (WorkStep V.kind_of (record { steps = S.steps; begins = C.begins; asks = C.asks }) depth) loan.now.reads.now loan.now.writes.now (lent_slot loan.now.shelf.now) work.old own.old result work.new own.new }
 {
-    let step = |work: &mut Work<S, Nested<V, S, C>>, loan: &Loan<V>, own: &mut Table<V>| -> Result<
-        (),
-        Fault<E>,
-    >
-        requires { 1 ≤ depth × Owns (record { reads = S.its_reads; writes = S.its_writes; control_reads = C.its_reads; control_writes = C.its_writes }) (depth - 1) work.old loan.now.reads.now loan.now.writes.now × HasOwnSlots loan.now.writes.now (lent_slot loan.now.shelf.now) own.old × HasOnlySlots loan.now.writes.now own.old }
-        ensures { IsStepBy V.kind_of (Owns (record { reads = S.its_reads; writes = S.its_writes; control_reads = C.its_reads; control_writes = C.its_writes }) (depth - 1)) (WorkStep V.kind_of (record { steps = S.steps; begins = C.begins; asks = C.asks }) (depth - 1)) loan.now.reads.now loan.now.writes.now (lent_slot loan.now.shelf.now) work.old own.old result work.new own.new }
-    { step_in_order(depth - 1, work, loan, own) };
-    step_work(depth, &step, work, loan, own)
+    match work {
+        Work::System(system) => call_over(&RunSystem, loan, system, own),
+        Work::Batch(nested) => batch_at(depth - 1, loan, &mut nested.batch, own),
+    }
 }

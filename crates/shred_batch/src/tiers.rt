@@ -1,159 +1,114 @@
 //! The tiers of an inner plan, one after the other; the groups of each on the caller's thread alone, or beside each other.
-ghost use Rattle.std.specs.Prelude.{◌≡◌, All, false};
-ghost use Rattle.std.specs.Option.{option_map};
-ghost use Rattle.shred_batch.specs.Steppers.{IsStepper};
+ghost use Rattle.std.specs.Prelude.{All};
+ghost use Rattle.shred_batch.specs.Loans.{HasLoanSlots};
+ghost use Rattle.shred_batch.specs.Parts.{KeepsTiers};
 ghost use Rattle.shred_batch.specs.TierTurns.{TookTierTurn};
-ghost use Rattle.shred_batch.specs.Works.{InnerRun, IsTierWithin, tiers_plan};
-ghost use Rattle.shred_batch.specs.declared.work.Nested.{Nested};
-ghost use Rattle.shred_batch.specs.declared.work.Work.{Work};
-ghost use Rattle.shred_group.specs.OwnSlots.{HasOnlySlots};
-ghost use Rattle.shred_table.specs.declared.id.ResourceId.{ResourceId};
-ghost use Rattle.shred_table.specs.Shown.{shown, HasOwnSlots, IsSameSlots};
-ghost use Rattle.shred_table.specs.Slots.{among};
+ghost use Rattle.shred_batch.specs.Turners.{IsTurner};
+ghost use Rattle.shred_batch.specs.Works.{InnerRun, IsTierWithin};
+ghost use Rattle.shred_table.specs.Shown.{shown};
 ghost use Rattle.shred_world.specs.Views.{lent_slot};
 
-use crate::rules::{Loan, Rules};
+use crate::loan::Loan;
+use crate::stepper::{Stepper, Turner};
 use crate::turn::{turn_beside, turn_in_order};
-use crate::work::{Nested, Tier, Work};
-use shred_group::{Fault, StageFault};
-use shred_world::{ResourceId, ResourceValue, Shelf, Table};
+use crate::work::Tier;
+use shred_group::StageFault;
+use shred_world::{ResourceValue, Table};
 use std::thread::Threads;
 
-// The turn of a tier's groups, one after the other on the caller's thread.
-pub(crate) fn tier_in_order<
-    V: ResourceValue + Drop,
-    S,
-    C,
-    E: Drop,
-    T: Rules<V, Work<S, Nested<V, S, C>>, E>,
-    F: Fn(&mut Work<S, Nested<V, S, C>>, &Loan<'_, V>, &mut Table<V>) -> Result<(), Fault<E>>,
->(
-    rules: &T,
-    run: &F,
-    reads: &[ResourceId],
-    writes: &[ResourceId],
-    shelf: &[Shelf<V>; 1],
-    tier: &mut Tier<V, Work<S, Nested<V, S, C>>>,
-    own: &mut Table<V>,
-) -> Result<(), StageFault<E>>
-    requires stepper { IsStepper V (Work S (Nested V S C)) E V.kind_of (T.may_keep rules.now) (T.step rules.now) (F.pre run.now) (F.post run.now) }
-    requires own_slots { HasOwnSlots writes.now (lent_slot shelf.now) own.old }
-    requires only_own { HasOnlySlots writes.now own.old }
-    requires within { IsTierWithin (T.may_keep rules.now) reads.now writes.now tier.old }
-    ensures { TookTierTurn V.kind_of (T.may_keep rules.now) (T.step rules.now) (lent_slot shelf.now) tier.old own.old result tier.new own.new }
-{
-    turn_in_order(rules, run, writes, shelf, tier.groups.as_mut_slice(), own)
+// Turns of tiers whose groups run one after the other on the caller's thread.
+#[derive(Drop)]
+pub(crate) struct InOrder<'t, T> {
+    pub by: &'t T,
+}
+
+impl<'t, V: ResourceValue + Drop, X, E: Drop, T: Stepper<V, X, E>> Turner<V, X, E>
+    for InOrder<'t, T> {
+    ghost may_keep = { λ turner. T.may_keep turner.by.now };
+
+    ghost step = { λ turner. T.step turner.by.now };
+
+    ghost works = { λ turner. T.works turner.by.now };
+
+    fn take(
+        &self,
+        tier: &mut Tier<V, X>,
+        loan: &Loan<V>,
+        own: &mut Table<V>,
+    ) -> Result<(), StageFault<E>> {
+        turn_in_order(self.by, loan, tier.groups.as_mut_slice(), own)
+    }
+}
+
+// Turns of tiers that a closure takes.
+#[derive(Drop)]
+pub(crate) struct ByTurn<'t, T, G> {
+    pub by: &'t T,
+    pub turn: &'t G,
+}
+
+impl<
+    't,
+    V: ResourceValue,
+    X,
+    E,
+    T: Stepper<V, X, E>,
+    G: Fn(&mut Tier<V, X>, &Loan<'_, V>, &mut Table<V>) -> Result<(), StageFault<E>>,
+> Turner<V, X, E> for ByTurn<'t, T, G> {
+    ghost may_keep = { λ turner. T.may_keep turner.by.now };
+
+    ghost step = { λ turner. T.step turner.by.now };
+
+    ghost works = { λ turner. IsTurner V X E V.kind_of (T.may_keep turner.by.now) (T.step turner.by.now) (G.pre turner.turn.now) (G.post turner.turn.now) };
+
+    fn take(
+        &self,
+        tier: &mut Tier<V, X>,
+        loan: &Loan<V>,
+        own: &mut Table<V>,
+    ) -> Result<(), StageFault<E>> {
+        (self.turn)(tier, loan, own)
+    }
 }
 
 // The turn of a tier's groups, beside each other on threads.
 pub(crate) fn tier_beside<
     R: Threads + Sync,
     V: ResourceValue + Drop + Send + Sync,
-    S: Send,
-    C: Send,
+    X: Send,
     E: Drop + Send,
-    T: Rules<V, Work<S, Nested<V, S, C>>, E> + Sync,
-    F: Fn(&mut Work<S, Nested<V, S, C>>, &Loan<'_, V>, &mut Table<V>) -> Result<(), Fault<E>>
-        + Sync,
+    T: Stepper<V, X, E> + Sync,
 >(
     rt: &R,
-    rules: &T,
-    run: &F,
-    reads: &[ResourceId],
-    writes: &[ResourceId],
-    shelf: &[Shelf<V>; 1],
-    tier: &mut Tier<V, Work<S, Nested<V, S, C>>>,
+    by: &T,
+    loan: &Loan<V>,
+    tier: &mut Tier<V, X>,
     own: &mut Table<V>,
     workers: usize,
 ) -> Result<(), StageFault<E>>
-    requires stepper { IsStepper V (Work S (Nested V S C)) E V.kind_of (T.may_keep rules.now) (T.step rules.now) (F.pre run.now) (F.post run.now) }
-    requires own_slots { HasOwnSlots writes.now (lent_slot shelf.now) own.old }
-    requires only_own { HasOnlySlots writes.now own.old }
-    requires within { IsTierWithin (T.may_keep rules.now) reads.now writes.now tier.old }
-    ensures { TookTierTurn V.kind_of (T.may_keep rules.now) (T.step rules.now) (lent_slot shelf.now) tier.old own.old result tier.new own.new }
+    requires works { T.works by.now }
+    requires has { HasLoanSlots loan.now own.old }
+    requires within { IsTierWithin (T.may_keep by.now) loan.now.reads.now loan.now.writes.now tier.old }
+    ensures { TookTierTurn V.kind_of (T.may_keep by.now) (T.step by.now) (lent_slot loan.now.shelf.now) tier.old.groups.items own.old result tier.new.groups.items own.new }
 {
-    turn_beside(
-        rt,
-        rules,
-        run,
-        writes,
-        shelf,
-        tier.groups.as_mut_slice(),
-        own,
-        workers,
-    )
+    turn_beside(rt, by, loan, tier.groups.as_mut_slice(), own, workers)
 }
 
-// The turns of the tiers, in order, up to the first that is not Done, on the caller's thread.
-pub(crate) fn tiers_in_order<
-    V: ResourceValue + Drop,
-    S,
-    C,
-    E: Drop,
-    T: Rules<V, Work<S, Nested<V, S, C>>, E>,
-    F: Fn(&mut Work<S, Nested<V, S, C>>, &Loan<'_, V>, &mut Table<V>) -> Result<(), Fault<E>>,
->(
-    rules: &T,
-    run: &F,
-    reads: &[ResourceId],
-    writes: &[ResourceId],
-    shelf: &[Shelf<V>; 1],
-    tiers: &mut [Tier<V, Work<S, Nested<V, S, C>>>],
+// The turns of the tiers, in order, up to the first that is not Done.
+pub(crate) fn run_tiers<V: ResourceValue, X, E, T: Turner<V, X, E>>(
+    by: &T,
+    loan: &Loan<V>,
+    tiers: &mut [Tier<V, X>],
     own: &mut Table<V>,
 ) -> Result<(), StageFault<E>>
-    requires stepper { IsStepper V (Work S (Nested V S C)) E V.kind_of (T.may_keep rules.now) (T.step rules.now) (F.pre run.now) (F.post run.now) }
-    requires own_slots { HasOwnSlots writes.now (lent_slot shelf.now) own.old }
-    requires only_own { HasOnlySlots writes.now own.old }
-    requires within { All (IsTierWithin (T.may_keep rules.now) reads.now writes.now) tiers.old }
-    ensures ran { InnerRun V.kind_of (T.step rules.now) tiers.old (shown V.kind_of (lent_slot shelf.now) own.old) result tiers.new (shown V.kind_of (lent_slot shelf.now) own.new) }
-    ensures plan { tiers_plan tiers.new ≡ tiers_plan tiers.old }
-    ensures within { All (IsTierWithin (T.may_keep rules.now) reads.now writes.now) tiers.new }
-    ensures kinds { (id : ResourceId) → option_map V.kind_of (shown V.kind_of (lent_slot shelf.now) own.new id) ≡ option_map V.kind_of (shown V.kind_of (lent_slot shelf.now) own.old id) }
-    ensures slots { IsSameSlots own.old own.new }
-    ensures frame { (id : ResourceId) → among writes.now id ≡ false → shown V.kind_of (lent_slot shelf.now) own.new id ≡ shown V.kind_of (lent_slot shelf.now) own.old id }
+    requires works { T.works by.now }
+    requires has { HasLoanSlots loan.now own.old }
+    requires within { All (IsTierWithin (T.may_keep by.now) loan.now.reads.now loan.now.writes.now) tiers.old }
+    ensures ran { InnerRun V.kind_of (T.step by.now) tiers.old (shown V.kind_of (lent_slot loan.now.shelf.now) own.old) result tiers.new (shown V.kind_of (lent_slot loan.now.shelf.now) own.new) }
+    ensures kept { KeepsTiers V.kind_of (T.may_keep by.now) loan.now tiers.old own.old tiers.new own.new }
 {
     for tier in tiers.iter_mut() {
-        if let Err(fault) = tier_in_order(rules, run, reads, writes, shelf, tier, own) {
-            return Err(fault);
-        }
-    }
-    Ok(())
-}
-
-// The turns of the tiers, in order, up to the first that is not Done, the groups of each beside each other on threads.
-pub(crate) fn tiers_beside<
-    R: Threads + Sync,
-    V: ResourceValue + Drop + Send + Sync,
-    S: Send,
-    C: Send,
-    E: Drop + Send,
-    T: Rules<V, Work<S, Nested<V, S, C>>, E> + Sync,
-    F: Fn(&mut Work<S, Nested<V, S, C>>, &Loan<'_, V>, &mut Table<V>) -> Result<(), Fault<E>>
-        + Sync,
->(
-    rt: &R,
-    rules: &T,
-    run: &F,
-    reads: &[ResourceId],
-    writes: &[ResourceId],
-    shelf: &[Shelf<V>; 1],
-    tiers: &mut [Tier<V, Work<S, Nested<V, S, C>>>],
-    own: &mut Table<V>,
-    workers: usize,
-) -> Result<(), StageFault<E>>
-    requires stepper { IsStepper V (Work S (Nested V S C)) E V.kind_of (T.may_keep rules.now) (T.step rules.now) (F.pre run.now) (F.post run.now) }
-    requires own_slots { HasOwnSlots writes.now (lent_slot shelf.now) own.old }
-    requires only_own { HasOnlySlots writes.now own.old }
-    requires within { All (IsTierWithin (T.may_keep rules.now) reads.now writes.now) tiers.old }
-    ensures ran { InnerRun V.kind_of (T.step rules.now) tiers.old (shown V.kind_of (lent_slot shelf.now) own.old) result tiers.new (shown V.kind_of (lent_slot shelf.now) own.new) }
-    ensures plan { tiers_plan tiers.new ≡ tiers_plan tiers.old }
-    ensures within { All (IsTierWithin (T.may_keep rules.now) reads.now writes.now) tiers.new }
-    ensures kinds { (id : ResourceId) → option_map V.kind_of (shown V.kind_of (lent_slot shelf.now) own.new id) ≡ option_map V.kind_of (shown V.kind_of (lent_slot shelf.now) own.old id) }
-    ensures slots { IsSameSlots own.old own.new }
-    ensures frame { (id : ResourceId) → among writes.now id ≡ false → shown V.kind_of (lent_slot shelf.now) own.new id ≡ shown V.kind_of (lent_slot shelf.now) own.old id }
-{
-    for tier in tiers.iter_mut() {
-        if let Err(fault) = tier_beside(rt, rules, run, reads, writes, shelf, tier, own, workers) {
+        if let Err(fault) = by.take(tier, loan, own) {
             return Err(fault);
         }
     }

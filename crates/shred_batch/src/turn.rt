@@ -1,54 +1,38 @@
 //! Turns of a plan's groups over a table that has what they may write, with what is only read lent shared behind it: what each
 //! group writes is moved into its hand, the groups run, and all goes back.
-ghost use Rattle.std.specs.Prelude.{◌≡◌, All, true, false};
-ghost use Rattle.shred_model.specs.Beside.{AllWent, AreApart};
-ghost use Rattle.shred_model.specs.Plan.{group_access};
-ghost use Rattle.shred_batch.specs.Steppers.{IsStepper};
-ghost use Rattle.shred_batch.specs.declared.work.Nested.{Nested};
-ghost use Rattle.shred_batch.specs.declared.work.Work.{Work};
-ghost use Rattle.shred_group.specs.Hands.{KeepsRoom, some_writes};
+ghost use Rattle.std.specs.Prelude.{◌≡◌, All};
+ghost use Rattle.shred_batch.specs.Loans.{HasLoanSlots};
+ghost use Rattle.shred_batch.specs.TierTurns.{AreGroupsWithin, TookTierTurn};
+ghost use Rattle.shred_model.specs.Beside.{AllWent};
 ghost use Rattle.shred_group.specs.Lanes.{IsReady, GroupWent};
-ghost use Rattle.shred_group.specs.OwnLists.{IsGroupOf};
 ghost use Rattle.shred_group.specs.OwnSlots.{lent_before, HasOnlySlots};
-ghost use Rattle.shred_group.specs.PlanOf.{groups_plan};
-ghost use Rattle.shred_group.specs.Turns.{TookTurn};
 ghost use Rattle.shred_table.specs.declared.id.ResourceId.{ResourceId};
-ghost use Rattle.shred_table.specs.Shown.{shown, HasOwnSlots, IsSameSlots};
-ghost use Rattle.shred_table.specs.Slots.{among, slot_at};
+ghost use Rattle.shred_table.specs.Shown.{HasOwnSlots};
 ghost use Rattle.shred_world.specs.Views.{lent_slot};
 
-use crate::rules::{Loan, Rules};
+use crate::loan::Loan;
 use crate::step::run_entries;
-use crate::work::{Nested, Work};
+use crate::stepper::Stepper;
+use shred_group::StageFault;
 use shred_group::dispatch::entry::Group;
 use shred_group::dispatch::fork::{run_each, run_lanes};
 use shred_group::dispatch::hands::{move_all_back, move_all_out};
-use shred_group::{Fault, StageFault};
 use shred_world::{ResourceId, ResourceValue, Shelf, Table};
 use std::thread::Threads;
 
 // A group's run, over its hand and what is lent shared.
-fn run_group<
-    V: ResourceValue + Drop,
-    S,
-    C,
-    E,
-    T: Rules<V, Work<S, Nested<V, S, C>>, E>,
-    F: Fn(&mut Work<S, Nested<V, S, C>>, &Loan<'_, V>, &mut Table<V>) -> Result<(), Fault<E>>,
->(
-    rules: &T,
-    run: &F,
-    group: &mut Group<V, Work<S, Nested<V, S, C>>>,
+fn run_group<V: ResourceValue + Drop, X, E, T: Stepper<V, X, E>>(
+    by: &T,
+    group: &mut Group<V, X>,
     shelf: &[Shelf<V>; 1],
 ) -> Result<(), StageFault<E>>
-    requires stepper { IsStepper V (Work S (Nested V S C)) E V.kind_of (T.may_keep rules.now) (T.step rules.now) (F.pre run.now) (F.post run.now) }
-    requires ready { IsReady (T.may_keep rules.now) (lent_slot shelf.now) group.old }
-    ensures { GroupWent V.kind_of (T.step rules.now) (T.may_keep rules.now) (lent_slot shelf.now) group.old result group.new }
+    requires works { T.works by.now }
+    requires ready { IsReady (T.may_keep by.now) (lent_slot shelf.now) group.old }
+    ensures { GroupWent V.kind_of (T.step by.now) (T.may_keep by.now) (lent_slot shelf.now) group.old result group.new }
 {
     let single = group.entries.len() == 1;
     run_entries(
-        rules,
-        run,
+        by,
         group.entries.as_mut_slice(),
         single,
         group.written.as_slice(),
@@ -71,32 +55,24 @@ pub(crate) fn behind<'s, V>(
 }
 
 // The groups, one after the other over the table, which nobody writes.
-fn run_in_order<
-    V: ResourceValue + Drop,
-    S,
-    C,
-    E: Drop,
-    T: Rules<V, Work<S, Nested<V, S, C>>, E>,
-    F: Fn(&mut Work<S, Nested<V, S, C>>, &Loan<'_, V>, &mut Table<V>) -> Result<(), Fault<E>>,
->(
-    rules: &T,
-    run: &F,
-    writes: &[ResourceId],
-    shelf: &[Shelf<V>; 1],
+fn run_in_order<V: ResourceValue + Drop, X, E: Drop, T: Stepper<V, X, E>>(
+    by: &T,
+    loan: &Loan<V>,
     own: &Table<V>,
-    groups: &mut [Group<V, Work<S, Nested<V, S, C>>>],
+    groups: &mut [Group<V, X>],
 ) -> Result<(), StageFault<E>>
-    requires stepper { IsStepper V (Work S (Nested V S C)) E V.kind_of (T.may_keep rules.now) (T.step rules.now) (F.pre run.now) (F.post run.now) }
-    requires own_slots { HasOwnSlots writes.now (lent_slot shelf.now) own.now }
-    requires only_own { HasOnlySlots writes.now own.now }
-    requires ready { All (IsReady (T.may_keep rules.now) (lent_before own.now (lent_slot shelf.now))) groups.old }
-    ensures { AllWent (GroupWent V.kind_of (T.step rules.now) (T.may_keep rules.now) (lent_before own.now (lent_slot shelf.now))) groups.old result groups.new }
+    requires works { T.works by.now }
+    requires has { HasLoanSlots loan.now own.now }
+    requires ready { All (IsReady (T.may_keep by.now) (lent_before own.now (lent_slot loan.now.shelf.now))) groups.old }
+    ensures { AllWent (GroupWent V.kind_of (T.step by.now) (T.may_keep by.now) (lent_before own.now (lent_slot loan.now.shelf.now))) groups.old result groups.new }
 {
+    let writes = loan.writes;
+    let shelf = loan.shelf;
     let nearest = &behind(own, writes, shelf);
-    let lane = |group: &mut Group<V, Work<S, Nested<V, S, C>>>| -> Result<(), StageFault<E>>
-        requires { IsStepper V (Work S (Nested V S C)) E V.kind_of (T.may_keep rules.now) (T.step rules.now) (F.pre run.now) (F.post run.now) × IsReady (T.may_keep rules.now) (lent_slot nearest.now) group.old }
-        ensures { GroupWent V.kind_of (T.step rules.entry.now) (T.may_keep rules.entry.now) (lent_slot nearest.entry.now) group.old result group.new }
-    { run_group(rules, run, group, nearest) };
+    let lane = |group: &mut Group<V, X>| -> Result<(), StageFault<E>>
+        requires { T.works by.now × IsReady (T.may_keep by.now) (lent_slot nearest.now) group.old }
+        ensures { GroupWent V.kind_of (T.step by.entry.now) (T.may_keep by.entry.now) (lent_slot nearest.entry.now) group.old result group.new }
+    { run_group(by, group, nearest) };
     run_each(&lane, groups)
 }
 
@@ -104,65 +80,46 @@ fn run_in_order<
 fn run_beside<
     R: Threads + Sync,
     V: ResourceValue + Drop + Send + Sync,
-    S: Send,
-    C: Send,
+    X: Send,
     E: Drop + Send,
-    T: Rules<V, Work<S, Nested<V, S, C>>, E> + Sync,
-    F: Fn(&mut Work<S, Nested<V, S, C>>, &Loan<'_, V>, &mut Table<V>) -> Result<(), Fault<E>>
-        + Sync,
+    T: Stepper<V, X, E> + Sync,
 >(
     rt: &R,
-    rules: &T,
-    run: &F,
-    writes: &[ResourceId],
-    shelf: &[Shelf<V>; 1],
+    by: &T,
+    loan: &Loan<V>,
     own: &Table<V>,
-    groups: &mut [Group<V, Work<S, Nested<V, S, C>>>],
+    groups: &mut [Group<V, X>],
     workers: usize,
 ) -> Result<(), StageFault<E>>
-    requires stepper { IsStepper V (Work S (Nested V S C)) E V.kind_of (T.may_keep rules.now) (T.step rules.now) (F.pre run.now) (F.post run.now) }
-    requires own_slots { HasOwnSlots writes.now (lent_slot shelf.now) own.now }
-    requires only_own { HasOnlySlots writes.now own.now }
-    requires ready { All (IsReady (T.may_keep rules.now) (lent_before own.now (lent_slot shelf.now))) groups.old }
-    ensures { AllWent (GroupWent V.kind_of (T.step rules.now) (T.may_keep rules.now) (lent_before own.now (lent_slot shelf.now))) groups.old result groups.new }
+    requires works { T.works by.now }
+    requires has { HasLoanSlots loan.now own.now }
+    requires ready { All (IsReady (T.may_keep by.now) (lent_before own.now (lent_slot loan.now.shelf.now))) groups.old }
+    ensures { AllWent (GroupWent V.kind_of (T.step by.now) (T.may_keep by.now) (lent_before own.now (lent_slot loan.now.shelf.now))) groups.old result groups.new }
 {
+    let writes = loan.writes;
+    let shelf = loan.shelf;
     let nearest = &behind(own, writes, shelf);
-    let lane = |group: &mut Group<V, Work<S, Nested<V, S, C>>>| -> Result<(), StageFault<E>>
-        requires { IsStepper V (Work S (Nested V S C)) E V.kind_of (T.may_keep rules.now) (T.step rules.now) (F.pre run.now) (F.post run.now) × IsReady (T.may_keep rules.now) (lent_slot nearest.now) group.old }
-        ensures { GroupWent V.kind_of (T.step rules.entry.now) (T.may_keep rules.entry.now) (lent_slot nearest.entry.now) group.old result group.new }
-    { run_group(rules, run, group, nearest) };
+    let lane = |group: &mut Group<V, X>| -> Result<(), StageFault<E>>
+        requires { T.works by.now × IsReady (T.may_keep by.now) (lent_slot nearest.now) group.old }
+        ensures { GroupWent V.kind_of (T.step by.entry.now) (T.may_keep by.entry.now) (lent_slot nearest.entry.now) group.old result group.new }
+    { run_group(by, group, nearest) };
     run_lanes(rt, &lane, groups, workers)
 }
 
 // The turn of the groups, one after the other on the caller's thread.
-pub(crate) fn turn_in_order<
-    V: ResourceValue + Drop,
-    S,
-    C,
-    E: Drop,
-    T: Rules<V, Work<S, Nested<V, S, C>>, E>,
-    F: Fn(&mut Work<S, Nested<V, S, C>>, &Loan<'_, V>, &mut Table<V>) -> Result<(), Fault<E>>,
->(
-    rules: &T,
-    run: &F,
-    writes: &[ResourceId],
-    shelf: &[Shelf<V>; 1],
-    groups: &mut [Group<V, Work<S, Nested<V, S, C>>>],
+pub(crate) fn turn_in_order<V: ResourceValue + Drop, X, E: Drop, T: Stepper<V, X, E>>(
+    by: &T,
+    loan: &Loan<V>,
+    groups: &mut [Group<V, X>],
     own: &mut Table<V>,
 ) -> Result<(), StageFault<E>>
-    requires stepper { IsStepper V (Work S (Nested V S C)) E V.kind_of (T.may_keep rules.now) (T.step rules.now) (F.pre run.now) (F.post run.now) }
-    requires own_slots { HasOwnSlots writes.now (lent_slot shelf.now) own.old }
-    requires only_own { HasOnlySlots writes.now own.old }
-    requires own_lists { All (IsGroupOf (T.may_keep rules.now)) groups.old }
-    requires room { All KeepsRoom groups.old }
-    requires apart { AreApart group_access (groups_plan groups.old) }
-    requires within { (id : ResourceId) → some_writes groups.old id ≡ true → among writes.now id ≡ true }
-    ensures took { TookTurn V.kind_of (T.step rules.now) (T.may_keep rules.now) groups.old (shown V.kind_of (lent_slot shelf.now) own.old) result groups.new (shown V.kind_of (lent_slot shelf.now) own.new) }
-    ensures slots { IsSameSlots own.old own.new }
-    ensures others { (id : ResourceId) → some_writes groups.old id ≡ false → slot_at own.new id ≡ slot_at own.old id }
+    requires works { T.works by.now }
+    requires has { HasLoanSlots loan.now own.old }
+    requires groups { AreGroupsWithin (T.may_keep by.now) loan.now.writes.now groups.old }
+    ensures { TookTierTurn V.kind_of (T.may_keep by.now) (T.step by.now) (lent_slot loan.now.shelf.now) groups.old own.old result groups.new own.new }
 {
     move_all_out(groups, own);
-    let answer = run_in_order(rules, run, writes, shelf, own, groups);
+    let answer = run_in_order(by, loan, own, groups);
     move_all_back(groups, own);
     answer
 }
@@ -171,35 +128,24 @@ pub(crate) fn turn_in_order<
 pub(crate) fn turn_beside<
     R: Threads + Sync,
     V: ResourceValue + Drop + Send + Sync,
-    S: Send,
-    C: Send,
+    X: Send,
     E: Drop + Send,
-    T: Rules<V, Work<S, Nested<V, S, C>>, E> + Sync,
-    F: Fn(&mut Work<S, Nested<V, S, C>>, &Loan<'_, V>, &mut Table<V>) -> Result<(), Fault<E>>
-        + Sync,
+    T: Stepper<V, X, E> + Sync,
 >(
     rt: &R,
-    rules: &T,
-    run: &F,
-    writes: &[ResourceId],
-    shelf: &[Shelf<V>; 1],
-    groups: &mut [Group<V, Work<S, Nested<V, S, C>>>],
+    by: &T,
+    loan: &Loan<V>,
+    groups: &mut [Group<V, X>],
     own: &mut Table<V>,
     workers: usize,
 ) -> Result<(), StageFault<E>>
-    requires stepper { IsStepper V (Work S (Nested V S C)) E V.kind_of (T.may_keep rules.now) (T.step rules.now) (F.pre run.now) (F.post run.now) }
-    requires own_slots { HasOwnSlots writes.now (lent_slot shelf.now) own.old }
-    requires only_own { HasOnlySlots writes.now own.old }
-    requires own_lists { All (IsGroupOf (T.may_keep rules.now)) groups.old }
-    requires room { All KeepsRoom groups.old }
-    requires apart { AreApart group_access (groups_plan groups.old) }
-    requires within { (id : ResourceId) → some_writes groups.old id ≡ true → among writes.now id ≡ true }
-    ensures took { TookTurn V.kind_of (T.step rules.now) (T.may_keep rules.now) groups.old (shown V.kind_of (lent_slot shelf.now) own.old) result groups.new (shown V.kind_of (lent_slot shelf.now) own.new) }
-    ensures slots { IsSameSlots own.old own.new }
-    ensures others { (id : ResourceId) → some_writes groups.old id ≡ false → slot_at own.new id ≡ slot_at own.old id }
+    requires works { T.works by.now }
+    requires has { HasLoanSlots loan.now own.old }
+    requires groups { AreGroupsWithin (T.may_keep by.now) loan.now.writes.now groups.old }
+    ensures { TookTierTurn V.kind_of (T.may_keep by.now) (T.step by.now) (lent_slot loan.now.shelf.now) groups.old own.old result groups.new own.new }
 {
     move_all_out(groups, own);
-    let answer = run_beside(rt, rules, run, writes, shelf, own, groups, workers);
+    let answer = run_beside(rt, by, loan, own, groups, workers);
     move_all_back(groups, own);
     answer
 }

@@ -12,6 +12,9 @@ use Rattle.shred_table.specs.Slots.{slot_at, among, or_slot}
 use Rattle.shred_group.specs.declared.dispatch.entry.Group.{Group}
 use Rattle.shred_group.specs.Hands.{IsMovedOut, IsBack, carried, some_writes}
 use Rattle.shred_group.specs.OwnSlots.{lent_before, HasOnlySlots}
+use Rattle.shred_world.specs.Views.{lent_slot}
+use Rattle.shred_batch.specs.Loans.{HasLoanSlots}
+use Rattle.shred_batch.specs.declared.loan.Loan.{Loan}
 use Rattle.shred_group.proofs.Runs.Forked.{same-written}
 use Rattle.shred_group.proofs.Runs.Viewed.{still_has_slots}
 use Rattle.shred_group.proofs.Runs.Zips.{zip-both}
@@ -97,3 +100,10 @@ module _ {V : Type 0} (lent : Lent V) (writes : List ResourceId) where
         where
           put : (k : ℕ) (d : Group V S) → k < length ran → among (get_or ran k d).written.items q ≡ true → is_some (slot_at end q) ≡ is_some (slot_at after q)
           put k d below there = ap is_some (back k d below q there) ∙ given-is (slot_value (slot_at (get_or ran k d).hand q)) (slot_at after q)
+
+-- a table that lost the values of groups has the slots of the loan still
+pub has-left : {V : Type 0} (loan : Loan V) (own after : Table V) → HasLoanSlots loan own → (taken : ResourceId → Bool) → ((q : ResourceId) → slot_at after q ≡ cond (taken q) (emptied (slot_at own q)) (slot_at own q)) → HasLoanSlots loan after
+has-left loan own after has taken left = record {
+  own_slots = has-after (lent_slot loan.shelf.now) loan.writes.now own after has.own_slots taken left;
+  only_own = only-after (lent_slot loan.shelf.now) loan.writes.now own after has.only_own taken left;
+}

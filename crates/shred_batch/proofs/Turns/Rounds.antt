@@ -1,4 +1,5 @@
 -- Rounds of a batch: what a call of the controller, and a run of the inner plan, make of the rounds that are left.
+use Rattle.std.specs.Prelude.{List, Result}
 use Rattle.std.proofs.Common.{◌≡◌, ℕ, zero, suc, Bool, true, false, Ok, Err, refl, sym, ◌∙◌, ap, subst}
 use Rattle.shred_model.specs.Access.{Access}
 use Rattle.shred_model.specs.Runs.{Answer}
@@ -8,7 +9,18 @@ use Rattle.shred_world.specs.Worked.{Held}
 use Rattle.shred_group.specs.declared.dispatch.run.StageFault.{StageFault}
 use Rattle.shred_group.specs.declared.system.Fault.{Fault}
 use Rattle.shred_group.specs.Steps.{Outcome}
+use Rattle.shred_table.specs.declared.table.Table.{Table}
+use Rattle.shred_table.specs.Shown.{shown, IsSameSlots}
+use Rattle.shred_table.specs.Slots.{among}
+use Rattle.shred_world.specs.Views.{lent_slot}
 use Rattle.shred_batch.specs.Controls.{Control}
+use Rattle.shred_batch.specs.KeptControllers.{control_access, IsOwnControl}
+use Rattle.shred_batch.specs.Loans.{KeepsLoan}
+use Rattle.shred_batch.specs.Parts.{KeepsParts, KeepsTiers}
+use Rattle.shred_batch.specs.declared.control.KeptController.{KeptController}
+use Rattle.shred_batch.specs.declared.loan.Loan.{Loan}
+use Rattle.shred_batch.specs.declared.work.Tier.{Tier}
+use Rattle.shred_batch.proofs.Turns.Tiers.{keeps-more}
 use Rattle.shred_batch.specs.Rounds.{IsControlOver, Rounds, BatchRun, fault_within}
 
 module _ {V C P E : Type 0} (kind : V → Kind) (asks : Control V C Bool E) (access : Access ResourceId) (Inner : P → Held V → Answer (StageFault E) → P → Held V → Type 0) where
@@ -52,3 +64,29 @@ module _ {V C P E : Type 0} (kind : V → Kind) (asks : Control V C Bool E) (acc
 pub not-within : (inner outer : Bool) → (inner ≡ true → outer ≡ true) → outer ≡ false → inner ≡ false
 not-within true outer within out = absurd (let e : true ≡ false = sym (within refl) ∙ out in cc)
 not-within false outer within out = refl
+
+module _ {V X C E : Type 0} (loan : Loan V) (kind : V → Kind) (own : X → List ResourceId → List ResourceId → Type 0) (control_reads control_writes : C → List ResourceId)
+    (start : KeptController V C) (tiers : List (Tier V X)) (before : Table V) (writes_within : (id : ResourceId) → among start.writes.items id ≡ true → among loan.writes.now id ≡ true)
+    (control : KeptController V C) (mids : List (Tier V X)) (mid : Table V) (kept : KeepsParts kind own loan control_reads control_writes start tiers before control mids mid)
+    {A : Type 0} (asks : Control V C A E) (answer : Result A (Fault E)) (new : KeptController V C) (after : Table V)
+    (one : IsControlOver kind asks (control_access start) control.controller (shown kind (lent_slot loan.shelf.now) mid) answer new.controller (shown kind (lent_slot loan.shelf.now) after))
+    (slots : IsSameSlots mid after) (own_lists : IsOwnControl control_reads control_writes new) (access : control_access new ≡ control_access control) where
+  -- what the call keeps of the table
+  asked : KeepsLoan kind loan mid after
+  asked = record { kinds = one.keeps_kinds; slots = slots; frame = λ id out. one.frame id (not-within (among start.writes.items id) (among loan.writes.now id) (writes_within id) out) }
+
+  -- what it keeps of the parts
+  pub parts-asked : KeepsParts kind own loan control_reads control_writes start tiers before new mids after
+  parts-asked = record {
+    access = access ∙ kept.access;
+    own_lists = own_lists;
+    tiers = record { plan = kept.tiers.plan; within = kept.tiers.within; keeps = keeps-more loan kind before mid after asked kept.tiers.keeps };
+  }
+
+  -- what the call and a run of the tiers keep
+  pub parts-more : (left : List (Tier V X)) (end : Table V) → KeepsTiers kind own loan mids after left end → KeepsParts kind own loan control_reads control_writes start tiers before new left end
+  parts-more left end more = record {
+    access = access ∙ kept.access;
+    own_lists = own_lists;
+    tiers = record { plan = more.plan ∙ kept.tiers.plan; within = more.within; keeps = keeps-more loan kind before after end more.keeps (keeps-more loan kind before mid after asked kept.tiers.keeps) };
+  }

@@ -17,8 +17,8 @@ invariant-loop-entry g l = record {
   plan : map entry_plan l.entries ≡ map entry_plan l.initial.entries;
   kinds : (id : ResourceId) → option_map g.V.ResourceValue.kind_of (shown g.V.ResourceValue.kind_of (lent_slot l.shelf) l.own id) ≡ option_map g.V.ResourceValue.kind_of (shown g.V.ResourceValue.kind_of (lent_slot l.shelf) l.initial.own id);
   slots : IsSameSlots l.initial.own l.own;
-  own_lists : All (IsEntryOf (g.T.Rules.may_keep l.rules)) l.entries;
+  own_lists : All (IsEntryOf (g.T.Stepper.may_keep l.by)) l.entries;
   places : All (HasPlace l.single l.own) l.entries;
-  ran : SoFar (EntryRun g.V.ResourceValue.kind_of (g.T.Rules.step l.rules)) l.entry-index (map entry_plan l.initial.entries)
+  ran : SoFar (EntryRun g.V.ResourceValue.kind_of (g.T.Stepper.step l.by)) l.entry-index (map entry_plan l.initial.entries)
       (configuration_of (listed_states entry_states l.initial.entries) (shown g.V.ResourceValue.kind_of (lent_slot l.shelf) l.initial.own)) (configuration_of (listed_states entry_states l.entries) (shown g.V.ResourceValue.kind_of (lent_slot l.shelf) l.own));
 }

@@ -8,11 +8,11 @@ use Rattle.shred_batch.proofs.turn.run_beside.Goals as goal
 
 pub run_lanes-requires-after_bounds : goal.run_lanes-requires-after_bounds
 run_lanes-requires-after_bounds g c κs within =
-    let same : lent_before c.args.own.now (lent_slot c.args.shelf.now) ≡ lent_slot c.behind.result = λ i q. sym (c.behind.ensures q) i in
-    λ k d below lane at. (omega arith, (c.requires.stepper, subst (λ (lent : Lent g.row.V.Denot). IsReady (g.T.Rules.may_keep c.args.rules.now) lent lane.now) same (subst (IsReady (g.T.Rules.may_keep c.args.rules.now) (lent_before c.args.own.now (lent_slot c.args.shelf.now))) (sym at) (c.requires.ready k d below))))
+    let same : lent_before c.args.own.now (lent_slot c.args.loan.now.shelf.now) ≡ lent_slot c.behind.result = λ i q. sym (c.behind.ensures q) i in
+    λ k d below lane at. (omega arith, (c.requires.works, subst (λ (lent : Lent g.row.V.Denot). IsReady (g.T.Stepper.may_keep c.args.by.now) lent lane.now) same (subst (IsReady (g.T.Stepper.may_keep c.args.by.now) (lent_before c.args.own.now (lent_slot c.args.loan.now.shelf.now))) (sym at) (c.requires.ready k d below))))
 
 pub returns : goal.returns
 returns g c =
-    let same : lent_slot c.behind.result ≡ lent_before c.args.own.now (lent_slot c.args.shelf.now) = λ i q. c.behind.ensures q i in
-    AllWent-called _ _ (GroupWent g.V.ResourceValue.kind_of (g.T.Rules.step c.args.rules.now) (g.T.Rules.may_keep c.args.rules.now) (lent_before c.args.own.now (lent_slot c.args.shelf.now)))
-    (λ lane after a went. subst (λ (lent : Lent g.row.V.Denot). GroupWent g.V.ResourceValue.kind_of (g.T.Rules.step c.args.rules.now) (g.T.Rules.may_keep c.args.rules.now) lent lane.now a after.now) same went) c.args.groups.now c.run_lanes.result c.run_lanes.new.lanes c.run_lanes.ensures
+    let same : lent_slot c.behind.result ≡ lent_before c.args.own.now (lent_slot c.args.loan.now.shelf.now) = λ i q. c.behind.ensures q i in
+    AllWent-called _ _ (GroupWent g.V.ResourceValue.kind_of (g.T.Stepper.step c.args.by.now) (g.T.Stepper.may_keep c.args.by.now) (lent_before c.args.own.now (lent_slot c.args.loan.now.shelf.now)))
+    (λ lane after a went. subst (λ (lent : Lent g.row.V.Denot). GroupWent g.V.ResourceValue.kind_of (g.T.Stepper.step c.args.by.now) (g.T.Stepper.may_keep c.args.by.now) lent lane.now a after.now) same went) c.args.groups.now c.run_lanes.result c.run_lanes.new.lanes c.run_lanes.ensures

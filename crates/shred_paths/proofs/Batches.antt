@@ -20,7 +20,8 @@ use Rattle.shred_batch.specs.Rounds.{IsControlOver, Rounds, BatchRun}
 use Rattle.shred_batch.proofs.Runs.Restricted.{control-restricted}
 use Rattle.shred_paths.specs.DeepRecords.{DeepRecord, IsDeepStep, Told, deep_outcome, at_most, once_more}
 use Rattle.shred_paths.specs.DeepRuns.{DeepRounds, DeepBatchRun}
-use Rattle.shred_paths.specs.Occupants.{AgentState, of_controller, with_own}
+use Rattle.shred_paths.specs.Occupants.{AgentState, of_controller}
+use Rattle.shred_paths.proofs.Inside.{with_own}
 
 beside : {S : Type 0} (own : S) (states : Agent → Option S) (a : Agent) → a ≢ [] → with_own own states a ≡ states a
 beside own states [] ne = absurd (ne refl)

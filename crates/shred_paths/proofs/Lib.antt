@@ -1,4 +1,5 @@
 pub mod Opened
+pub mod Inside
 pub mod Fits
 pub mod Within
 pub mod Turns

@@ -27,7 +27,8 @@ use Rattle.shred_batch.specs.declared.work.Nested.{Nested}
 use Rattle.shred_batch.specs.declared.work.Tier.{Tier}
 use Rattle.shred_batch.specs.declared.work.Work.{Work}
 use Rattle.shred_batch.specs.declared.work.Work.TheVariants.{System, Batch}
-use Rattle.shred_paths.specs.Occupants.{at_places, inside_at, said_inside, work_occupants}
+use Rattle.shred_paths.specs.Occupants.{Occupants, a_batch, a_system, inside_each, inside_at, by_path, work_occupants}
+use Rattle.shred_paths.proofs.Inside.{by_path-batch}
 use Rattle.shred_paths.proofs.Fits.{Fits, IsNoMore, PlanFits, StageFits, plan_access}
 use Rattle.shred_paths.proofs.Opened.Runs.{EachAt}
 
@@ -98,32 +99,33 @@ module _ {V X : Type 0} (own : X → List ResourceId → List ResourceId → Typ
 
 -- what may be kept with its lists at this depth fits them
 abbrev pub OwnsFits : (V : Type 0) {S C : Type 0} → Declared S C → ℕ → Type 0
-OwnsFits V {S} {C} declared depth = (work : Work S (Nested V S C)) (reads writes : List ResourceId) → Owns declared depth work reads writes → Fits depth (work_occupants depth work) (record { reads = reads; writes = writes })
+OwnsFits V {S} {C} declared depth = (work : Work S (Nested V S C)) (reads writes : List ResourceId) → Owns declared depth work reads writes → Fits depth (work_occupants work) (record { reads = reads; writes = writes })
 
 module _ {V S C : Type 0} (declared : Declared S C) where
   module _ (depth : ℕ) (fits : OwnsFits V declared depth) where
-    group-fits : (group : Group V (Work S (Nested V S C))) → IsGroupOf (Owns declared depth) group → EachAt (λ n entry. Fits depth (at_places 0 (work_occupants depth) (inside_at (group_states group) n)) entry.access) 0 (group_plan group)
-    group-fits group owns = EachAt-listed entry_states entry_plan (λ st entry. Fits depth (at_places 0 (work_occupants depth) st) entry.access) group.entries.items
+    group-fits : (group : Group V (Work S (Nested V S C))) → IsGroupOf (Owns declared depth) group → EachAt (λ n entry. Fits depth (inside_each 0 work_occupants (inside_at (group_states group) n)) entry.access) 0 (group_plan group)
+    group-fits group owns = EachAt-listed entry_states entry_plan (λ st entry. Fits depth (inside_each 0 work_occupants st) entry.access) group.entries.items
         (AllByRecursion-weaker (IsEntryOf (Owns declared depth)) _ (λ entry own. fits entry.system entry.reads.items entry.writes.items own.lists) group.entries.items (recursion_from_All _ group.entries.items owns))
 
-    groups-fit : (groups : List (Group V (Work S (Nested V S C)))) → All (IsGroupOf (Owns declared depth)) groups → StageFits (Fits depth) (at_places 2 (work_occupants depth) (listed_states group_states groups)) (groups_plan groups)
-    groups-fit groups owns = EachAt-listed group_states group_plan (λ st group. EachAt (λ n entry. Fits depth (at_places 0 (work_occupants depth) (inside_at st n)) entry.access) 0 group) groups
+    groups-fit : (groups : List (Group V (Work S (Nested V S C)))) → All (IsGroupOf (Owns declared depth)) groups → StageFits (Fits depth) (inside_each 2 work_occupants (listed_states group_states groups)) (groups_plan groups)
+    groups-fit groups owns = EachAt-listed group_states group_plan (λ st group. EachAt (λ n entry. Fits depth (inside_each 0 work_occupants (inside_at st n)) entry.access) 0 group) groups
         (AllByRecursion-weaker (IsGroupOf (Owns declared depth)) _ group-fits groups (recursion_from_All _ groups owns))
 
     -- stages of such groups
     stages-fit : {Y : Type 0} (groups : Y → List (Group V (Work S (Nested V S C)))) (ys : List Y) → AllByRecursion (λ y. All (IsGroupOf (Owns declared depth)) (groups y)) ys
-        → PlanFits (Fits depth) (at_places 3 (work_occupants depth) (listed_states (λ y. listed_states group_states (groups y)) ys)) (map (λ y. groups_plan (groups y)) ys)
-    stages-fit groups ys owns = EachAt-listed (λ y. listed_states group_states (groups y)) (λ y. groups_plan (groups y)) (λ st stage. StageFits (Fits depth) (at_places 2 (work_occupants depth) st) stage) ys
+        → PlanFits (Fits depth) (inside_each 3 work_occupants (listed_states (λ y. listed_states group_states (groups y)) ys)) (map (λ y. groups_plan (groups y)) ys)
+    stages-fit groups ys owns = EachAt-listed (λ y. listed_states group_states (groups y)) (λ y. groups_plan (groups y)) (λ st stage. StageFits (Fits depth) (inside_each 2 work_occupants st) stage) ys
         (AllByRecursion-weaker (λ y. All (IsGroupOf (Owns declared depth)) (groups y)) _ (λ y one. groups-fit (groups y) one) ys owns)
 
   pub owns-fits : (depth : ℕ) → OwnsFits V declared depth
-  unfolding Owns Fits said_inside
+  unfolding Owns Fits by_path
   owns-fits zero (System s) reads writes owns = tt
   owns-fits (suc less) (System s) reads writes owns = tt
   owns-fits zero (Batch nested) reads writes owns = absurd owns
   owns-fits (suc less) (Batch nested) reads writes owns =
       let batch = batch_of nested in
-      let tiers = recursion_from_All _ batch.tiers.items owns.tiers in (
+      let tiers = recursion_from_All _ batch.tiers.items owns.tiers in
+      subst (λ (all : Occupants). Fits (suc less) all (record { reads = reads; writes = writes })) (sym (by_path-batch (λ s. a_system) (λ b. a_batch (control_access b.control) (tiers_plan b.tiers.items)) nested)) (
         controls-within (control_access batch.control) reads writes owns.reads_within owns.writes_within,
         tiers-within (Owns declared less) reads writes batch.tiers.items tiers,
         tiers-apart (Owns declared less) reads writes batch.tiers.items tiers,
@@ -132,10 +134,10 @@ module _ {V S C : Type 0} (declared : Declared S C) where
       )
 
   -- the groups of a stage that may be kept with their lists fit them
-  pub stage-fits : (depth : ℕ) (groups : List (Group V (Work S (Nested V S C)))) → All (IsGroupOf (Owns declared depth)) groups → StageFits (Fits depth) (at_places 2 (work_occupants depth) (listed_states group_states groups)) (groups_plan groups)
+  pub stage-fits : (depth : ℕ) (groups : List (Group V (Work S (Nested V S C)))) → All (IsGroupOf (Owns declared depth)) groups → StageFits (Fits depth) (inside_each 2 work_occupants (listed_states group_states groups)) (groups_plan groups)
   stage-fits depth = groups-fit depth (owns-fits depth)
 
   -- so do the stages of a plan
   pub plan-fits : (depth : ℕ) {Y : Type 0} (groups : Y → List (Group V (Work S (Nested V S C)))) (ys : List Y) → AllByRecursion (λ y. All (IsGroupOf (Owns declared depth)) (groups y)) ys
-      → PlanFits (Fits depth) (at_places 3 (work_occupants depth) (listed_states (λ y. listed_states group_states (groups y)) ys)) (map (λ y. groups_plan (groups y)) ys)
+      → PlanFits (Fits depth) (inside_each 3 work_occupants (listed_states (λ y. listed_states group_states (groups y)) ys)) (map (λ y. groups_plan (groups y)) ys)
   plan-fits depth groups ys owns = stages-fit depth (owns-fits depth) groups ys owns

@@ -19,7 +19,7 @@ use Rattle.shred_batch.specs.Depths.{Related, WorkStep}
 use Rattle.shred_batch.specs.declared.work.Nested.{Nested}
 use Rattle.shred_batch.specs.declared.work.Work.{Work}
 use Rattle.shred_paths.specs.DeepRuns.{DeepPlanRun, DeepRun, DeepStageTurn}
-use Rattle.shred_paths.specs.Occupants.{at_places, work_occupants}
+use Rattle.shred_paths.specs.Occupants.{inside_each, work_occupants}
 use Rattle.shred_paths.specs.Occupied.{OccupiedRun, OccupiedTurn, occupied_plan, occupied_stage, plan_agents, stage_agents}
 use Rattle.shred_paths.proofs.Fits.{Fits, PlanFits, StageFits, plan_access}
 use Rattle.shred_paths.proofs.Within.{deep_within, plan_within, turn_within, within-framed}
@@ -31,16 +31,17 @@ module _ {V S C E : Type 0} (kind : V → Kind) (related : Related V S C E) (dep
     stage_ran = Ran-of_one_thread (StageTurn kind (WorkStep kind related depth) stage) (configuration_of a m) answer (configuration_of b n) outer
 
     -- a stage's turn keeps what stands at each path
-    pub occupied_stage-same : occupied_stage depth stage b ≡ occupied_stage depth stage a
+    pub occupied_stage-same : occupied_stage stage b ≡ occupied_stage stage a
     occupied_stage-same = λ i. record { plan = stage; occupants = turn-same kind related depth a b m n stage answer stage_ran i }
 
     -- A stage's turn, of what fits its entries, leaves what one thread leaves that takes the steps of all systems and controllers in it, at every depth.
-    pub stage-serializable : StageFits (Fits depth) (at_places 2 (work_occupants depth) a) stage
-        → IsSerializable (λ list. OccupiedTurn kind related depth (occupied_stage depth stage a) list answer) (configuration_of (stage_agents depth a) m) (configuration_of (stage_agents depth b) n)
+    pub stage-serializable : StageFits (Fits depth) (inside_each 2 work_occupants a) stage
+        → IsSerializable (λ list. OccupiedTurn kind related (occupied_stage stage a) list answer) (configuration_of (stage_agents a) m) (configuration_of (stage_agents b) n)
     stage-serializable fits =
-        let all = at_places 2 (work_occupants depth) a in
-        Ran-as_one_thread tell_ids (DeepStageTurn (DeepRun kind related depth) all stage) (configuration_of (stage_agents depth a) m) answer (configuration_of (stage_agents depth b) n)
-        (λ list x run. within-framed (joined_access model.group_access stage) list (turn_within (DeepRun kind related depth) (Fits depth) (deep_within kind related depth) all stage list x fits run)) (turn-deepened kind related depth a b m n stage answer stage_ran (expand kind related depth) fits)
+        let all = inside_each 2 work_occupants a in
+        let one = Ran-as_one_thread tell_ids (DeepStageTurn (DeepRun kind related depth) all stage) (configuration_of (stage_agents a) m) answer (configuration_of (stage_agents b) n)
+        (λ list x run. within-framed (joined_access model.group_access stage) list (turn_within (DeepRun kind related depth) (Fits depth) (deep_within kind related depth) all stage list x fits run)) (turn-deepened kind related depth a b m n stage answer stage_ran (expand kind related depth) fits) in
+        record { list = one.list; run = (depth, one.run); replays = one.replays; any_order = one.any_order }
 
   module _ {F : Type 0} (tells : ℕ → Answer (StageFault E) → Answer F) where
     -- the turn of one stage of a plan
@@ -52,13 +53,14 @@ module _ {V S C E : Type 0} (kind : V → Kind) (related : Related V S C E) (dep
       plan_ran = Ran-of_one_thread (RunsUpToFault ToldTurn 0 plan) (configuration_of a m) answer (configuration_of b n) outer
 
       -- a plan's run keeps what stands at each path
-      pub occupied_plan-same : occupied_plan depth plan b ≡ occupied_plan depth plan a
+      pub occupied_plan-same : occupied_plan plan b ≡ occupied_plan plan a
       occupied_plan-same = λ i. record { plan = plan; occupants = plan-same kind related depth a b m n ToldTurn tells (λ k stage list told turn. turn) plan answer plan_ran i }
 
       -- A plan's run, of what fits its entries, leaves what one thread leaves that takes the steps of all systems and controllers in it, at every depth.
-      pub plan-serializable : PlanFits (Fits depth) (at_places 3 (work_occupants depth) a) plan
-          → IsSerializable (λ list. OccupiedRun kind related depth tells (occupied_plan depth plan a) list answer) (configuration_of (plan_agents depth a) m) (configuration_of (plan_agents depth b) n)
+      pub plan-serializable : PlanFits (Fits depth) (inside_each 3 work_occupants a) plan
+          → IsSerializable (λ list. OccupiedRun kind related tells (occupied_plan plan a) list answer) (configuration_of (plan_agents a) m) (configuration_of (plan_agents b) n)
       plan-serializable fits =
-          let all = at_places 3 (work_occupants depth) a in
-          Ran-as_one_thread tell_ids (DeepPlanRun (DeepRun kind related depth) tells all plan) (configuration_of (plan_agents depth a) m) answer (configuration_of (plan_agents depth b) n)
-          (λ list x run. within-framed (plan_access plan) list (plan_within (DeepRun kind related depth) (Fits depth) (deep_within kind related depth) tells all plan list x fits run)) (plan-deepened kind related depth a b m n ToldTurn tells (λ k stage list told turn. turn) plan answer plan_ran (expand kind related depth) fits)
+          let all = inside_each 3 work_occupants a in
+          let one = Ran-as_one_thread tell_ids (DeepPlanRun (DeepRun kind related depth) tells all plan) (configuration_of (plan_agents a) m) answer (configuration_of (plan_agents b) n)
+          (λ list x run. within-framed (plan_access plan) list (plan_within (DeepRun kind related depth) (Fits depth) (deep_within kind related depth) tells all plan list x fits run)) (plan-deepened kind related depth a b m n ToldTurn tells (λ k stage list told turn. turn) plan answer plan_ran (expand kind related depth) fits) in
+          record { list = one.list; run = (depth, one.run); replays = one.replays; any_order = one.any_order }

@@ -13,35 +13,35 @@ use Rattle.shred_batch.specs.declared.work.Nested.{Nested}
 use Rattle.shred_batch.specs.declared.work.Work.{Work}
 use Rattle.shred_paths.specs.DeepRecords.{DeepRecord}
 use Rattle.shred_paths.specs.DeepRuns.{DeepPlanRun, DeepRun, DeepStageTurn}
-use Rattle.shred_paths.specs.Occupants.{AgentState, Occupants, at_places, work_occupants, work_states}
+use Rattle.shred_paths.specs.Occupants.{AgentState, Occupants, inside_each, work_occupants, work_states}
 
 -- A stage or a plan, and what stands at each path of it.
 pub record Occupied (P : Type 0) : Type 0 where
   pub plan : P
   pub occupants : Occupants
 
-module _ {V S C : Type 0} (depth : ℕ) where
+module _ {V S C : Type 0} where
   -- a stage, and what stands at each path of it
   abbrev pub occupied_stage : model.Stage ResourceId → (Agent → Option (Work S (Nested V S C))) → Occupied (model.Stage ResourceId)
-  occupied_stage stage works = record { plan = stage; occupants = at_places 2 (work_occupants depth) works }
+  occupied_stage stage works = record { plan = stage; occupants = inside_each 2 work_occupants works }
 
   -- a plan, and what stands at each path of it
   abbrev pub occupied_plan : model.Plan ResourceId → (Agent → Option (Work S (Nested V S C))) → Occupied (model.Plan ResourceId)
-  occupied_plan plan works = record { plan = plan; occupants = at_places 3 (work_occupants depth) works }
+  occupied_plan plan works = record { plan = plan; occupants = inside_each 3 work_occupants works }
 
   -- the states of all agents in the entries of a stage
   abbrev pub stage_agents : (Agent → Option (Work S (Nested V S C))) → Agent → Option (AgentState S C)
-  stage_agents works = at_places 2 (work_states depth) works
+  stage_agents works = inside_each 2 work_states works
 
   -- the states of all agents in the entries of a plan
   abbrev pub plan_agents : (Agent → Option (Work S (Nested V S C))) → Agent → Option (AgentState S C)
-  plan_agents works = at_places 3 (work_states depth) works
+  plan_agents works = inside_each 3 work_states works
 
-module _ {V S C E : Type 0} (kind : V → Kind) (related : Related V S C E) (depth : ℕ) where
-  -- the turn of a stage, with what stands in its entries
+module _ {V S C E : Type 0} (kind : V → Kind) (related : Related V S C E) where
+  -- the turn of a stage, with what stands in its entries, however deep batches nest there
   abbrev pub OccupiedTurn : Occupied (model.Stage ResourceId) → List (DeepRecord V S C E) → Answer (StageFault E) → Type 0
-  OccupiedTurn stage list answer = DeepStageTurn (DeepRun kind related depth) stage.occupants stage.plan list answer
+  OccupiedTurn stage list answer = (depth : ℕ) × DeepStageTurn (DeepRun kind related depth) stage.occupants stage.plan list answer
 
-  -- the run of a plan, with what stands in its entries; `tells` says what the plan answers for the answer of the stage at a place
+  -- the run of a plan, with what stands in its entries, however deep batches nest there; `tells` says what the plan answers for the answer of the stage at a place
   abbrev pub OccupiedRun : {F : Type 0} → (ℕ → Answer (StageFault E) → Answer F) → Occupied (model.Plan ResourceId) → List (DeepRecord V S C E) → Answer F → Type 0
-  OccupiedRun tells plan list answer = DeepPlanRun (DeepRun kind related depth) tells plan.occupants plan.plan list answer
+  OccupiedRun tells plan list answer = (depth : ℕ) × DeepPlanRun (DeepRun kind related depth) tells plan.occupants plan.plan list answer

@@ -6,9 +6,9 @@ use Rattle.shred_model.specs.Record.{Record, Agent, under}
 use Rattle.shred_model.specs.Replay.{Configuration, Replays}
 use Rattle.shred_model.specs.Runs.{Answer, RunsUpToFault, RunsEach}
 use Rattle.shred_model.proofs.Records.Framed.{EachPasses, RunsUpToFault-all, RunsEach-all}
-use Rattle.shred_paths.specs.Occupants.{inside_at, at_places}
+use Rattle.shred_paths.specs.Occupants.{inside_at, inside_each}
 use Rattle.shred_paths.proofs.Opened.Lists.{AreOpened, AreOpened-none, AreOpened-append, AreOpened-under}
-use Rattle.shred_paths.proofs.Opened.Places.{at_places-at, at_places-alike, at_places-same}
+use Rattle.shred_paths.proofs.Opened.Places.{inside_each-at, inside_each-alike, inside_each-same}
 
 -- so it is of each element, at its place, from place n on
 abbrev pub EachAt : {Y : Type 0} → (ℕ → Y → Type 0) → ℕ → List Y → Type 0
@@ -62,12 +62,12 @@ module _ {I V X O T : Type 0} (said : X → Agent → Option T) where
 
   -- where each record leaves what it found, each finds what stood there at first
   pub stands : (n : ℕ) (list : List (Record Agent I V X O)) (x y : Configuration Agent I V X) → AllByRecursion (Stays n) list → Replays x list y
-      → AllByRecursion (StandsAt (at_places n said x.states)) list × (at_places n said y.states ≡ at_places n said x.states)
-  stands n [] x y stay like = (tt, fun_ext (at_places-alike said n x.states y.states like.states))
+      → AllByRecursion (StandsAt (inside_each n said x.states)) list × (inside_each n said y.states ≡ inside_each n said x.states)
+  stands n [] x y stay like = (tt, fun_ext (inside_each-alike said n x.states y.states like.states))
   stands n (r ∷ list) x y stay (m, goes, then) =
-      let same : at_places n said m.states ≡ at_places n said x.states = fun_ext (at_places-same said n x.states m.states r.agent r.before r.after stay.0.0 goes.finds_state goes.puts_state goes.other_states stay.0.1) in
+      let same : inside_each n said m.states ≡ inside_each n said x.states = fun_ext (inside_each-same said n x.states m.states r.agent r.before r.after stay.0.0 goes.finds_state goes.puts_state goes.other_states stay.0.1) in
       let rest = stands n list m y stay.1 then in
-      ((fun_ext (λ path. at_places-at said n x.states r.agent r.before path stay.0.0 goes.finds_state), subst (λ (all : Agent → Option T). AllByRecursion (StandsAt all) list) same rest.0), rest.1 ∙ same)
+      ((fun_ext (λ path. inside_each-at said n x.states r.agent r.before path stay.0.0 goes.finds_state), subst (λ (all : Agent → Option T). AllByRecursion (StandsAt all) list) same rest.0), rest.1 ∙ same)
 
 module _ {I V X O S P : Type 0} (states : X → Agent → Option S) where
   -- Some list is such a run, and is what the records are opened into.

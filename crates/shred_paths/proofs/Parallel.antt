@@ -17,7 +17,7 @@ use Rattle.shred_group.specs.declared.dispatch.run.StageFault.{StageFault}
 use Rattle.shred_group.specs.Steps.{Outcome}
 use Rattle.shred_batch.specs.Depths.{Related}
 use Rattle.shred_paths.specs.DeepRecords.{DeepRecord}
-use Rattle.shred_paths.specs.DeepRuns.{DeepEntryRun, DeepGroupRun, DeepPlanRun, DeepRun, DeepStageTurn, OccupantRun}
+use Rattle.shred_paths.specs.DeepRuns.{DeepBatchRun, DeepEntryRun, DeepGroupRun, DeepPlanRun, DeepRun, DeepStageTurn, OccupantRun}
 use Rattle.shred_paths.specs.Occupants.{Occupant, Occupants, a_batch, a_system, inside_at}
 use Rattle.shred_paths.specs.Parallel.{AreParallel, IsDeepInterleaving}
 use Rattle.shred_paths.proofs.Fits.{EntryFits, Fits, GroupFits, IsNoMore, OccupantFits, PlanFits, StageFits}
@@ -165,25 +165,35 @@ module _ {V S C E : Type 0} (Own : Occupants → Access ResourceId → List (Dee
         Turn s stage part told = (a : Answer (StageFault E)) × DeepStageTurn Own (inside_at all s) stage part a × (told ≡ tells s a)
 
 module _ {V S C E : Type 0} (kind : V → Kind) (related : Related V S C E) where
-  occupant-inside : (InnerFits : model.Plan ResourceId → Type 0) (Inner : model.Plan ResourceId → List (DeepRecord V S C E) → Answer (StageFault E) → Type 0) (In : model.Plan ResourceId → Agent → Access ResourceId → Type 0)
-      → ((plan : model.Plan ResourceId) (list : List (DeepRecord V S C E)) (a : Answer (StageFault E)) → InnerFits plan → Inner plan list a → AllByRecursion (λ r. In plan r.agent r.access) list)
-      → (occupant : Option Occupant) (access : Access ResourceId) (list : List (DeepRecord V S C E)) (o : Outcome E) → OccupantFits InnerFits occupant access → OccupantRun kind related Inner occupant access list o → AllByRecursion (λ r. InOccupant In occupant r.agent r.access) list
-  occupant-inside InnerFits Inner In inner (Some a_system) access list o fits (r, is, one) = AllByRecursion-same (λ r. InOccupant In (Some a_system) r.agent r.access) list (r ∷ []) is (subst (λ (path : Agent). InOccupant In (Some a_system) path r.access) (sym one.agent) tt, tt)
-  occupant-inside InnerFits Inner In inner (Some (a_batch control plan)) access list o fits run =
-      batch-all kind related.asks control (Inner plan) (λ r. InOccupant In (Some (a_batch control plan)) r.agent r.access)
+  occupant-inside : (Inner : model.Plan ResourceId → Agent → Access ResourceId → Type 0) (InnerFits : model.Plan ResourceId → Type 0) (Batches : Access ResourceId → model.Plan ResourceId → List (DeepRecord V S C E) → Outcome E → Type 0) (access : Access ResourceId)
+      → ((control : Access ResourceId) (plan : model.Plan ResourceId) (list : List (DeepRecord V S C E)) (o : Outcome E) → OccupantFits InnerFits (Some (a_batch control plan)) access → Batches control plan list o → AllByRecursion (λ r. InOccupant Inner (Some (a_batch control plan)) r.agent r.access) list)
+      → (occupant : Option Occupant) (list : List (DeepRecord V S C E)) (o : Outcome E) → OccupantFits InnerFits occupant access → OccupantRun kind related Batches occupant access list o → AllByRecursion (λ r. InOccupant Inner occupant r.agent r.access) list
+  occupant-inside Inner InnerFits Batches access batch (Some a_system) list o fits (r, is, one) =
+      AllByRecursion-same (λ r. InOccupant Inner (Some a_system) r.agent r.access) list (r ∷ []) is (subst (λ (path : Agent). InOccupant Inner (Some a_system) path r.access) (sym one.agent) tt, tt)
+  occupant-inside Inner InnerFits Batches access batch (Some (a_batch control plan)) list o fits run = batch control plan list o fits run
+  occupant-inside Inner InnerFits Batches access batch None list o fits run = absurd run
+
+  batch-inside : (Inner : List (DeepRecord V S C E) → Answer (StageFault E) → Type 0) (control : Access ResourceId) (plan : model.Plan ResourceId) (In : model.Plan ResourceId → Agent → Access ResourceId → Type 0) → All (AreApart model.group_access) plan
+      → ((list : List (DeepRecord V S C E)) (a : Answer (StageFault E)) → Inner list a → AllByRecursion (λ r. In plan r.agent r.access) list)
+      → (list : List (DeepRecord V S C E)) (o : Outcome E) → DeepBatchRun kind related.asks control Inner related.begins list o → AllByRecursion (λ r. InOccupant In (Some (a_batch control plan)) r.agent r.access) list
+  batch-inside Inner control plan In apart inner list o run =
+      batch-all kind related.asks control Inner (λ r. InOccupant In (Some (a_batch control plan)) r.agent r.access)
       (λ A relation tells answer r one. subst (λ (path : Agent). InOccupant In (Some (a_batch control plan)) path r.access) (sym one.agent) tt)
-      (λ part a round. AllByRecursion-weaker (λ r. In plan r.agent r.access) (λ r. InOccupant In (Some (a_batch control plan)) r.agent r.access) (λ r h. deeper r.agent r.access h) part (inner plan part a fits.3 round))
+      (λ part a round. AllByRecursion-weaker (λ r. In plan r.agent r.access) (λ r. InOccupant In (Some (a_batch control plan)) r.agent r.access) (λ r h. deeper r.agent r.access h) part (inner part a round))
       related.begins list o run where
         deeper : (path : Agent) (x : Access ResourceId) → In plan path x → InOccupant In (Some (a_batch control plan)) path x
         deeper [] x h = tt
-        deeper (k ∷ path) x h = (fits.2, h)
-  occupant-inside InnerFits Inner In inner None access list o fits run = absurd run
+        deeper (k ∷ path) x h = (apart, h)
 
   deep-inside : (depth : ℕ) (all : Occupants) (access : Access ResourceId) (list : List (DeepRecord V S C E)) (o : Outcome E) → Fits depth all access → DeepRun kind related depth all access list o → AllByRecursion (λ r. Inside depth all r.agent r.access) list
   unfolding DeepRun Fits Inside
-  deep-inside zero all access list o fits run = occupant-inside (λ plan. Unit {0}) (λ plan part a. ⊥) (λ plan inner x. ⊥) (λ plan part a fit none. absurd none) (all []) access list o fits run
-  deep-inside (suc less) all access list o fits run = occupant-inside (PlanFits (Fits less) all) (DeepPlanRun (DeepRun kind related less) (λ place answer. answer) all) (InPlan (Inside less) all)
-      (plan-inside (DeepRun kind related less) (Fits less) (deep_within kind related less) (Inside less) (deep-inside less) (λ place answer. answer) all) (all []) access list o fits run
+  deep-inside zero all access list o fits run = occupant-inside (λ plan inner x. ⊥) (λ plan. Unit {0}) (λ control plan part x. ⊥) access (λ control plan part x fit none. absurd none) (all []) list o fits run
+  deep-inside (suc less) all access list o fits run = occupant-inside (InPlan (Inside less) all) (PlanFits (Fits less) all) (λ control plan. DeepBatchRun kind related.asks control (Inner plan) related.begins) access
+      (λ control plan part x fit ran. batch-inside (Inner plan) control plan (InPlan (Inside less) all) fit.2
+      (λ round a inner. plan-inside (DeepRun kind related less) (Fits less) (deep_within kind related less) (Inside less) (deep-inside less) (λ place answer. answer) all plan round a fit.3 inner) part x ran)
+      (all []) list o fits run where
+        Inner : model.Plan ResourceId → List (DeepRecord V S C E) → Answer (StageFault E) → Type 0
+        Inner = DeepPlanRun (DeepRun kind related less) (λ place answer. answer) all
 
   -- Any two records of a plan's run, of agents inside different groups of one stage, are independent, where the groups of each stage of the plan do not conflict.
   pub parallel-independent : (depth : ℕ) {F : Type 0} (tells : ℕ → Answer (StageFault E) → Answer F) (all : Occupants) (plan : model.Plan ResourceId) (list : List (DeepRecord V S C E)) (answer : Answer F) → All (AreApart model.group_access) plan → PlanFits (Fits depth) all plan → DeepPlanRun (DeepRun kind related depth) tells all plan list answer

@@ -70,22 +70,24 @@ module _ {V S C E : Type 0} where
     batch-all begins list o (r, Err fault, one, (is, end)) = AllByRecursion-same P list (r ∷ []) is (call ℕ begins at_most (Err fault) r one, tt)
 
 module _ {V S C E : Type 0} (kind : V → Kind) (related : Related V S C E) where
-  occupant_within : (InnerFits : model.Plan ResourceId → Type 0) (Inner : model.Plan ResourceId → List (DeepRecord V S C E) → Answer (StageFault E) → Type 0)
-      → ((plan : model.Plan ResourceId) (list : List (DeepRecord V S C E)) (a : Answer (StageFault E)) → InnerFits plan → Inner plan list a → AllByRecursion (IsWithin (plan_access plan)) list)
-      → (occupant : Option Occupant) (access : Access ResourceId) (list : List (DeepRecord V S C E)) (o : Outcome E) → OccupantFits InnerFits occupant access → OccupantRun kind related Inner occupant access list o → AllByRecursion (IsWithin access) list
-  occupant_within InnerFits Inner within (Some a_system) access list o fits (r, is, one) =
+  occupant_within : (InnerFits : model.Plan ResourceId → Type 0) (Batches : Access ResourceId → model.Plan ResourceId → List (DeepRecord V S C E) → Outcome E → Type 0) (access : Access ResourceId)
+      → ((control : Access ResourceId) (plan : model.Plan ResourceId) (list : List (DeepRecord V S C E)) (o : Outcome E) → OccupantFits InnerFits (Some (a_batch control plan)) access → Batches control plan list o → AllByRecursion (IsWithin access) list)
+      → (occupant : Option Occupant) (list : List (DeepRecord V S C E)) (o : Outcome E) → OccupantFits InnerFits occupant access → OccupantRun kind related Batches occupant access list o → AllByRecursion (IsWithin access) list
+  occupant_within InnerFits Batches access batch (Some a_system) list o fits (r, is, one) =
       AllByRecursion-same (IsWithin access) list (r ∷ []) is (step-within kind related.steps of_system (λ done. is_done) access access o r (record { declared = λ id d. d; written = λ id w. w }) one, tt)
-  occupant_within InnerFits Inner within (Some (a_batch control plan)) access list o fits run =
-      batch-all kind related.asks control (Inner plan) (IsWithin access) (λ A relation tells answer r one. step-within kind relation of_controller tells access control answer r fits.0 one)
-      (λ part a inner. wider (plan_access plan) access fits.1 part (within plan part a fits.3 inner)) related.begins list o run
-  occupant_within InnerFits Inner within None access list o fits run = absurd run
+  occupant_within InnerFits Batches access batch (Some (a_batch control plan)) list o fits run = batch control plan list o fits run
+  occupant_within InnerFits Batches access batch None list o fits run = absurd run
 
   -- the records of a run of what fits an access keep within it
   pub deep_within : (depth : ℕ) (occupants : Occupants) (access : Access ResourceId) (list : List (DeepRecord V S C E)) (o : Outcome E) → Fits depth occupants access → DeepRun kind related depth occupants access list o → AllByRecursion (IsWithin access) list
   unfolding DeepRun Fits
-  deep_within zero occupants access list o fits run = occupant_within (λ plan. Unit {0}) (λ plan part a. ⊥) (λ plan part a fit none. absurd none) (occupants []) access list o fits run
-  deep_within (suc less) occupants access list o fits run = occupant_within (PlanFits (Fits less) occupants) (DeepPlanRun (DeepRun kind related less) (λ place answer. answer) occupants)
-      (plan_within (DeepRun kind related less) (Fits less) (deep_within less) (λ place answer. answer) occupants) (occupants []) access list o fits run
+  deep_within zero occupants access list o fits run = occupant_within (λ plan. Unit {0}) (λ control plan part x. ⊥) access (λ control plan part x fit none. absurd none) (occupants []) list o fits run
+  deep_within (suc less) occupants access list o fits run = occupant_within (PlanFits (Fits less) occupants) (λ control plan. DeepBatchRun kind related.asks control (Inner plan) related.begins) access
+      (λ control plan part x fit ran. batch-all kind related.asks control (Inner plan) (IsWithin access) (λ A relation tells answer r one. step-within kind relation of_controller tells access control answer r fit.0 one)
+      (λ round a inner. wider (plan_access plan) access fit.1 round (plan_within (DeepRun kind related less) (Fits less) (deep_within less) (λ place answer. answer) occupants plan round a fit.3 inner)) related.begins part x ran)
+      (occupants []) list o fits run where
+        Inner : model.Plan ResourceId → List (DeepRecord V S C E) → Answer (StageFault E) → Type 0
+        Inner = DeepPlanRun (DeepRun kind related less) (λ place answer. answer) occupants
 
 -- records within an access change only written values
 pub within-framed : {I V S O : Type 0} (access : Access I) (list : List (Record Agent I V S O)) → AllByRecursion (IsWithin access) list → AllFramed list

@@ -24,7 +24,7 @@ use Rattle.shred_batch.specs.declared.work.Tier.{Tier}
 use Rattle.shred_batch.specs.declared.work.Work.{Work}
 use Rattle.shred_batch.specs.declared.work.Work.TheVariants.{System, Batch}
 use Rattle.shred_paths.specs.DeepRecords.{DeepRecord, is_done, deep_outcome}
-use Rattle.shred_paths.specs.DeepRuns.{DeepPlanRun, DeepStageTurn, DeepRun, OccupantRun}
+use Rattle.shred_paths.specs.DeepRuns.{DeepBatchRun, DeepPlanRun, DeepStageTurn, DeepRun, OccupantRun}
 use Rattle.shred_paths.specs.Occupants.{AgentState, Occupants, a_batch, a_system, inside_each, of_controller, of_system, by_path, work_occupants, work_states}
 use Rattle.shred_paths.proofs.Batches.{batch-opened, replays-beside}
 use Rattle.shred_paths.proofs.Fits.{Fits, PlanFits, StageFits}
@@ -121,10 +121,11 @@ module _ {V S C E : Type 0} (kind : V → Kind) (related : Related V S C E) wher
   as_record depth over access r one fits =
       over access r.before r.after r.seen r.outcome r.left one.lies one.sees_only one.keeps_kinds (λ id out. one.frame id (λ w. out (subst (λ (x : Access ResourceId). Contains x.writes id) one.declared w))) fits
 
-  system-opened : (access : Access ResourceId) (s t : S) (m : Held V) (o : Outcome E) (n : Held V) → related.steps s m o t n
+  -- a system's step is its run, whatever the runs of batches are
+  system-opened : (Batches : Access ResourceId → model.Plan ResourceId → List (DeepRecord V S C E) → Outcome E → Type 0) (access : Access ResourceId) (s t : S) (m : Held V) (o : Outcome E) (n : Held V) → related.steps s m o t n
       → ((id : ResourceId) → (Declares access id → ⊥) → m id ≡ None) → ((id : ResourceId) → option_map kind (n id) ≡ option_map kind (m id)) → ((id : ResourceId) → (Contains access.writes id → ⊥) → n id ≡ m id)
-      → Ran (OccupantRun kind related (λ plan part answer. ⊥) (Some a_system) access) (configuration_of (own_state (of_system s)) m) o (configuration_of (own_state (of_system t)) n)
-  system-opened access s t m o n lies sees kinds frame = Ran-one (OccupantRun kind related (λ plan part answer. ⊥) (Some a_system) access) (configuration_of (own_state (of_system s)) m) o (configuration_of (own_state (of_system t)) n) r
+      → Ran (OccupantRun kind related Batches (Some a_system) access) (configuration_of (own_state (of_system s)) m) o (configuration_of (own_state (of_system t)) n)
+  system-opened Batches access s t m o n lies sees kinds frame = Ran-one (OccupantRun kind related Batches (Some a_system) access) (configuration_of (own_state (of_system s)) m) o (configuration_of (own_state (of_system t)) n) r
       (r, refl, record { agent = refl; declared = refl; outcome = refl; lies = (s, t, refl, refl, lies); sees_only = sees; keeps_kinds = kinds; frame = frame })
       (Goes-alone r m n refl (λ id d. refl) (λ id d. refl) (λ id out. frame id (λ w. out (inr w)))) where
         r : DeepRecord V S C E
@@ -132,8 +133,9 @@ module _ {V S C E : Type 0} (kind : V → Kind) (related : Related V S C E) wher
 
   expand_over : (depth : ℕ) → ExpandsOver depth
   unfolding WorkStep DeepRun Fits by_path
-  expand_over zero access (System s) (System t) m o n lies sees kinds frame fits = system-opened access s t m o n lies sees kinds frame
-  expand_over (suc less) access (System s) (System t) m o n lies sees kinds frame fits = system-opened access s t m o n lies sees kinds frame
+  expand_over zero access (System s) (System t) m o n lies sees kinds frame fits = system-opened (λ control plan part outcome. ⊥) access s t m o n lies sees kinds frame
+  expand_over (suc less) access (System s) (System t) m o n lies sees kinds frame fits =
+      system-opened (λ control plan. DeepBatchRun kind related.asks control (DeepPlanRun (DeepRun kind related less) (λ place answer. answer) (work_occupants {V = V} {S = S} {C = C} (System s)) plan) related.begins) access s t m o n lies sees kinds frame
   expand_over zero access (System s) (Batch t) m o n lies sees kinds frame fits = absurd lies
   expand_over (suc less) access (System s) (Batch t) m o n lies sees kinds frame fits = absurd lies
   expand_over zero access (Batch s) (System t) m o n lies sees kinds frame fits = absurd lies

@@ -53,13 +53,14 @@ module _ {V S C E : Type 0} (kind : V → Kind) (asks : Control V C Bool E) (acc
       × MatchResult bound (λ most. (others : List (DeepRecord V S C E)) × (list ≡ r ∷ others) × DeepRounds most others outcome) (λ fault. (list ≡ r ∷ []) × (outcome ≡ Err fault))
 
 module _ {V S C E : Type 0} (kind : V → Kind) (related : Related V S C E) where
-  -- a run of one occupant: of a system, one step under the entry's access; of a batch, a batch run, with the runs of its inner plan that are given
-  abbrev pub OccupantRun : (model.Plan ResourceId → List (DeepRecord V S C E) → Answer (StageFault E) → Type 0) → Option Occupant → Access ResourceId → List (DeepRecord V S C E) → Outcome E → Type 0
-  OccupantRun Inner (Some a_system) access list outcome = (r : DeepRecord V S C E) × (list ≡ r ∷ []) × IsDeepStep kind related.steps of_system (λ done. is_done) access outcome r
-  OccupantRun Inner (Some (a_batch control plan)) access list outcome = DeepBatchRun kind related.asks control (Inner plan) related.begins list outcome
-  OccupantRun Inner None access list outcome = ⊥
+  -- a run of one occupant: of a system, one step under the entry's access; of a batch, with what its controller may touch and its inner plan, one of the runs of batches that are given
+  abbrev pub OccupantRun : (Access ResourceId → model.Plan ResourceId → List (DeepRecord V S C E) → Outcome E → Type 0) → Option Occupant → Access ResourceId → List (DeepRecord V S C E) → Outcome E → Type 0
+  OccupantRun Batches (Some a_system) access list outcome = (r : DeepRecord V S C E) × (list ≡ r ∷ []) × IsDeepStep kind related.steps of_system (λ done. is_done) access outcome r
+  OccupantRun Batches (Some (a_batch control plan)) access list outcome = Batches control plan list outcome
+  OccupantRun Batches None access list outcome = ⊥
 
-  -- a run of what stands in an entry; the runs of a batch's inner plan are those in which batches nest less deep
+  -- A run of what stands in an entry, where batches nest to a depth. A batch has none at depth zero; deeper its inner plan's runs are those in which batches nest less deep.
   unfoldable pub DeepRun : ℕ → Occupants → Access ResourceId → List (DeepRecord V S C E) → Outcome E → Type 0
-  DeepRun zero occupants access list outcome = OccupantRun (λ plan part answer. ⊥) (occupants []) access list outcome
-  DeepRun (suc less) occupants access list outcome = OccupantRun (DeepPlanRun (DeepRun less) (λ place answer. answer) occupants) (occupants []) access list outcome
+  DeepRun zero occupants access list outcome = OccupantRun (λ control plan part o. ⊥) (occupants []) access list outcome
+  DeepRun (suc less) occupants access list outcome =
+      OccupantRun (λ control plan. DeepBatchRun kind related.asks control (DeepPlanRun (DeepRun less) (λ place answer. answer) occupants plan) related.begins) (occupants []) access list outcome

@@ -16,13 +16,13 @@ use Rattle.shred_table.specs.declared.id.ResourceId.{ResourceId}
 use Rattle.shred_group.specs.declared.dispatch.run.StageFault.{StageFault}
 use Rattle.shred_group.specs.Steps.{Outcome}
 use Rattle.shred_batch.specs.Depths.{Related}
-use Rattle.shred_paths.specs.DeepRecords.{DeepRecord}
-use Rattle.shred_paths.specs.DeepRuns.{DeepBatchRun, DeepEntryRun, DeepGroupRun, DeepPlanRun, DeepRun, DeepStageTurn, OccupantRun}
+use Rattle.shred_paths.specs.NestedRecords.{NestedRecord}
+use Rattle.shred_paths.specs.NestedRuns.{NestedBatchRun, NestedEntryRun, NestedGroupRun, NestedPlanRun, NestedRun, NestedStageTurn, OccupantRun}
 use Rattle.shred_paths.specs.Occupants.{Occupant, Occupants, a_batch, a_system, inside_at}
-use Rattle.shred_paths.specs.Parallel.{AreParallel, IsDeepInterleaving}
+use Rattle.shred_paths.specs.Parallel.{AreParallel, IsNestedInterleaving}
 use Rattle.shred_paths.proofs.Fits.{EntryFits, Fits, GroupFits, IsNoMore, OccupantFits, PlanFits, StageFits}
 use Rattle.shred_paths.proofs.Opened.Runs.{EachAt, With, Each-with, RunsEach-each, RunsUpToFault-each, UpToFault-with}
-use Rattle.shred_paths.proofs.Within.{batch-all, deep_within, group_within}
+use Rattle.shred_paths.proofs.Within.{batch-all, nested_within, group_within}
 
 -- each element is at its place
 module _ {Y : Type 0} (d : Y) where
@@ -132,27 +132,27 @@ unfolding Inside
 inside-apart zero all = occupant-apart (λ plan inner x. ⊥) (λ plan apart a b x y one two parallel c. one) (all [])
 inside-apart (suc less) all = occupant-apart (InPlan (Inside less) all) (λ plan apart. plan-apart (Inside less) (inside-apart less) all plan apart) (all [])
 
-module _ {V S C E : Type 0} (Own : Occupants → Access ResourceId → List (DeepRecord V S C E) → Outcome E → Type 0) (Fits : Occupants → Access ResourceId → Type 0)
-    (own-within : (occupants : Occupants) (access : Access ResourceId) (list : List (DeepRecord V S C E)) (o : Outcome E) → Fits occupants access → Own occupants access list o → AllByRecursion (IsWithin access) list)
-    (Inside : Occupants → Agent → Access ResourceId → Type 0) (own-inside : (occupants : Occupants) (access : Access ResourceId) (list : List (DeepRecord V S C E)) (o : Outcome E) → Fits occupants access → Own occupants access list o → AllByRecursion (λ r. Inside occupants r.agent r.access) list) where
-  group-inside : (all : Occupants) (n : ℕ) (group : model.Group ResourceId) (list : List (DeepRecord V S C E)) (a : Answer (StageFault E)) → With (GroupFits Fits all) (DeepGroupRun Own all) n group list a → AllByRecursion (λ r. InGroup Inside (inside_at all n) r.agent r.access) list
-  group-inside all n group list a (fits, run) = RunsUpToFault-each (With (EntryFits Fits (inside_at all n)) (DeepEntryRun Own (inside_at all n))) (λ r. InGroup Inside (inside_at all n) r.agent r.access)
+module _ {V S C E : Type 0} (Own : Occupants → Access ResourceId → List (NestedRecord V S C E) → Outcome E → Type 0) (Fits : Occupants → Access ResourceId → Type 0)
+    (own-within : (occupants : Occupants) (access : Access ResourceId) (list : List (NestedRecord V S C E)) (o : Outcome E) → Fits occupants access → Own occupants access list o → AllByRecursion (IsWithin access) list)
+    (Inside : Occupants → Agent → Access ResourceId → Type 0) (own-inside : (occupants : Occupants) (access : Access ResourceId) (list : List (NestedRecord V S C E)) (o : Outcome E) → Fits occupants access → Own occupants access list o → AllByRecursion (λ r. Inside occupants r.agent r.access) list) where
+  group-inside : (all : Occupants) (n : ℕ) (group : model.Group ResourceId) (list : List (NestedRecord V S C E)) (a : Answer (StageFault E)) → With (GroupFits Fits all) (NestedGroupRun Own all) n group list a → AllByRecursion (λ r. InGroup Inside (inside_at all n) r.agent r.access) list
+  group-inside all n group list a (fits, run) = RunsUpToFault-each (With (EntryFits Fits (inside_at all n)) (NestedEntryRun Own (inside_at all n))) (λ r. InGroup Inside (inside_at all n) r.agent r.access)
       (λ m entry part b turn. own-inside (inside_at (inside_at all n) m) entry.access part turn.1.0 turn.0 turn.1.1) 0 group list a
-      (UpToFault-with (EntryFits Fits (inside_at all n)) (DeepEntryRun Own (inside_at all n)) 0 group list a fits run)
+      (UpToFault-with (EntryFits Fits (inside_at all n)) (NestedEntryRun Own (inside_at all n)) 0 group list a fits run)
 
-  turn-inside : (all : Occupants) (stage : model.Stage ResourceId) (list : List (DeepRecord V S C E)) (a : Answer (StageFault E)) → StageFits Fits all stage → DeepStageTurn Own all stage list a → AllByRecursion (λ r. InStage Inside all stage r.agent r.access) list
+  turn-inside : (all : Occupants) (stage : model.Stage ResourceId) (list : List (NestedRecord V S C E)) (a : Answer (StageFault E)) → StageFits Fits all stage → NestedStageTurn Own all stage list a → AllByRecursion (λ r. InStage Inside all stage r.agent r.access) list
   turn-inside all stage list a fits (inl run) =
-      RunsEach-each (With (λ g group. GroupFits Fits all g group × IsAt [] stage g group) (DeepGroupRun Own all)) (λ r. InStage Inside all stage r.agent r.access)
+      RunsEach-each (With (λ g group. GroupFits Fits all g group × IsAt [] stage g group) (NestedGroupRun Own all)) (λ r. InStage Inside all stage r.agent r.access)
       (λ g group part b turn.
       let both = AllByRecursion-both _ _ part (group_within Own Fits own-within all g group part b (turn.0.0, turn.1)) (group-inside all g group part b (turn.0.0, turn.1)) in
       AllByRecursion-weaker _ (λ r. InStage Inside all stage (g ∷ r.agent) r.access)
       (λ r h. (turn.0.1.0, subst (λ (x : model.Group ResourceId). IsNoMore (model.group_access x) r.access) (sym turn.0.1.1) (record { declared = h.0.declared; written = h.0.written }), h.1)) part both)
-      0 stage list a (Each-with (λ g group. GroupFits Fits all g group × IsAt [] stage g group) (DeepGroupRun Own all) 0 stage list a (EachAt-both (GroupFits Fits all) (IsAt [] stage) 0 stage fits (each-at [] stage)) run)
+      0 stage list a (Each-with (λ g group. GroupFits Fits all g group × IsAt [] stage g group) (NestedGroupRun Own all) 0 stage list a (EachAt-both (GroupFits Fits all) (IsAt [] stage) 0 stage fits (each-at [] stage)) run)
   turn-inside all stage list a fits (inr refused) = AllByRecursion-same (λ r. InStage Inside all stage r.agent r.access) list [] refused.0 tt
 
-  plan-inside : {F : Type 0} (tells : ℕ → Answer (StageFault E) → Answer F) (all : Occupants) (plan : model.Plan ResourceId) (list : List (DeepRecord V S C E)) (answer : Answer F) → PlanFits Fits all plan → DeepPlanRun Own tells all plan list answer
+  plan-inside : {F : Type 0} (answers : ℕ → Answer (StageFault E) → Answer F) (all : Occupants) (plan : model.Plan ResourceId) (list : List (NestedRecord V S C E)) (answer : Answer F) → PlanFits Fits all plan → NestedPlanRun Own answers all plan list answer
       → AllByRecursion (λ r. InPlan Inside all plan r.agent r.access) list
-  plan-inside {F} tells all plan list answer fits run =
+  plan-inside {F} answers all plan list answer fits run =
       RunsUpToFault-each (With Of Turn) (λ r. InPlan Inside all plan r.agent r.access)
       (λ s stage part told turn. AllByRecursion-weaker (λ r. InStage Inside (inside_at all s) stage r.agent r.access) (λ r. InPlan Inside all plan (s ∷ r.agent) r.access)
       (λ r h. (turn.0.1.0, subst (λ (x : model.Stage ResourceId). InStage Inside (inside_at all s) x r.agent r.access) (sym turn.0.1.1) h)) part
@@ -161,53 +161,53 @@ module _ {V S C E : Type 0} (Own : Occupants → Access ResourceId → List (Dee
         Of : ℕ → model.Stage ResourceId → Type 0
         Of s stage = StageFits Fits (inside_at all s) stage × IsAt [] plan s stage
 
-        Turn : ℕ → model.Stage ResourceId → List (DeepRecord V S C E) → Answer F → Type 0
-        Turn s stage part told = (a : Answer (StageFault E)) × DeepStageTurn Own (inside_at all s) stage part a × (told ≡ tells s a)
+        Turn : ℕ → model.Stage ResourceId → List (NestedRecord V S C E) → Answer F → Type 0
+        Turn s stage part told = (a : Answer (StageFault E)) × NestedStageTurn Own (inside_at all s) stage part a × (told ≡ answers s a)
 
 module _ {V S C E : Type 0} (kind : V → Kind) (related : Related V S C E) where
-  occupant-inside : (Inner : model.Plan ResourceId → Agent → Access ResourceId → Type 0) (InnerFits : model.Plan ResourceId → Type 0) (Batches : Access ResourceId → model.Plan ResourceId → List (DeepRecord V S C E) → Outcome E → Type 0) (access : Access ResourceId)
-      → ((control : Access ResourceId) (plan : model.Plan ResourceId) (list : List (DeepRecord V S C E)) (o : Outcome E) → OccupantFits InnerFits (Some (a_batch control plan)) access → Batches control plan list o → AllByRecursion (λ r. InOccupant Inner (Some (a_batch control plan)) r.agent r.access) list)
-      → (occupant : Option Occupant) (list : List (DeepRecord V S C E)) (o : Outcome E) → OccupantFits InnerFits occupant access → OccupantRun kind related Batches occupant access list o → AllByRecursion (λ r. InOccupant Inner occupant r.agent r.access) list
+  occupant-inside : (Inner : model.Plan ResourceId → Agent → Access ResourceId → Type 0) (InnerFits : model.Plan ResourceId → Type 0) (Batches : Access ResourceId → model.Plan ResourceId → List (NestedRecord V S C E) → Outcome E → Type 0) (access : Access ResourceId)
+      → ((control : Access ResourceId) (plan : model.Plan ResourceId) (list : List (NestedRecord V S C E)) (o : Outcome E) → OccupantFits InnerFits (Some (a_batch control plan)) access → Batches control plan list o → AllByRecursion (λ r. InOccupant Inner (Some (a_batch control plan)) r.agent r.access) list)
+      → (occupant : Option Occupant) (list : List (NestedRecord V S C E)) (o : Outcome E) → OccupantFits InnerFits occupant access → OccupantRun kind related Batches occupant access list o → AllByRecursion (λ r. InOccupant Inner occupant r.agent r.access) list
   occupant-inside Inner InnerFits Batches access batch (Some a_system) list o fits (r, is, one) =
       AllByRecursion-same (λ r. InOccupant Inner (Some a_system) r.agent r.access) list (r ∷ []) is (subst (λ (path : Agent). InOccupant Inner (Some a_system) path r.access) (sym one.agent) tt, tt)
   occupant-inside Inner InnerFits Batches access batch (Some (a_batch control plan)) list o fits run = batch control plan list o fits run
   occupant-inside Inner InnerFits Batches access batch None list o fits run = absurd run
 
-  batch-inside : (Inner : List (DeepRecord V S C E) → Answer (StageFault E) → Type 0) (control : Access ResourceId) (plan : model.Plan ResourceId) (In : model.Plan ResourceId → Agent → Access ResourceId → Type 0) → All (AreApart model.group_access) plan
-      → ((list : List (DeepRecord V S C E)) (a : Answer (StageFault E)) → Inner list a → AllByRecursion (λ r. In plan r.agent r.access) list)
-      → (list : List (DeepRecord V S C E)) (o : Outcome E) → DeepBatchRun kind related.asks control Inner related.begins list o → AllByRecursion (λ r. InOccupant In (Some (a_batch control plan)) r.agent r.access) list
+  batch-inside : (Inner : List (NestedRecord V S C E) → Answer (StageFault E) → Type 0) (control : Access ResourceId) (plan : model.Plan ResourceId) (In : model.Plan ResourceId → Agent → Access ResourceId → Type 0) → All (AreApart model.group_access) plan
+      → ((list : List (NestedRecord V S C E)) (a : Answer (StageFault E)) → Inner list a → AllByRecursion (λ r. In plan r.agent r.access) list)
+      → (list : List (NestedRecord V S C E)) (o : Outcome E) → NestedBatchRun kind related.asks control Inner related.begins list o → AllByRecursion (λ r. InOccupant In (Some (a_batch control plan)) r.agent r.access) list
   batch-inside Inner control plan In apart inner list o run =
       batch-all kind related.asks control Inner (λ r. InOccupant In (Some (a_batch control plan)) r.agent r.access)
-      (λ A relation tells answer r one. subst (λ (path : Agent). InOccupant In (Some (a_batch control plan)) path r.access) (sym one.agent) tt)
+      (λ A relation reply answer r one. subst (λ (path : Agent). InOccupant In (Some (a_batch control plan)) path r.access) (sym one.agent) tt)
       (λ part a round. AllByRecursion-weaker (λ r. In plan r.agent r.access) (λ r. InOccupant In (Some (a_batch control plan)) r.agent r.access) (λ r h. deeper r.agent r.access h) part (inner part a round))
       related.begins list o run where
         deeper : (path : Agent) (x : Access ResourceId) → In plan path x → InOccupant In (Some (a_batch control plan)) path x
         deeper [] x h = tt
         deeper (k ∷ path) x h = (apart, h)
 
-  deep-inside : (depth : ℕ) (all : Occupants) (access : Access ResourceId) (list : List (DeepRecord V S C E)) (o : Outcome E) → Fits depth all access → DeepRun kind related depth all access list o → AllByRecursion (λ r. Inside depth all r.agent r.access) list
-  unfolding DeepRun Fits Inside
-  deep-inside zero all access list o fits run = occupant-inside (λ plan inner x. ⊥) (λ plan. Unit {0}) (λ control plan part x. ⊥) access (λ control plan part x fit none. absurd none) (all []) list o fits run
-  deep-inside (suc less) all access list o fits run = occupant-inside (InPlan (Inside less) all) (PlanFits (Fits less) all) (λ control plan. DeepBatchRun kind related.asks control (Inner plan) related.begins) access
+  nested-inside : (depth : ℕ) (all : Occupants) (access : Access ResourceId) (list : List (NestedRecord V S C E)) (o : Outcome E) → Fits depth all access → NestedRun kind related depth all access list o → AllByRecursion (λ r. Inside depth all r.agent r.access) list
+  unfolding NestedRun Fits Inside
+  nested-inside zero all access list o fits run = occupant-inside (λ plan inner x. ⊥) (λ plan. Unit {0}) (λ control plan part x. ⊥) access (λ control plan part x fit none. absurd none) (all []) list o fits run
+  nested-inside (suc less) all access list o fits run = occupant-inside (InPlan (Inside less) all) (PlanFits (Fits less) all) (λ control plan. NestedBatchRun kind related.asks control (Inner plan) related.begins) access
       (λ control plan part x fit ran. batch-inside (Inner plan) control plan (InPlan (Inside less) all) fit.2
-      (λ round a inner. plan-inside (DeepRun kind related less) (Fits less) (deep_within kind related less) (Inside less) (deep-inside less) (λ place answer. answer) all plan round a fit.3 inner) part x ran)
+      (λ round a inner. plan-inside (NestedRun kind related less) (Fits less) (nested_within kind related less) (Inside less) (nested-inside less) (λ place answer. answer) all plan round a fit.3 inner) part x ran)
       (all []) list o fits run where
-        Inner : model.Plan ResourceId → List (DeepRecord V S C E) → Answer (StageFault E) → Type 0
-        Inner = DeepPlanRun (DeepRun kind related less) (λ place answer. answer) all
+        Inner : model.Plan ResourceId → List (NestedRecord V S C E) → Answer (StageFault E) → Type 0
+        Inner = NestedPlanRun (NestedRun kind related less) (λ place answer. answer) all
 
   -- Any two records of a plan's run, of agents inside different groups of one stage, are independent, where the groups of each stage of the plan do not conflict.
-  pub parallel-independent : (depth : ℕ) {F : Type 0} (tells : ℕ → Answer (StageFault E) → Answer F) (all : Occupants) (plan : model.Plan ResourceId) (list : List (DeepRecord V S C E)) (answer : Answer F) → All (AreApart model.group_access) plan → PlanFits (Fits depth) all plan → DeepPlanRun (DeepRun kind related depth) tells all plan list answer
-      → (j k : ℕ) (r q : DeepRecord V S C E) → slice_get list j ≡ Some r → slice_get list k ≡ Some q → AreParallel r.agent q.agent → Independent r q
-  parallel-independent depth tells all plan list answer apart fits run j k r q at_j at_k parallel =
-      let within = plan-inside (DeepRun kind related depth) (Fits depth) (deep_within kind related depth) (Inside depth) (deep-inside depth) tells all plan list answer fits run in
-      let In = λ (p : DeepRecord V S C E). InPlan (Inside depth) all plan p.agent p.access in
+  pub parallel-independent : (depth : ℕ) {F : Type 0} (answers : ℕ → Answer (StageFault E) → Answer F) (all : Occupants) (plan : model.Plan ResourceId) (list : List (NestedRecord V S C E)) (answer : Answer F) → All (AreApart model.group_access) plan → PlanFits (Fits depth) all plan → NestedPlanRun (NestedRun kind related depth) answers all plan list answer
+      → (j k : ℕ) (r q : NestedRecord V S C E) → slice_get list j ≡ Some r → slice_get list k ≡ Some q → AreParallel r.agent q.agent → Independent r q
+  parallel-independent depth answers all plan list answer apart fits run j k r q at_j at_k parallel =
+      let within = plan-inside (NestedRun kind related depth) (Fits depth) (nested_within kind related depth) (Inside depth) (nested-inside depth) answers all plan list answer fits run in
+      let In = λ (p : NestedRecord V S C E). InPlan (Inside depth) all plan p.agent p.access in
       (differ r.agent q.agent parallel, plan-apart (Inside depth) (inside-apart depth) all plan apart r.agent q.agent r.access q.access (All-at In list j r within at_j) (All-at In list k q within at_k) parallel)
 
   -- so an interleaving of them keeps the records that are not independent the same way round
-  pub interleaving-equivalent : (depth : ℕ) {F : Type 0} (tells : ℕ → Answer (StageFault E) → Answer F) (all : Occupants) (plan : model.Plan ResourceId) (list moved : List (DeepRecord V S C E)) (from : ℕ → ℕ) (answer : Answer F)
-      → All (AreApart model.group_access) plan → PlanFits (Fits depth) all plan → DeepPlanRun (DeepRun kind related depth) tells all plan list answer → IsDeepInterleaving list moved from → IsConflictEquivalent list moved from
-  interleaving-equivalent depth tells all plan list moved from answer apart fits run h = record {
+  pub interleaving-equivalent : (depth : ℕ) {F : Type 0} (answers : ℕ → Answer (StageFault E) → Answer F) (all : Occupants) (plan : model.Plan ResourceId) (list moved : List (NestedRecord V S C E)) (from : ℕ → ℕ) (answer : Answer F)
+      → All (AreApart model.group_access) plan → PlanFits (Fits depth) all plan → NestedPlanRun (NestedRun kind related depth) answers all plan list answer → IsNestedInterleaving list moved from → IsConflictEquivalent list moved from
+  interleaving-equivalent depth answers all plan list moved from answer apart fits run h = record {
     order = h.order;
     kept = λ j k r q lt below at_j at_k bound. h.kept j k r q lt below at_j at_k (λ parallel.
-        bound (parallel-independent depth tells all plan list answer apart fits run (from j) (from k) r q (sym (h.order.is j (omega (arith, lt, below))) ∙ at_j) (sym (h.order.is k below) ∙ at_k) parallel));
+        bound (parallel-independent depth answers all plan list answer apart fits run (from j) (from k) r q (sym (h.order.is j (omega (arith, lt, below))) ∙ at_j) (sym (h.order.is k below) ∙ at_k) parallel));
   }

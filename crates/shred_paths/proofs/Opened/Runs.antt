@@ -71,19 +71,19 @@ module _ {I V X O T : Type 0} (said : X → Agent → Option T) where
 
 module _ {I V X O S P : Type 0} (states : X → Agent → Option S) where
   -- Some list is such a run, and is what the records are opened into.
-  pub record Opening {F : Type 0} (Deep : List (Record Agent I V S P) → Answer F → Type 0) (list : List (Record Agent I V X O)) (a : Answer F) : Type 0 where
+  pub record Opening {F : Type 0} (Finer : List (Record Agent I V S P) → Answer F → Type 0) (list : List (Record Agent I V X O)) (a : Answer F) : Type 0 where
     pub opened : List (Record Agent I V S P)
-    pub run : Deep opened a
+    pub run : Finer opened a
     pub opens : AreOpened states list opened
 
-  module _ {Y F : Type 0} (Run : ℕ → Y → List (Record Agent I V X O) → Answer F → Type 0) (Deep : ℕ → Y → List (Record Agent I V S P) → Answer F → Type 0) {T : Type 0} (said : X → Agent → Option T) (all : Agent → Option T)
-      (one : (n : ℕ) (y : Y) (list : List (Record Agent I V X O)) (a : Answer F) → AllByRecursion (StandsAt said (inside_at all n)) list → Run n y list a → Opening (Deep n y) list a) where
+  module _ {Y F : Type 0} (Run : ℕ → Y → List (Record Agent I V X O) → Answer F → Type 0) (Finer : ℕ → Y → List (Record Agent I V S P) → Answer F → Type 0) {T : Type 0} (said : X → Agent → Option T) (all : Agent → Option T)
+      (one : (n : ℕ) (y : Y) (list : List (Record Agent I V X O)) (a : Answer F) → AllByRecursion (StandsAt said (inside_at all n)) list → Run n y list a → Opening (Finer n y) list a) where
     joined : (n : ℕ) (list first others : List (Record Agent I V X O)) (os ps : List (Record Agent I V S P)) → list ≡ map (under n) first ++ others → AreOpened states first os → AreOpened states others ps → AreOpened states list (map (under n) os ++ ps)
     joined n list first others os ps is opens also = subst (λ (l : List (Record Agent I V X O)). AreOpened states l (map (under n) os ++ ps)) (sym is)
         (AreOpened-append states (map (under n) first) others (map (under n) os) ps (AreOpened-under states n first os opens) also)
 
     -- a run up to the first fault
-    pub UpToFault-opened : (n : ℕ) (ys : List Y) (list : List (Record Agent I V X O)) (a : Answer F) → AllByRecursion (StandsAt said all) list → RunsUpToFault Run n ys list a → Opening (RunsUpToFault Deep n ys) list a
+    pub UpToFault-opened : (n : ℕ) (ys : List Y) (list : List (Record Agent I V X O)) (a : Answer F) → AllByRecursion (StandsAt said all) list → RunsUpToFault Run n ys list a → Opening (RunsUpToFault Finer n ys) list a
     UpToFault-opened n [] list a stand (is, end) = record { opened = []; run = (refl, end); opens = AreOpened-none states list [] is refl }
     UpToFault-opened n (y ∷ ys) list a stand (first, Ok done, run, (others, is, more)) =
         let parts = split (StandsAt said all) n first others list is stand in
@@ -96,7 +96,7 @@ module _ {I V X O S P : Type 0} (states : X → Agent → Option S) where
         record { opened = map (under n) o.opened; run = (o.opened, Err fault, o.run, (refl, end)); opens = subst (λ (l : List (Record Agent I V X O)). AreOpened states l (map (under n) o.opened)) (sym is) (AreOpened-under states n first o.opened o.opens) }
 
     -- a run of all
-    pub Each-opened : (n : ℕ) (ys : List Y) (list : List (Record Agent I V X O)) (a : Answer F) → AllByRecursion (StandsAt said all) list → RunsEach Run n ys list a → Opening (RunsEach Deep n ys) list a
+    pub Each-opened : (n : ℕ) (ys : List Y) (list : List (Record Agent I V X O)) (a : Answer F) → AllByRecursion (StandsAt said all) list → RunsEach Run n ys list a → Opening (RunsEach Finer n ys) list a
     Each-opened n [] list a stand (is, end) = record { opened = []; run = (refl, end); opens = AreOpened-none states list [] is refl }
     Each-opened n (y ∷ ys) list a stand (first, others, b, c, run, more, is, end) =
         let parts = split (StandsAt said all) n first others list is stand in

@@ -8,5 +8,6 @@ pub mod Batches
 pub mod Works
 pub mod Owned
 pub mod Serializable
+pub mod Entries
 pub mod Parallel
 pub mod Worked

@@ -21,7 +21,7 @@ use Rattle.shred_batch.specs.declared.work.Work.{Work}
 use Rattle.shred_paths.specs.NestedRuns.{NestedPlanRun, NestedRun, NestedStageTurn}
 use Rattle.shred_paths.specs.Occupants.{inside_each, work_occupants}
 use Rattle.shred_paths.specs.WithNested.{LeavesNested, RunWithNested, TurnWithNested, plan_agents, plan_situation, stage_agents, stage_situation}
-use Rattle.shred_paths.proofs.Fits.{Fits, PlanFits, StageFits, plan_access}
+use Rattle.shred_paths.proofs.Fits.{Fits, PlanFitsThroughout, StageFitsThroughout, plan_access}
 use Rattle.shred_paths.proofs.Within.{nested_within, plan_within, turn_within, within-framed}
 use Rattle.shred_paths.proofs.Works.{expand, plan-nested, plan-same, turn-nested, turn-same}
 
@@ -31,8 +31,9 @@ module _ {V S C E : Type 0} (kind : V → Kind) (related : Related V S C E) (dep
     stage_ran = Ran-of_one_thread (StageTurn kind (WorkStep kind related depth) stage) (configuration_of a m) answer (configuration_of b n) outer
 
     -- A stage's turn, of what fits its entries, leaves what one thread leaves that takes the steps of all systems and controllers in it, at every depth, and keeps what stands at each path.
-    pub stage-leaves : StageFits (Fits depth) (inside_each 2 work_occupants a) stage → LeavesNested (TurnWithNested kind related) (stage_situation stage a m) answer (stage_situation stage b n)
-    stage-leaves fits =
+    pub stage-leaves : StageFitsThroughout (inside_each 2 work_occupants a) stage → LeavesNested (TurnWithNested kind related) (stage_situation stage a m) answer (stage_situation stage b n)
+    stage-leaves throughout =
+        let fits = throughout depth in
         let all = inside_each 2 work_occupants a in
         let one = Ran-as_one_thread tell_ids (NestedStageTurn (NestedRun kind related depth) all stage) (configuration_of (stage_agents a) m) answer (configuration_of (stage_agents b) n)
         (λ list x run. within-framed (joined_access model.group_access stage) list (turn_within (NestedRun kind related depth) (Fits depth) (nested_within kind related depth) all stage list x fits run)) (turn-nested kind related depth a b m n stage answer stage_ran (expand kind related depth) fits) in
@@ -51,8 +52,9 @@ module _ {V S C E : Type 0} (kind : V → Kind) (related : Related V S C E) (dep
       plan_ran = Ran-of_one_thread (RunsUpToFault TurnAt 0 plan) (configuration_of a m) answer (configuration_of b n) outer
 
       -- A plan's run, of what fits its entries, leaves what one thread leaves that takes the steps of all systems and controllers in it, at every depth, and keeps what stands at each path.
-      pub plan-leaves : PlanFits (Fits depth) (inside_each 3 work_occupants a) plan → LeavesNested (RunWithNested kind related answers) (plan_situation plan a m) answer (plan_situation plan b n)
-      plan-leaves fits =
+      pub plan-leaves : PlanFitsThroughout (inside_each 3 work_occupants a) plan → LeavesNested (RunWithNested kind related answers) (plan_situation plan a m) answer (plan_situation plan b n)
+      plan-leaves throughout =
+          let fits = throughout depth in
           let all = inside_each 3 work_occupants a in
           let one = Ran-as_one_thread tell_ids (NestedPlanRun (NestedRun kind related depth) answers all plan) (configuration_of (plan_agents a) m) answer (configuration_of (plan_agents b) n)
           (λ list x run. within-framed (plan_access plan) list (plan_within (NestedRun kind related depth) (Fits depth) (nested_within kind related depth) answers all plan list x fits run)) (plan-nested kind related depth a b m n TurnAt answers (λ k stage list told turn. turn) plan answer plan_ran (expand kind related depth) fits) in

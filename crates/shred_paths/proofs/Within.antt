@@ -17,7 +17,8 @@ use Rattle.shred_batch.specs.Depths.{Related}
 use Rattle.shred_paths.specs.NestedRecords.{NestedRecord, IsNestedStep, Reply, bound, done, again}
 use Rattle.shred_paths.specs.NestedRuns.{NestedBatchRun, NestedEntryRun, NestedGroupRun, NestedPlanRun, NestedRounds, NestedRun, NestedStageTurn, OccupantRun}
 use Rattle.shred_paths.specs.Occupants.{AgentState, Occupant, Occupants, a_batch, a_system, inside_at, of_controller, of_system}
-use Rattle.shred_paths.proofs.Fits.{EntryFits, Fits, GroupFits, IsNoMore, OccupantFits, PlanFits, StageFits, plan_access}
+use Rattle.shred_paths.specs.Entries.{IsNoMore}
+use Rattle.shred_paths.proofs.Fits.{EntryFits, Fits, GroupFits, OccupantFits, PlanFits, StageFits, plan_access}
 use Rattle.shred_paths.proofs.Opened.Runs.{With, Each-with, UpToFault-with}
 
 module _ {V S C E : Type 0} where
@@ -34,7 +35,8 @@ module _ {V S C E : Type 0} where
 
   module _ (Own : Occupants → Access ResourceId → List (NestedRecord V S C E) → Outcome E → Type 0) (Fits : Occupants → Access ResourceId → Type 0)
       (own-within : (occupants : Occupants) (access : Access ResourceId) (list : List (NestedRecord V S C E)) (o : Outcome E) → Fits occupants access → Own occupants access list o → AllByRecursion (IsWithin access) list) where
-    entry_within : (all : Occupants) (n : ℕ) (entry : model.PlanEntry ResourceId) (list : List (NestedRecord V S C E)) (a : Answer (StageFault E)) → With (EntryFits Fits all) (NestedEntryRun Own all) n entry list a → AllByRecursion (IsWithin entry.access) list
+    -- the records of an entry's run, of what fits it, keep within its access
+    pub entry_within : (all : Occupants) (n : ℕ) (entry : model.PlanEntry ResourceId) (list : List (NestedRecord V S C E)) (a : Answer (StageFault E)) → With (EntryFits Fits all) (NestedEntryRun Own all) n entry list a → AllByRecursion (IsWithin entry.access) list
     entry_within all n entry list a (fit, (o, run, is)) = own-within (inside_at all n) entry.access list o fit run
 
     -- of a group's run

@@ -2,7 +2,7 @@
 --
 -- Before a run there are a plan, what stands in its entries, and, inside each batch, what stands in the entries of its inner plan; the states of all systems and of all controllers; and what a world holds. After it there are an answer and all these again.
 --
--- There is a list of records, each one step of one system or one call of one controller, that is a run with that answer. It goes through the stages in order, up to the first that is not Done; through all groups of a stage, whose answer is that of the first that is not Done; and through the entries of a group in order, up to the first that is not Done. A stage that wants memory before it begins has no record. A system's entry has one record. A batch's entry begins with a record of the controller's `begin`, which says how many rounds there are to be at most; each round begins with a record of its `again`, and on yes goes on with a run of the inner plan. The batch is Done when `again` says no, or after the last round. The first fault, of `begin`, of `again` or of the inner plan, ends it and is its own; where an inner stage wanted memory, so did the batch.
+-- There is a list of records, each one step of one system or one call of one controller, that is a run with that answer. It goes through the stages in order, up to the first that is not Done; through all groups of a stage, whose answer is that of the first that is not Done; and through the entries of a group in order, up to the first that is not Done. A stage that is refused for memory before it begins has no record. A system's entry has one record. A batch's entry begins with a record of the controller's `begin`, which says how many rounds there are to be at most; each round begins with a record of its `again`, and on yes goes on with a run of the inner plan. The batch is Done when `again` says no, or after the last round. The first fault, of `begin`, of `again` or of the inner plan, ends it and is told as its own; where an inner stage was refused for memory, so is the batch.
 --
 -- Taken in its order the list leads from the states and values before to those after, and so it does in every other order that keeps the order of any two records of one agent and of any two whose accesses conflict. The plan is the same after, and so is what stands at each path of it.
 use Rattle.std.specs.Prelude.{◌≡◌, ℕ, List, Option}

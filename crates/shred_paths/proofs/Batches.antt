@@ -18,9 +18,10 @@ use Rattle.shred_group.proofs.Runs.StepRecord.{declared_of-declared, declared_of
 use Rattle.shred_batch.specs.Controls.{Control}
 use Rattle.shred_batch.specs.Rounds.{IsControlOver, Rounds, BatchRun}
 use Rattle.shred_batch.proofs.Runs.Restricted.{control-restricted}
-use Rattle.shred_paths.specs.DeepRecords.{DeepRecord, IsDeepStep, Told, deep_outcome, at_most, once_more}
-use Rattle.shred_paths.specs.DeepRuns.{DeepRounds, DeepBatchRun}
-use Rattle.shred_paths.specs.Occupants.{AgentState, of_controller, with_own}
+use Rattle.shred_paths.specs.NestedRecords.{NestedRecord, IsNestedStep, Reply, replied, bound, again}
+use Rattle.shred_paths.specs.NestedRuns.{NestedRounds, NestedBatchRun}
+use Rattle.shred_paths.specs.Occupants.{AgentState, of_controller}
+use Rattle.shred_paths.proofs.Inside.{with_own}
 
 beside : {S : Type 0} (own : S) (states : Agent → Option S) (a : Agent) → a ≢ [] → with_own own states a ≡ states a
 beside own states [] ne = absurd (ne refl)
@@ -49,16 +50,16 @@ replays-beside own (r ∷ list) x y inner (m, goes, then) = (
   other [] ne = refl
   other (k ∷ a) ne = goes.other_states (k ∷ a) ne
 
-module _ {V S C E A : Type 0} (kind : V → Kind) (access : Access ResourceId) (states : Agent → Option (AgentState S C)) (control : Control V C A E) (tells : A → Told) (c e : C) (m k : Held V) (answer : Result A (Fault E)) where
+module _ {V S C E A : Type 0} (kind : V → Kind) (access : Access ResourceId) (states : Agent → Option (AgentState S C)) (control : Control V C A E) (reply : A → Reply) (c e : C) (m k : Held V) (answer : Result A (Fault E)) where
   -- One call of a controller, as a record: it is a step of the controller, from and to the values of the call, beside what is inside.
-  pub record CallTold : Type 0 where
-    pub r : DeepRecord V S C E
-    pub is_step : IsDeepStep kind control of_controller tells access answer r
+  pub record WrittenCall : Type 0 where
+    pub r : NestedRecord V S C E
+    pub is_step : IsNestedStep kind control of_controller reply access answer r
     pub goes : Goes r (configuration_of (with_own (of_controller c) states) m) (configuration_of (with_own (of_controller e) states) k)
 
-  pub call-told : IsControlOver kind control access c m answer e k → CallTold
-  call-told over = record {
-    r = record { agent = []; access = access; before = of_controller c; seen = declared_of access m; outcome = deep_outcome tells answer; after = of_controller e; left = declared_of access k };
+  pub written-call : IsControlOver kind control access c m answer e k → WrittenCall
+  written-call over = record {
+    r = record { agent = []; access = access; before = of_controller c; seen = declared_of access m; outcome = replied reply answer; after = of_controller e; left = declared_of access k };
     is_step = record {
       agent = refl;
       declared = refl;
@@ -85,9 +86,9 @@ module _ {V S C E A : Type 0} (kind : V → Kind) (access : Access ResourceId) (
     other (j ∷ a) ne = refl
 
 module _ {V S C E P : Type 0} (kind : V → Kind) (asks : Control V C Bool E) (access : Access ResourceId) (Inner : P → Held V → Answer (StageFault E) → P → Held V → Type 0)
-    (states : P → Agent → Option (AgentState S C)) (Deep : List (DeepRecord V S C E) → Answer (StageFault E) → Type 0) (Kept : P → Type 0)
+    (states : P → Agent → Option (AgentState S C)) (Finer : List (NestedRecord V S C E) → Answer (StageFault E) → Type 0) (Kept : P → Type 0)
     (opened : (p : P) (m : Held V) (a : Answer (StageFault E)) (r : P) (l : Held V) → Kept p → Inner p m a r l → Kept r
-    × ((own : AgentState S C) → Ran Deep (configuration_of (with_own own (states p)) m) a (configuration_of (with_own own (states r)) l))) where
+    × ((own : AgentState S C) → Ran Finer (configuration_of (with_own own (states p)) m) a (configuration_of (with_own own (states r)) l))) where
   -- the controller's state, the states inside, and the values
   abbrev of_batch : C → P → Held V → Configuration Agent ResourceId V (AgentState S C)
   of_batch c p m = configuration_of (with_own (of_controller c) (states p)) m
@@ -96,10 +97,10 @@ module _ {V S C E P : Type 0} (kind : V → Kind) (asks : Control V C Bool E) (a
   alike d e q r n l one two three = record { values = λ id i. three i id; states = λ a i. with_own (of_controller (one i)) (states (two i)) a }
 
   rounds-opened : (left : ℕ) (c : C) (p : P) (m : Held V) (o : Outcome E) (d : C) (q : P) (n : Held V) → Kept p → Rounds kind asks access Inner left c p m o d q n
-      → Ran (DeepRounds kind asks access Deep left) (of_batch c p m) o (of_batch d q n)
+      → Ran (NestedRounds kind asks access Finer left) (of_batch c p m) o (of_batch d q n)
   rounds-opened zero c p m o d q n kept (is, one, two, three) = record { list = []; run = (refl, is); replays = alike d c q p n m one two three }
   rounds-opened (suc more) c p m o d q n kept (Ok true, e, k, one, (Ok tt, r, l, inner, rest)) =
-      let s = call-told kind access (states p) asks once_more c e m k (Ok true) one in
+      let s = written-call kind access (states p) asks again c e m k (Ok true) one in
       let i = opened p k (Ok tt) r l kept inner in
       let round = i.1 (of_controller e) in
       let others = rounds-opened more e r l o d q n i.0 rest in
@@ -109,7 +110,7 @@ module _ {V S C E P : Type 0} (kind : V → Kind) (asks : Control V C Bool E) (a
         replays = (of_batch e p k, s.goes, Replays-append (of_batch e p k) round.list (of_batch e r l) others.list (of_batch d q n) round.replays others.replays);
       }
   rounds-opened (suc more) c p m o d q n kept (Ok true, e, k, one, (Err fault, r, l, inner, (is, two, three, four))) =
-      let s = call-told kind access (states p) asks once_more c e m k (Ok true) one in
+      let s = written-call kind access (states p) asks again c e m k (Ok true) one in
       let round = (opened p k (Err fault) r l kept inner).1 (of_controller e) in
       record {
         list = s.r ∷ round.list;
@@ -117,19 +118,19 @@ module _ {V S C E P : Type 0} (kind : V → Kind) (asks : Control V C Bool E) (a
         replays = (of_batch e p k, s.goes, Replays-to_alike (of_batch e p k) round.list (of_batch e r l) (of_batch d q n) round.replays (alike d e q r n l two three four));
       }
   rounds-opened (suc more) c p m o d q n kept (Ok false, e, k, one, (is, two, three, four)) =
-      let s = call-told kind access (states p) asks once_more c e m k (Ok false) one in
+      let s = written-call kind access (states p) asks again c e m k (Ok false) one in
       record { list = s.r ∷ []; run = (s.r, Ok false, s.is_step, (refl, is)); replays = (of_batch e p k, s.goes, alike d e q p n k two three four) }
   rounds-opened (suc more) c p m o d q n kept (Err fault, e, k, one, (is, two, three, four)) =
-      let s = call-told kind access (states p) asks once_more c e m k (Err fault) one in
+      let s = written-call kind access (states p) asks again c e m k (Err fault) one in
       record { list = s.r ∷ []; run = (s.r, Err fault, s.is_step, (refl, is)); replays = (of_batch e p k, s.goes, alike d e q p n k two three four) }
 
   -- a batch's run is opened into the controller's calls and what is inside
   pub batch-opened : (begins : Control V C ℕ E) (c : C) (p : P) (m : Held V) (o : Outcome E) (d : C) (q : P) (n : Held V) → Kept p → BatchRun kind asks access Inner begins c p m o d q n
-      → Ran (DeepBatchRun kind asks access Deep begins) (of_batch c p m) o (of_batch d q n)
+      → Ran (NestedBatchRun kind asks access Finer begins) (of_batch c p m) o (of_batch d q n)
   batch-opened begins c p m o d q n kept (Ok most, e, k, one, rest) =
-      let s = call-told kind access (states p) begins at_most c e m k (Ok most) one in
+      let s = written-call kind access (states p) begins bound c e m k (Ok most) one in
       let others = rounds-opened most e p k o d q n kept rest in
       record { list = s.r ∷ others.list; run = (s.r, Ok most, s.is_step, (others.list, refl, others.run)); replays = (of_batch e p k, s.goes, others.replays) }
   batch-opened begins c p m o d q n kept (Err fault, e, k, one, (is, two, three, four)) =
-      let s = call-told kind access (states p) begins at_most c e m k (Err fault) one in
+      let s = written-call kind access (states p) begins bound c e m k (Err fault) one in
       record { list = s.r ∷ []; run = (s.r, Err fault, s.is_step, (refl, is)); replays = (of_batch e p k, s.goes, alike d e q p n k two three four) }

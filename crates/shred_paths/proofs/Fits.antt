@@ -1,17 +1,13 @@
 -- Plans whose entries what stands in them fits.
-use Rattle.std.proofs.Common.{ℕ, zero, suc, [], All, Option, Some, None, Contains}
-use Rattle.shred_model.specs.Access.{Access, Declares}
+use Rattle.std.proofs.Common.{ℕ, zero, suc, [], All, Option, Some, None}
+use Rattle.shred_model.specs.Access.{Access}
 use Rattle.shred_model.specs.Beside.{AreApart}
 use Rattle.shred_model.specs.Plan as model
 use Rattle.shred_table.specs.declared.id.ResourceId.{ResourceId}
 use Rattle.shred_group.specs.Sides.{plan_reads, plan_writes}
+use Rattle.shred_paths.specs.Entries.{IsNoMore}
 use Rattle.shred_paths.specs.Occupants.{Occupant, Occupants, a_system, a_batch, inside_at}
 use Rattle.shred_paths.proofs.Opened.Runs.{EachAt}
-
--- The inner access declares no id that the outer one does not, and writes none that this does not write.
-pub record IsNoMore (outer inner : Access ResourceId) : Type 0 where
-  pub declared : (id : ResourceId) → Declares inner id → Declares outer id
-  pub written : (id : ResourceId) → Contains inner.writes id → Contains outer.writes id
 
 -- all that a plan's entries may touch
 abbrev pub plan_access : model.Plan ResourceId → Access ResourceId
@@ -45,3 +41,11 @@ OccupantFits Inner None access = Unit {0}
 unfoldable pub Fits : ℕ → Occupants → Access ResourceId → Type 0
 Fits zero occupants access = OccupantFits (λ plan. Unit {0}) (occupants []) access
 Fits (suc less) occupants access = OccupantFits (PlanFits (Fits less) occupants) (occupants []) access
+
+-- what stands in a stage's entries fits them at every depth
+abbrev pub StageFitsThroughout : Occupants → model.Stage ResourceId → Type 0
+StageFitsThroughout occupants stage = (depth : ℕ) → StageFits (Fits depth) occupants stage
+
+-- what stands in a plan's entries fits them at every depth
+abbrev pub PlanFitsThroughout : Occupants → model.Plan ResourceId → Type 0
+PlanFitsThroughout occupants plan = (depth : ℕ) → PlanFits (Fits depth) occupants plan

@@ -1,4 +1,5 @@
 pub mod Opened
+pub mod Inside
 pub mod Fits
 pub mod Within
 pub mod Turns
@@ -7,5 +8,6 @@ pub mod Batches
 pub mod Works
 pub mod Owned
 pub mod Serializable
+pub mod Entries
 pub mod Parallel
 pub mod Worked

@@ -1,7 +1,6 @@
 -- Records of agents inside different groups of one stage, at every depth: they are independent.
-use Rattle.std.proofs.Common.{◌≡◌, ◌≢◌, ℕ, zero, suc, ◌+◌, ◌<◌, List, [], ◌∷◌, ◌++◌, All, length, get_or, Option, Some, None, slice_get, inl, inr, sym, ◌∙◌, ap, subst, arith}
+use Rattle.std.proofs.Common.{◌≡◌, ◌≢◌, ℕ, zero, suc, ◌<◌, List, [], ◌∷◌, ◌++◌, All, length, get_or, Option, Some, None, slice_get, inl, inr, sym, ◌∙◌, subst, arith}
 use Rattle.std.proofs.Math.Decide.{dec_lt}
-use Rattle.std.specs.List.{AllByRecursion}
 use Rattle.shred_model.specs.Access.{Access, Conflicts}
 use Rattle.shred_model.specs.Beside.{AreApart}
 use Rattle.shred_model.specs.ConflictEquivalence.{IsConflictEquivalent}
@@ -9,68 +8,17 @@ use Rattle.shred_model.specs.Plan as model
 use Rattle.shred_model.specs.Record.{Agent, Independent}
 use Rattle.shred_model.specs.Runs.{Answer}
 use Rattle.shred_model.proofs.Orders.Reorder.{All-at}
-use Rattle.shred_model.proofs.Records.Framed.{AllByRecursion-same, AllByRecursion-weaker}
-use Rattle.shred_model.proofs.Records.Within.{IsWithin}
 use Rattle.shred_table.specs.declared.id.Kind.{Kind}
 use Rattle.shred_table.specs.declared.id.ResourceId.{ResourceId}
 use Rattle.shred_group.specs.declared.dispatch.run.StageFault.{StageFault}
-use Rattle.shred_group.specs.Steps.{Outcome}
 use Rattle.shred_batch.specs.Depths.{Related}
-use Rattle.shred_paths.specs.DeepRecords.{DeepRecord}
-use Rattle.shred_paths.specs.DeepRuns.{DeepEntryRun, DeepGroupRun, DeepPlanRun, DeepRun, DeepStageTurn, OccupantRun}
-use Rattle.shred_paths.specs.Occupants.{Occupant, Occupants, a_batch, a_system, inside_at}
-use Rattle.shred_paths.specs.Parallel.{AreParallel, IsDeepInterleaving}
-use Rattle.shred_paths.proofs.Fits.{EntryFits, Fits, GroupFits, IsNoMore, OccupantFits, PlanFits, StageFits}
-use Rattle.shred_paths.proofs.Opened.Runs.{EachAt, With, Each-with, RunsEach-each, RunsUpToFault-each, UpToFault-with}
-use Rattle.shred_paths.proofs.Within.{batch-all, deep_within, group_within}
-
--- each element is at its place
-module _ {Y : Type 0} (d : Y) where
-  abbrev IsAt : List Y → ℕ → Y → Type 0
-  IsAt ys n y = (n < length ys) × (get_or ys n d ≡ y)
-
-  each-from : (all rest : List Y) (n : ℕ) → length rest + n ≡ length all → ((k : ℕ) → k < length rest → get_or all (k + n) d ≡ get_or rest k d) → EachAt (IsAt all) n rest
-  each-from all [] n size same = tt
-  each-from all (y ∷ rest) n size same =
-      let first : 0 + n ≡ n = omega arith in (
-        (omega (arith, size), subst (λ (k : ℕ). get_or all k d ≡ y) first (same 0 (omega arith))),
-        each-from all rest (suc n) (omega (arith, size)) (λ k below. let next : suc k + n ≡ k + suc n = omega arith in subst (λ (j : ℕ). get_or all j d ≡ get_or rest k d) next (same (suc k) (omega (arith, below)))),
-      )
-
-  each-at : (ys : List Y) → EachAt (IsAt ys) 0 ys
-  each-at ys = each-from ys ys 0 (omega arith) (λ k below. let same : k + 0 ≡ k = omega arith in ap (λ (j : ℕ). get_or ys j d) same)
-
-EachAt-both : {Y : Type 0} (P Q : ℕ → Y → Type 0) (n : ℕ) (ys : List Y) → EachAt P n ys → EachAt Q n ys → EachAt (λ m y. P m y × Q m y) n ys
-EachAt-both P Q n [] p q = tt
-EachAt-both P Q n (y ∷ ys) p q = ((p.0, q.0), EachAt-both P Q (suc n) ys p.1 q.1)
-
-AllByRecursion-both : {X : Type 0} (P Q : X → Type 0) (xs : List X) → AllByRecursion P xs → AllByRecursion Q xs → AllByRecursion (λ x. P x × Q x) xs
-AllByRecursion-both P Q [] p q = tt
-AllByRecursion-both P Q (x ∷ xs) p q = ((p.0, q.0), AllByRecursion-both P Q xs p.1 q.1)
-
--- Where the path leads, and that the access is within those of the groups on the way. Inside says what is so inside an entry.
-module _ (Inside : Occupants → Agent → Access ResourceId → Type 0) where
-  abbrev InGroup : Occupants → Agent → Access ResourceId → Type 0
-  InGroup all [] access = ⊥
-  InGroup all (n ∷ path) access = Inside (inside_at all n) path access
-
-  abbrev InStage : Occupants → model.Stage ResourceId → Agent → Access ResourceId → Type 0
-  InStage all stage [] access = ⊥
-  InStage all stage (g ∷ path) access = (g < length stage) × IsNoMore (model.group_access (get_or stage g [])) access × InGroup (inside_at all g) path access
-
-  abbrev InPlan : Occupants → model.Plan ResourceId → Agent → Access ResourceId → Type 0
-  InPlan all plan [] access = ⊥
-  InPlan all plan (s ∷ path) access = (s < length plan) × InStage (inside_at all s) (get_or plan s []) path access
-
-abbrev InOccupant : (model.Plan ResourceId → Agent → Access ResourceId → Type 0) → Option Occupant → Agent → Access ResourceId → Type 0
-InOccupant Inner occupant [] access = Unit {0}
-InOccupant Inner (Some (a_batch control plan)) (k ∷ path) access = All (AreApart model.group_access) plan × Inner plan (k ∷ path) access
-InOccupant Inner (Some a_system) (k ∷ path) access = ⊥
-InOccupant Inner None (k ∷ path) access = ⊥
-
-Inside : ℕ → Occupants → Agent → Access ResourceId → Type 0
-Inside zero all path access = InOccupant (λ plan inner x. ⊥) (all []) path access
-Inside (suc less) all path access = InOccupant (InPlan (Inside less) all) (all []) path access
+use Rattle.shred_paths.specs.NestedRecords.{NestedRecord}
+use Rattle.shred_paths.specs.Occupants.{Occupant, Occupants, a_batch, a_system}
+use Rattle.shred_paths.specs.Parallel.{AreParallel, IsNestedInterleaving}
+use Rattle.shred_paths.specs.Entries.{IsNoMore}
+use Rattle.shred_paths.specs.WithNested.{RunWithNested, WithNested}
+use Rattle.shred_paths.proofs.Entries.{InOccupant, InPlan, Inside, run-inside}
+use Rattle.shred_paths.proofs.Fits.{PlanFitsThroughout}
 
 none-parallel : (a : Agent) → AreParallel a [] → ⊥
 none-parallel [] parallel = parallel
@@ -108,9 +56,9 @@ abbrev KeepApart : (Agent → Access ResourceId → Type 0) → Type 0
 KeepApart In = (a b : Agent) (x y : Access ResourceId) → In a x → In b y → AreParallel a b → Conflicts x y → ⊥
 
 plan-apart : (Inside : Occupants → Agent → Access ResourceId → Type 0) → ((all : Occupants) → KeepApart (Inside all)) → (all : Occupants) (plan : model.Plan ResourceId) → All (AreApart model.group_access) plan → KeepApart (InPlan Inside all plan)
-plan-apart Inside deeper all plan apart (s ∷ (g ∷ (n ∷ a))) (t ∷ (h ∷ (m ∷ b))) x y (below_s, (below_g, one, in_a)) (below_t, (below_h, two, in_b)) (same, inl ne) c =
+plan-apart Inside deeper all plan apart (s ∷ (g ∷ (n ∷ a))) (t ∷ (h ∷ (m ∷ b))) x y (below_s, (below_g, one, (e, at, under, in_a))) (below_t, (below_h, two, (f, there, beneath, in_b))) (same, inl ne) c =
     groups-apart (get_or plan s []) (apart s [] below_s) x y g h ne below_g (subst (λ (k : ℕ). h < length (get_or plan k [])) (sym same) below_h) one (subst (λ (k : ℕ). IsNoMore (model.group_access (get_or (get_or plan k []) h [])) y) (sym same) two) c
-plan-apart Inside deeper all plan apart (s ∷ (g ∷ (n ∷ a))) (t ∷ (h ∷ (m ∷ b))) x y (below_s, (below_g, one, in_a)) (below_t, (below_h, two, in_b)) (same, inr (groups, places, more)) c =
+plan-apart Inside deeper all plan apart (s ∷ (g ∷ (n ∷ a))) (t ∷ (h ∷ (m ∷ b))) x y (below_s, (below_g, one, (e, at, under, in_a))) (below_t, (below_h, two, (f, there, beneath, in_b))) (same, inr (groups, places, more)) c =
     let place : (t ∷ h ∷ m ∷ []) ≡ (s ∷ g ∷ n ∷ []) = cc in
     deeper (λ path. all (s ∷ g ∷ n ∷ path)) a b x y in_a (subst (λ (p : Agent). Inside (λ path. all (p ++ path)) b y) place in_b) more c
 plan-apart Inside deeper all plan apart (s ∷ (g ∷ (n ∷ a))) [] x y one two parallel c = absurd parallel
@@ -132,72 +80,20 @@ unfolding Inside
 inside-apart zero all = occupant-apart (λ plan inner x. ⊥) (λ plan apart a b x y one two parallel c. one) (all [])
 inside-apart (suc less) all = occupant-apart (InPlan (Inside less) all) (λ plan apart. plan-apart (Inside less) (inside-apart less) all plan apart) (all [])
 
-module _ {V S C E : Type 0} (Own : Occupants → Access ResourceId → List (DeepRecord V S C E) → Outcome E → Type 0) (Fits : Occupants → Access ResourceId → Type 0)
-    (own-within : (occupants : Occupants) (access : Access ResourceId) (list : List (DeepRecord V S C E)) (o : Outcome E) → Fits occupants access → Own occupants access list o → AllByRecursion (IsWithin access) list)
-    (Inside : Occupants → Agent → Access ResourceId → Type 0) (own-inside : (occupants : Occupants) (access : Access ResourceId) (list : List (DeepRecord V S C E)) (o : Outcome E) → Fits occupants access → Own occupants access list o → AllByRecursion (λ r. Inside occupants r.agent r.access) list) where
-  group-inside : (all : Occupants) (n : ℕ) (group : model.Group ResourceId) (list : List (DeepRecord V S C E)) (a : Answer (StageFault E)) → With (GroupFits Fits all) (DeepGroupRun Own all) n group list a → AllByRecursion (λ r. InGroup Inside (inside_at all n) r.agent r.access) list
-  group-inside all n group list a (fits, run) = RunsUpToFault-each (With (EntryFits Fits (inside_at all n)) (DeepEntryRun Own (inside_at all n))) (λ r. InGroup Inside (inside_at all n) r.agent r.access)
-      (λ m entry part b turn. own-inside (inside_at (inside_at all n) m) entry.access part turn.1.0 turn.0 turn.1.1) 0 group list a
-      (UpToFault-with (EntryFits Fits (inside_at all n)) (DeepEntryRun Own (inside_at all n)) 0 group list a fits run)
-
-  turn-inside : (all : Occupants) (stage : model.Stage ResourceId) (list : List (DeepRecord V S C E)) (a : Answer (StageFault E)) → StageFits Fits all stage → DeepStageTurn Own all stage list a → AllByRecursion (λ r. InStage Inside all stage r.agent r.access) list
-  turn-inside all stage list a fits (inl run) =
-      RunsEach-each (With (λ g group. GroupFits Fits all g group × IsAt [] stage g group) (DeepGroupRun Own all)) (λ r. InStage Inside all stage r.agent r.access)
-      (λ g group part b turn.
-      let both = AllByRecursion-both _ _ part (group_within Own Fits own-within all g group part b (turn.0.0, turn.1)) (group-inside all g group part b (turn.0.0, turn.1)) in
-      AllByRecursion-weaker _ (λ r. InStage Inside all stage (g ∷ r.agent) r.access)
-      (λ r h. (turn.0.1.0, subst (λ (x : model.Group ResourceId). IsNoMore (model.group_access x) r.access) (sym turn.0.1.1) (record { declared = h.0.declared; written = h.0.written }), h.1)) part both)
-      0 stage list a (Each-with (λ g group. GroupFits Fits all g group × IsAt [] stage g group) (DeepGroupRun Own all) 0 stage list a (EachAt-both (GroupFits Fits all) (IsAt [] stage) 0 stage fits (each-at [] stage)) run)
-  turn-inside all stage list a fits (inr refused) = AllByRecursion-same (λ r. InStage Inside all stage r.agent r.access) list [] refused.0 tt
-
-  plan-inside : {F : Type 0} (tells : ℕ → Answer (StageFault E) → Answer F) (all : Occupants) (plan : model.Plan ResourceId) (list : List (DeepRecord V S C E)) (answer : Answer F) → PlanFits Fits all plan → DeepPlanRun Own tells all plan list answer
-      → AllByRecursion (λ r. InPlan Inside all plan r.agent r.access) list
-  plan-inside {F} tells all plan list answer fits run =
-      RunsUpToFault-each (With Of Turn) (λ r. InPlan Inside all plan r.agent r.access)
-      (λ s stage part told turn. AllByRecursion-weaker (λ r. InStage Inside (inside_at all s) stage r.agent r.access) (λ r. InPlan Inside all plan (s ∷ r.agent) r.access)
-      (λ r h. (turn.0.1.0, subst (λ (x : model.Stage ResourceId). InStage Inside (inside_at all s) x r.agent r.access) (sym turn.0.1.1) h)) part
-      (turn-inside (inside_at all s) stage part turn.1.0 turn.0.0 turn.1.1))
-      0 plan list answer (UpToFault-with Of Turn 0 plan list answer (EachAt-both (λ s stage. StageFits Fits (inside_at all s) stage) (IsAt [] plan) 0 plan fits (each-at [] plan)) run) where
-        Of : ℕ → model.Stage ResourceId → Type 0
-        Of s stage = StageFits Fits (inside_at all s) stage × IsAt [] plan s stage
-
-        Turn : ℕ → model.Stage ResourceId → List (DeepRecord V S C E) → Answer F → Type 0
-        Turn s stage part told = (a : Answer (StageFault E)) × DeepStageTurn Own (inside_at all s) stage part a × (told ≡ tells s a)
-
 module _ {V S C E : Type 0} (kind : V → Kind) (related : Related V S C E) where
-  occupant-inside : (InnerFits : model.Plan ResourceId → Type 0) (Inner : model.Plan ResourceId → List (DeepRecord V S C E) → Answer (StageFault E) → Type 0) (In : model.Plan ResourceId → Agent → Access ResourceId → Type 0)
-      → ((plan : model.Plan ResourceId) (list : List (DeepRecord V S C E)) (a : Answer (StageFault E)) → InnerFits plan → Inner plan list a → AllByRecursion (λ r. In plan r.agent r.access) list)
-      → (occupant : Option Occupant) (access : Access ResourceId) (list : List (DeepRecord V S C E)) (o : Outcome E) → OccupantFits InnerFits occupant access → OccupantRun kind related Inner occupant access list o → AllByRecursion (λ r. InOccupant In occupant r.agent r.access) list
-  occupant-inside InnerFits Inner In inner (Some a_system) access list o fits (r, is, one) = AllByRecursion-same (λ r. InOccupant In (Some a_system) r.agent r.access) list (r ∷ []) is (subst (λ (path : Agent). InOccupant In (Some a_system) path r.access) (sym one.agent) tt, tt)
-  occupant-inside InnerFits Inner In inner (Some (a_batch control plan)) access list o fits run =
-      batch-all kind related.asks control (Inner plan) (λ r. InOccupant In (Some (a_batch control plan)) r.agent r.access)
-      (λ A relation tells answer r one. subst (λ (path : Agent). InOccupant In (Some (a_batch control plan)) path r.access) (sym one.agent) tt)
-      (λ part a round. AllByRecursion-weaker (λ r. In plan r.agent r.access) (λ r. InOccupant In (Some (a_batch control plan)) r.agent r.access) (λ r h. deeper r.agent r.access h) part (inner plan part a fits.3 round))
-      related.begins list o run where
-        deeper : (path : Agent) (x : Access ResourceId) → In plan path x → InOccupant In (Some (a_batch control plan)) path x
-        deeper [] x h = tt
-        deeper (k ∷ path) x h = (fits.2, h)
-  occupant-inside InnerFits Inner In inner None access list o fits run = absurd run
-
-  deep-inside : (depth : ℕ) (all : Occupants) (access : Access ResourceId) (list : List (DeepRecord V S C E)) (o : Outcome E) → Fits depth all access → DeepRun kind related depth all access list o → AllByRecursion (λ r. Inside depth all r.agent r.access) list
-  unfolding DeepRun Fits Inside
-  deep-inside zero all access list o fits run = occupant-inside (λ plan. Unit {0}) (λ plan part a. ⊥) (λ plan inner x. ⊥) (λ plan part a fit none. absurd none) (all []) access list o fits run
-  deep-inside (suc less) all access list o fits run = occupant-inside (PlanFits (Fits less) all) (DeepPlanRun (DeepRun kind related less) (λ place answer. answer) all) (InPlan (Inside less) all)
-      (plan-inside (DeepRun kind related less) (Fits less) (deep_within kind related less) (Inside less) (deep-inside less) (λ place answer. answer) all) (all []) access list o fits run
-
   -- Any two records of a plan's run, of agents inside different groups of one stage, are independent, where the groups of each stage of the plan do not conflict.
-  pub parallel-independent : (depth : ℕ) {F : Type 0} (tells : ℕ → Answer (StageFault E) → Answer F) (all : Occupants) (plan : model.Plan ResourceId) (list : List (DeepRecord V S C E)) (answer : Answer F) → All (AreApart model.group_access) plan → PlanFits (Fits depth) all plan → DeepPlanRun (DeepRun kind related depth) tells all plan list answer
-      → (j k : ℕ) (r q : DeepRecord V S C E) → slice_get list j ≡ Some r → slice_get list k ≡ Some q → AreParallel r.agent q.agent → Independent r q
-  parallel-independent depth tells all plan list answer apart fits run j k r q at_j at_k parallel =
-      let within = plan-inside (DeepRun kind related depth) (Fits depth) (deep_within kind related depth) (Inside depth) (deep-inside depth) tells all plan list answer fits run in
-      let In = λ (p : DeepRecord V S C E). InPlan (Inside depth) all plan p.agent p.access in
-      (differ r.agent q.agent parallel, plan-apart (Inside depth) (inside-apart depth) all plan apart r.agent q.agent r.access q.access (All-at In list j r within at_j) (All-at In list k q within at_k) parallel)
+  pub parallel-independent : {F : Type 0} (answers : ℕ → Answer (StageFault E) → Answer F) (plan : WithNested (model.Plan ResourceId)) (list : List (NestedRecord V S C E)) (answer : Answer F) → All (AreApart model.group_access) plan.plan → PlanFitsThroughout plan.occupants plan.plan
+      → RunWithNested kind related answers plan list answer → (j k : ℕ) (r q : NestedRecord V S C E) → slice_get list j ≡ Some r → slice_get list k ≡ Some q → AreParallel r.agent q.agent → Independent r q
+  parallel-independent answers plan list answer apart fits (depth, run) j k r q at_j at_k parallel =
+      let within = run-inside kind related depth answers plan.occupants plan.plan list answer (fits depth) run in
+      let In = λ (p : NestedRecord V S C E). InPlan (Inside depth) plan.occupants plan.plan p.agent p.access in
+      (differ r.agent q.agent parallel, plan-apart (Inside depth) (inside-apart depth) plan.occupants plan.plan apart r.agent q.agent r.access q.access (All-at In list j r within at_j) (All-at In list k q within at_k) parallel)
 
   -- so an interleaving of them keeps the records that are not independent the same way round
-  pub interleaving-equivalent : (depth : ℕ) {F : Type 0} (tells : ℕ → Answer (StageFault E) → Answer F) (all : Occupants) (plan : model.Plan ResourceId) (list moved : List (DeepRecord V S C E)) (from : ℕ → ℕ) (answer : Answer F)
-      → All (AreApart model.group_access) plan → PlanFits (Fits depth) all plan → DeepPlanRun (DeepRun kind related depth) tells all plan list answer → IsDeepInterleaving list moved from → IsConflictEquivalent list moved from
-  interleaving-equivalent depth tells all plan list moved from answer apart fits run h = record {
+  pub interleaving-equivalent : {F : Type 0} (answers : ℕ → Answer (StageFault E) → Answer F) (plan : WithNested (model.Plan ResourceId)) (list moved : List (NestedRecord V S C E)) (from : ℕ → ℕ) (answer : Answer F)
+      → All (AreApart model.group_access) plan.plan → PlanFitsThroughout plan.occupants plan.plan → RunWithNested kind related answers plan list answer → IsNestedInterleaving list moved from → IsConflictEquivalent list moved from
+  interleaving-equivalent answers plan list moved from answer apart fits run h = record {
     order = h.order;
-    kept = λ j k r q lt below at_j at_k bound. h.kept j k r q lt below at_j at_k (λ parallel.
-        bound (parallel-independent depth tells all plan list answer apart fits run (from j) (from k) r q (sym (h.order.is j (omega (arith, lt, below))) ∙ at_j) (sym (h.order.is k below) ∙ at_k) parallel));
+    kept = λ j k r q lt below at_j at_k dependent. h.kept j k r q lt below at_j at_k (λ parallel.
+        dependent (parallel-independent answers plan list answer apart fits run (from j) (from k) r q (sym (h.order.is j (omega (arith, lt, below))) ∙ at_j) (sym (h.order.is k below) ∙ at_k) parallel));
   }

@@ -14,8 +14,8 @@ use Rattle.shred_table.specs.declared.id.ResourceId.{ResourceId}
 use Rattle.shred_group.specs.declared.dispatch.run.StageFault.{StageFault}
 use Rattle.shred_group.specs.Entries.{EntryRun, GroupRun, StageTurn}
 use Rattle.shred_group.specs.Steps.{Outcome, Step, Written, IsStep}
-use Rattle.shred_paths.specs.DeepRecords.{DeepRecord}
-use Rattle.shred_paths.specs.DeepRuns.{DeepEntryRun, DeepGroupRun, DeepStageTurn, DeepPlanRun}
+use Rattle.shred_paths.specs.NestedRecords.{NestedRecord}
+use Rattle.shred_paths.specs.NestedRuns.{NestedEntryRun, NestedGroupRun, NestedStageTurn, NestedPlanRun}
 use Rattle.shred_paths.specs.Occupants.{AgentState, Occupants, inside_at}
 use Rattle.shred_paths.proofs.Fits.{EntryFits, GroupFits, PlanFits, StageFits}
 use Rattle.shred_paths.proofs.Opened.Lists.{AreOpened, AreOpened-none, under_place}
@@ -36,25 +36,25 @@ module _ {V X E : Type 0} (kind : V → Kind) (step : Step V X E) (occupants : X
   turn_stays stage list a (inl run) = RunsEach-each (GroupRun kind step) (Stays occupants 2) group_stays 0 stage list a run
   turn_stays stage list a (inr refused) = AllByRecursion-same (Stays occupants 2) list [] refused.0 tt
 
-  module _ {F : Type 0} (Run : ℕ → model.Stage ResourceId → List (Written V X E) → Answer F → Type 0) (tells : ℕ → Answer (StageFault E) → Answer F)
-      (reads : (n : ℕ) (stage : model.Stage ResourceId) (list : List (Written V X E)) (answer : Answer F) → Run n stage list answer → (a : Answer (StageFault E)) × StageTurn kind step stage list a × (answer ≡ tells n a)) where
+  module _ {F : Type 0} (Run : ℕ → model.Stage ResourceId → List (Written V X E) → Answer F → Type 0) (answers : ℕ → Answer (StageFault E) → Answer F)
+      (reads : (n : ℕ) (stage : model.Stage ResourceId) (list : List (Written V X E)) (answer : Answer F) → Run n stage list answer → (a : Answer (StageFault E)) × StageTurn kind step stage list a × (answer ≡ answers n a)) where
     -- each record of a plan's run is of an agent three places deep, and keeps what stands there
     pub plan_stays : (plan : model.Plan ResourceId) (list : List (Written V X E)) (answer : Answer F) → RunsUpToFault Run 0 plan list answer → AllByRecursion (Stays occupants 3) list
     plan_stays plan list answer run = RunsUpToFault-each Run (Stays occupants 3) (λ n stage part told turn. let read = reads n stage part told turn in deeper 2 n part (turn_stays stage part read.0 read.1)) 0 plan list answer run
 
-module _ {V X E S C : Type 0} (states : X → Agent → Option (AgentState S C)) (Own : Occupants → Access ResourceId → List (DeepRecord V S C E) → Outcome E → Type 0) where
+module _ {V X E S C : Type 0} (states : X → Agent → Option (AgentState S C)) (Own : Occupants → Access ResourceId → List (NestedRecord V S C E) → Outcome E → Type 0) where
   -- a list of records is a run of what stands in the entry, and leads from and to the states inside that, and the values that the record saw and left
   abbrev pub IsExpanded : Occupants → Access ResourceId → Written V X E → Type 0
   IsExpanded occupants access r = Ran (Own occupants access) (configuration_of (states r.before) r.seen) r.outcome (configuration_of (states r.after) r.left)
 
   module _ (kind : V → Kind) (step : Step V X E) (occupants : X → Occupants) (Fits : Occupants → Access ResourceId → Type 0)
-      (own-within : (all : Occupants) (access : Access ResourceId) (list : List (DeepRecord V S C E)) (o : Outcome E) → Fits all access → Own all access list o → AllByRecursion (IsWithin access) list)
+      (own-within : (all : Occupants) (access : Access ResourceId) (list : List (NestedRecord V S C E)) (o : Outcome E) → Fits all access → Own all access list o → AllByRecursion (IsWithin access) list)
       (expand : (access : Access ResourceId) (r : Written V X E) → IsStep kind step access r → Fits (occupants r.before) access → IsExpanded (occupants r.before) access r) where
-    opened_one : (r : Written V X E) (own : List (DeepRecord V S C E)) → r.agent ≡ [] → own ≡ map (under_place r.agent) own ++ []
+    opened_one : (r : Written V X E) (own : List (NestedRecord V S C E)) → r.agent ≡ [] → own ≡ map (under_place r.agent) own ++ []
     opened_one r own at = sym (append-nil (map (under_place r.agent) own) ∙ ap (λ (place : Agent). map (under_place place) own) at ∙ map-id own)
 
     entry_opened : (all : Occupants) (n : ℕ) (entry : model.PlanEntry ResourceId) (list : List (Written V X E)) (a : Answer (StageFault E)) → AllByRecursion (StandsAt occupants (inside_at all n)) list → With (EntryFits Fits all) (EntryRun kind step) n entry list a
-        → Opening states (DeepEntryRun Own all n entry) list a
+        → Opening states (NestedEntryRun Own all n entry) list a
     entry_opened all n entry list a stand (fits, (r, is, at, one, answer)) =
         let found : AllByRecursion (StandsAt occupants (inside_at all n)) (r ∷ []) = subst (AllByRecursion (StandsAt occupants (inside_at all n))) is stand in
         let there : inside_at all n ≡ occupants r.before = subst (λ (place : Agent). (λ path. inside_at all n (place ++ path)) ≡ occupants r.before) at found.0 in
@@ -64,24 +64,24 @@ module _ {V X E S C : Type 0} (states : X → Agent → Option (AgentState S C))
         record { opened = e.list; run = (r.outcome, run, answer); opens = subst (λ (l : List (Written V X E)). AreOpened states l e.list) (sym is) (e.list, [], opened_one r e.list at, e.replays, within, refl) }
 
     group_opened : (all : Occupants) (n : ℕ) (group : model.Group ResourceId) (list : List (Written V X E)) (a : Answer (StageFault E)) → AllByRecursion (StandsAt occupants (inside_at all n)) list → With (GroupFits Fits all) (GroupRun kind step) n group list a
-        → Opening states (DeepGroupRun Own all n group) list a
-    group_opened all n group list a stand (fits, run) = UpToFault-opened states (With (EntryFits Fits (inside_at all n)) (EntryRun kind step)) (DeepEntryRun Own (inside_at all n)) occupants (inside_at all n) (entry_opened (inside_at all n)) 0 group list a stand
+        → Opening states (NestedGroupRun Own all n group) list a
+    group_opened all n group list a stand (fits, run) = UpToFault-opened states (With (EntryFits Fits (inside_at all n)) (EntryRun kind step)) (NestedEntryRun Own (inside_at all n)) occupants (inside_at all n) (entry_opened (inside_at all n)) 0 group list a stand
         (UpToFault-with (EntryFits Fits (inside_at all n)) (EntryRun kind step) 0 group list a fits run)
 
     -- a stage's turn is opened, where each record is of what stands at its place
     pub turn_opened : (all : Occupants) (stage : model.Stage ResourceId) (list : List (Written V X E)) (a : Answer (StageFault E)) → StageFits Fits all stage → AllByRecursion (StandsAt occupants all) list → StageTurn kind step stage list a
-        → Opening states (DeepStageTurn Own all stage) list a
+        → Opening states (NestedStageTurn Own all stage) list a
     turn_opened all stage list a fits stand (inl run) =
-        let o = Each-opened states (With (GroupFits Fits all) (GroupRun kind step)) (DeepGroupRun Own all) occupants all (group_opened all) 0 stage list a stand (Each-with (GroupFits Fits all) (GroupRun kind step) 0 stage list a fits run) in
+        let o = Each-opened states (With (GroupFits Fits all) (GroupRun kind step)) (NestedGroupRun Own all) occupants all (group_opened all) 0 stage list a stand (Each-with (GroupFits Fits all) (GroupRun kind step) 0 stage list a fits run) in
         record { opened = o.opened; run = inl o.run; opens = o.opens }
     turn_opened all stage list a fits stand (inr refused) = record { opened = []; run = inr (refl, refused.1); opens = AreOpened-none states list [] refused.0 refl }
 
-    module _ {F : Type 0} (Run : ℕ → model.Stage ResourceId → List (Written V X E) → Answer F → Type 0) (tells : ℕ → Answer (StageFault E) → Answer F)
-        (reads : (n : ℕ) (stage : model.Stage ResourceId) (list : List (Written V X E)) (answer : Answer F) → Run n stage list answer → (a : Answer (StageFault E)) × StageTurn kind step stage list a × (answer ≡ tells n a)) where
+    module _ {F : Type 0} (Run : ℕ → model.Stage ResourceId → List (Written V X E) → Answer F → Type 0) (answers : ℕ → Answer (StageFault E) → Answer F)
+        (reads : (n : ℕ) (stage : model.Stage ResourceId) (list : List (Written V X E)) (answer : Answer F) → Run n stage list answer → (a : Answer (StageFault E)) × StageTurn kind step stage list a × (answer ≡ answers n a)) where
       -- and so is a plan's run
       pub plan_opened : (all : Occupants) (plan : model.Plan ResourceId) (list : List (Written V X E)) (answer : Answer F) → PlanFits Fits all plan → AllByRecursion (StandsAt occupants all) list → RunsUpToFault Run 0 plan list answer
-          → Opening states (DeepPlanRun Own tells all plan) list answer
-      plan_opened all plan list answer fits stand run = UpToFault-opened states (With (λ n stage. StageFits Fits (inside_at all n) stage) Run) (λ n stage part told. (a : Answer (StageFault E)) × DeepStageTurn Own (inside_at all n) stage part a × (told ≡ tells n a)) occupants all
+          → Opening states (NestedPlanRun Own answers all plan) list answer
+      plan_opened all plan list answer fits stand run = UpToFault-opened states (With (λ n stage. StageFits Fits (inside_at all n) stage) Run) (λ n stage part told. (a : Answer (StageFault E)) × NestedStageTurn Own (inside_at all n) stage part a × (told ≡ answers n a)) occupants all
           (λ n stage part told standing turn.
           let read = reads n stage part told turn.1 in
           let o = turn_opened (inside_at all n) stage part read.0 turn.0 standing read.1 in

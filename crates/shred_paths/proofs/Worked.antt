@@ -9,13 +9,13 @@ use Rattle.shred_table.specs.declared.id.ResourceId.{ResourceId}
 use Rattle.shred_group.specs.declared.dispatch.run.StageFault.{StageFault}
 use Rattle.shred_group.specs.Steps.{Outcome}
 use Rattle.shred_batch.specs.Depths.{Related}
-use Rattle.shred_paths.specs.DeepRecords.{DeepRecord, IsDeepStep, is_done, at_most, once_more}
-use Rattle.shred_paths.specs.DeepRuns.{DeepEntryRun, DeepPlanRun, DeepRun}
+use Rattle.shred_paths.specs.NestedRecords.{NestedRecord, IsNestedStep, done, bound, again}
+use Rattle.shred_paths.specs.NestedRuns.{NestedEntryRun, NestedPlanRun, NestedRun}
 use Rattle.shred_paths.specs.Occupants.{Occupants, a_system, a_batch, inside_at, of_system, of_controller}
 
 -- the run of an entry that stands alone in a plan
-plan-of-one : {V S C E : Type 0} (Own : Occupants → Access ResourceId → List (DeepRecord V S C E) → Outcome E → Type 0) (all : Occupants) (e : model.PlanEntry ResourceId) (list : List (DeepRecord V S C E)) → DeepEntryRun Own (inside_at (inside_at all 0) 0) 0 e list (Ok tt)
-    → DeepPlanRun Own (λ place (answer : Answer (StageFault E)). answer) all (((e ∷ []) ∷ []) ∷ []) (map (under 0) (map (under 0) (map (under 0) list ++ []) ++ []) ++ []) (Ok tt)
+plan-of-one : {V S C E : Type 0} (Own : Occupants → Access ResourceId → List (NestedRecord V S C E) → Outcome E → Type 0) (all : Occupants) (e : model.PlanEntry ResourceId) (list : List (NestedRecord V S C E)) → NestedEntryRun Own (inside_at (inside_at all 0) 0) 0 e list (Ok tt)
+    → NestedPlanRun Own (λ place (answer : Answer (StageFault E)). answer) all (((e ∷ []) ∷ []) ∷ []) (map (under 0) (map (under 0) (map (under 0) list ++ []) ++ []) ++ []) (Ok tt)
 plan-of-one Own all e list run = (_, Ok tt, (Ok tt, inl (_, [], Ok tt, Ok tt, (list, Ok tt, run, ([], refl, (refl, refl))), (refl, refl), refl, refl), refl), ([], refl, (refl, refl)))
 
 module _ {V S C E : Type 0} (kind : V → Kind) (related : Related V S C E) (control : Access ResourceId) (e f : model.PlanEntry ResourceId) where
@@ -26,13 +26,13 @@ module _ {V S C E : Type 0} (kind : V → Kind) (related : Related V S C E) (con
   all path = None
 
   -- The controller's three records have the batch's path; the system's stands between them, and its path goes on.
-  pub one-batch : (a b c d : DeepRecord V S C E) → IsDeepStep kind related.begins of_controller at_most control (Ok 2) a → IsDeepStep kind related.asks of_controller once_more control (Ok true) b
-      → IsDeepStep kind related.steps of_system (λ done. is_done) f.access (Ok tt) c → IsDeepStep kind related.asks of_controller once_more control (Ok false) d
-      → DeepPlanRun (DeepRun kind related 1) (λ place (answer : Answer (StageFault E)). answer) all (((e ∷ []) ∷ []) ∷ [])
+  pub one-batch : (a b c d : NestedRecord V S C E) → IsNestedStep kind related.begins of_controller bound control (Ok 2) a → IsNestedStep kind related.asks of_controller again control (Ok true) b
+      → IsNestedStep kind related.steps of_system (λ ended. done) f.access (Ok tt) c → IsNestedStep kind related.asks of_controller again control (Ok false) d
+      → NestedPlanRun (NestedRun kind related 1) (λ place (answer : Answer (StageFault E)). answer) all (((e ∷ []) ∷ []) ∷ [])
       (record a { agent = 0 ∷ 0 ∷ 0 ∷ a.agent } ∷ record b { agent = 0 ∷ 0 ∷ 0 ∷ b.agent } ∷ record c { agent = 0 ∷ 0 ∷ 0 ∷ 0 ∷ 0 ∷ 0 ∷ c.agent } ∷ record d { agent = 0 ∷ 0 ∷ 0 ∷ d.agent } ∷ []) (Ok tt)
-  unfolding DeepRun
+  unfolding NestedRun
   one-batch a b c d begins says one ends =
-      let inner : DeepRecord V S C E = record c { agent = 0 ∷ 0 ∷ 0 ∷ c.agent } in
-      let round = plan-of-one (DeepRun kind related 0) (inside_at (inside_at (inside_at all 0) 0) 0) f (c ∷ []) (Ok tt, (c, refl, one), refl) in
-      plan-of-one (DeepRun kind related 1) all e (a ∷ b ∷ inner ∷ d ∷ [])
+      let inner : NestedRecord V S C E = record c { agent = 0 ∷ 0 ∷ 0 ∷ c.agent } in
+      let round = plan-of-one (NestedRun kind related 0) (inside_at (inside_at (inside_at all 0) 0) 0) f (c ∷ []) (Ok tt, (c, refl, one), refl) in
+      plan-of-one (NestedRun kind related 1) all e (a ∷ b ∷ inner ∷ d ∷ [])
       (Ok tt, (a, Ok 2, begins, (b ∷ inner ∷ d ∷ [], refl, (b, Ok true, says, (inner ∷ [], Ok tt, round, (d ∷ [], refl, (d, Ok false, ends, (refl, refl))))))), refl)

@@ -1,5 +1,6 @@
 pub mod Occupants
-pub mod DeepRecords
-pub mod DeepRuns
-pub mod Occupied
+pub mod NestedRecords
+pub mod NestedRuns
+pub mod WithNested
+pub mod Entries
 pub mod Parallel

@@ -31,29 +31,25 @@ Occupants = Agent → Option Occupant
 abbrev pub inside_at : {T : Type 0} → (Agent → Option T) → ℕ → Agent → Option T
 inside_at all place path = all (place ∷ path)
 
--- one itself, and what is inside it
-abbrev pub with_own : {T : Type 0} → T → (Agent → Option T) → Agent → Option T
-with_own own all [] = Some own
-with_own own all (place ∷ path) = all (place ∷ path)
-
 -- what is at each path, where its first so many numbers are the place of an element, and the others a path inside that
-abbrev pub at_places : {X T : Type 0} → ℕ → (X → Agent → Option T) → (Agent → Option X) → Agent → Option T
-at_places zero within elements path = option_and_then (λ x. within x path) (elements [])
-at_places (suc more) within elements [] = None
-at_places (suc more) within elements (place ∷ path) = at_places more within (inside_at elements place) path
+abbrev pub inside_each : {X T : Type 0} → ℕ → (X → Agent → Option T) → (Agent → Option X) → Agent → Option T
+inside_each zero within elements path = option_and_then (λ x. within x path) (elements [])
+inside_each (suc more) within elements [] = None
+inside_each (suc more) within elements (place ∷ path) = inside_each more within (inside_at elements place) path
 
 module _ {V S C T : Type 0} (system : S → T) (batch : OneBatch V C (Work S (Nested V S C)) → T) where
-  -- What is said of each system and of each batch, by its path inside what stands in an entry: a batch has the empty path, and what stands in its inner plan the stage, the group, the place, and a path inside that. Deeper than the depth there is nothing.
-  unfoldable pub said_inside : ℕ → Work S (Nested V S C) → Agent → Option T
-  said_inside depth (System s) path = own_state (system s) path
-  said_inside zero (Batch nested) path = None
-  said_inside (suc less) (Batch nested) path = with_own (batch (batch_of nested)) (at_places 3 (said_inside less) (listed_states tier_states (batch_of nested).tiers.items)) path
+  -- What is so of each system and of each batch, by its path inside what stands in an entry: a system or a batch that stands there itself has the empty path, and what stands in a batch's inner plan the stage, the group, the place, and a path inside that.
+  unfoldable pub by_path : Work S (Nested V S C) → Agent → Option T
+  by_path (System s) path = own_state (system s) path
+  by_path (Batch nested) [] = Some (batch (batch_of nested))
+  by_path (Batch nested) (stage ∷ (group ∷ (place ∷ path))) = option_and_then (λ work. by_path work path) (listed_states tier_states (batch_of nested).tiers.items (stage ∷ group ∷ place ∷ []))
+  by_path (Batch nested) path = None
 
 module _ {V S C : Type 0} where
   -- the states of all agents inside what stands in an entry; a batch's own is its controller's
-  abbrev pub work_states : ℕ → Work S (Nested V S C) → Agent → Option (AgentState S C)
-  work_states depth work = said_inside of_system (λ b. of_controller b.control.controller) depth work
+  abbrev pub work_states : Work S (Nested V S C) → Agent → Option (AgentState S C)
+  work_states work = by_path of_system (λ b. of_controller b.control.controller) work
 
   -- what stands at each path inside what stands in an entry
-  abbrev pub work_occupants : ℕ → Work S (Nested V S C) → Occupants
-  work_occupants depth work = said_inside (λ s. a_system) (λ b. a_batch (control_access b.control) (tiers_plan b.tiers.items)) depth work
+  abbrev pub work_occupants : Work S (Nested V S C) → Occupants
+  work_occupants work = by_path (λ s. a_system) (λ b. a_batch (control_access b.control) (tiers_plan b.tiers.items)) work

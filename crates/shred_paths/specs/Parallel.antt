@@ -9,6 +9,6 @@ AreParallel (s ∷ (g ∷ (n ∷ a))) (t ∷ (h ∷ (m ∷ b))) = (s ≡ t) × (
 AreParallel a b = ⊥
 
 -- An order of a plan's records that keeps the order of any two, save those of agents inside different groups of one stage: these come interleaved in any way.
-pub record IsDeepInterleaving {I V S O : Type 0} (list moved : List (Record Agent I V S O)) (from : ℕ → ℕ) : Type 0 where
+pub record IsNestedInterleaving {I V S O : Type 0} (list moved : List (Record Agent I V S O)) (from : ℕ → ℕ) : Type 0 where
   pub order : IsOrderOf list moved from
   pub kept : (j k : ℕ) (r q : Record Agent I V S O) → j < k → k < length list → slice_get moved j ≡ Some r → slice_get moved k ≡ Some q → (AreParallel r.agent q.agent → ⊥) → from j < from k

@@ -1,2 +1,2 @@
-//! Records at every depth of batches, and what a dispatch of batches promises of them: definitions and lemmas, and no code.
+//! What a run over batches is, told by records of systems and controllers at every depth, and what it leaves: definitions and lemmas, and no code. No contract cites them yet.
 #![tactic(auto)]

@@ -6,9 +6,9 @@ use Rattle.shred_model.specs.Record.{Record, Agent, under}
 use Rattle.shred_model.specs.Replay.{Configuration, Replays}
 use Rattle.shred_model.specs.Runs.{Answer, RunsUpToFault, RunsEach}
 use Rattle.shred_model.proofs.Records.Framed.{EachPasses, RunsUpToFault-all, RunsEach-all}
-use Rattle.shred_paths.specs.Occupants.{inside_at, at_places}
+use Rattle.shred_paths.specs.Occupants.{inside_at, inside_each}
 use Rattle.shred_paths.proofs.Opened.Lists.{AreOpened, AreOpened-none, AreOpened-append, AreOpened-under}
-use Rattle.shred_paths.proofs.Opened.Places.{at_places-at, at_places-alike, at_places-same}
+use Rattle.shred_paths.proofs.Opened.Places.{inside_each-at, inside_each-alike, inside_each-same}
 
 -- so it is of each element, at its place, from place n on
 abbrev pub EachAt : {Y : Type 0} → (ℕ → Y → Type 0) → ℕ → List Y → Type 0
@@ -62,28 +62,28 @@ module _ {I V X O T : Type 0} (said : X → Agent → Option T) where
 
   -- where each record leaves what it found, each finds what stood there at first
   pub stands : (n : ℕ) (list : List (Record Agent I V X O)) (x y : Configuration Agent I V X) → AllByRecursion (Stays n) list → Replays x list y
-      → AllByRecursion (StandsAt (at_places n said x.states)) list × (at_places n said y.states ≡ at_places n said x.states)
-  stands n [] x y stay like = (tt, fun_ext (at_places-alike said n x.states y.states like.states))
+      → AllByRecursion (StandsAt (inside_each n said x.states)) list × (inside_each n said y.states ≡ inside_each n said x.states)
+  stands n [] x y stay like = (tt, fun_ext (inside_each-alike said n x.states y.states like.states))
   stands n (r ∷ list) x y stay (m, goes, then) =
-      let same : at_places n said m.states ≡ at_places n said x.states = fun_ext (at_places-same said n x.states m.states r.agent r.before r.after stay.0.0 goes.finds_state goes.puts_state goes.other_states stay.0.1) in
+      let same : inside_each n said m.states ≡ inside_each n said x.states = fun_ext (inside_each-same said n x.states m.states r.agent r.before r.after stay.0.0 goes.finds_state goes.puts_state goes.other_states stay.0.1) in
       let rest = stands n list m y stay.1 then in
-      ((fun_ext (λ path. at_places-at said n x.states r.agent r.before path stay.0.0 goes.finds_state), subst (λ (all : Agent → Option T). AllByRecursion (StandsAt all) list) same rest.0), rest.1 ∙ same)
+      ((fun_ext (λ path. inside_each-at said n x.states r.agent r.before path stay.0.0 goes.finds_state), subst (λ (all : Agent → Option T). AllByRecursion (StandsAt all) list) same rest.0), rest.1 ∙ same)
 
 module _ {I V X O S P : Type 0} (states : X → Agent → Option S) where
   -- Some list is such a run, and is what the records are opened into.
-  pub record Opening {F : Type 0} (Deep : List (Record Agent I V S P) → Answer F → Type 0) (list : List (Record Agent I V X O)) (a : Answer F) : Type 0 where
+  pub record Opening {F : Type 0} (Finer : List (Record Agent I V S P) → Answer F → Type 0) (list : List (Record Agent I V X O)) (a : Answer F) : Type 0 where
     pub opened : List (Record Agent I V S P)
-    pub run : Deep opened a
+    pub run : Finer opened a
     pub opens : AreOpened states list opened
 
-  module _ {Y F : Type 0} (Run : ℕ → Y → List (Record Agent I V X O) → Answer F → Type 0) (Deep : ℕ → Y → List (Record Agent I V S P) → Answer F → Type 0) {T : Type 0} (said : X → Agent → Option T) (all : Agent → Option T)
-      (one : (n : ℕ) (y : Y) (list : List (Record Agent I V X O)) (a : Answer F) → AllByRecursion (StandsAt said (inside_at all n)) list → Run n y list a → Opening (Deep n y) list a) where
+  module _ {Y F : Type 0} (Run : ℕ → Y → List (Record Agent I V X O) → Answer F → Type 0) (Finer : ℕ → Y → List (Record Agent I V S P) → Answer F → Type 0) {T : Type 0} (said : X → Agent → Option T) (all : Agent → Option T)
+      (one : (n : ℕ) (y : Y) (list : List (Record Agent I V X O)) (a : Answer F) → AllByRecursion (StandsAt said (inside_at all n)) list → Run n y list a → Opening (Finer n y) list a) where
     joined : (n : ℕ) (list first others : List (Record Agent I V X O)) (os ps : List (Record Agent I V S P)) → list ≡ map (under n) first ++ others → AreOpened states first os → AreOpened states others ps → AreOpened states list (map (under n) os ++ ps)
     joined n list first others os ps is opens also = subst (λ (l : List (Record Agent I V X O)). AreOpened states l (map (under n) os ++ ps)) (sym is)
         (AreOpened-append states (map (under n) first) others (map (under n) os) ps (AreOpened-under states n first os opens) also)
 
     -- a run up to the first fault
-    pub UpToFault-opened : (n : ℕ) (ys : List Y) (list : List (Record Agent I V X O)) (a : Answer F) → AllByRecursion (StandsAt said all) list → RunsUpToFault Run n ys list a → Opening (RunsUpToFault Deep n ys) list a
+    pub UpToFault-opened : (n : ℕ) (ys : List Y) (list : List (Record Agent I V X O)) (a : Answer F) → AllByRecursion (StandsAt said all) list → RunsUpToFault Run n ys list a → Opening (RunsUpToFault Finer n ys) list a
     UpToFault-opened n [] list a stand (is, end) = record { opened = []; run = (refl, end); opens = AreOpened-none states list [] is refl }
     UpToFault-opened n (y ∷ ys) list a stand (first, Ok done, run, (others, is, more)) =
         let parts = split (StandsAt said all) n first others list is stand in
@@ -96,7 +96,7 @@ module _ {I V X O S P : Type 0} (states : X → Agent → Option S) where
         record { opened = map (under n) o.opened; run = (o.opened, Err fault, o.run, (refl, end)); opens = subst (λ (l : List (Record Agent I V X O)). AreOpened states l (map (under n) o.opened)) (sym is) (AreOpened-under states n first o.opened o.opens) }
 
     -- a run of all
-    pub Each-opened : (n : ℕ) (ys : List Y) (list : List (Record Agent I V X O)) (a : Answer F) → AllByRecursion (StandsAt said all) list → RunsEach Run n ys list a → Opening (RunsEach Deep n ys) list a
+    pub Each-opened : (n : ℕ) (ys : List Y) (list : List (Record Agent I V X O)) (a : Answer F) → AllByRecursion (StandsAt said all) list → RunsEach Run n ys list a → Opening (RunsEach Finer n ys) list a
     Each-opened n [] list a stand (is, end) = record { opened = []; run = (refl, end); opens = AreOpened-none states list [] is refl }
     Each-opened n (y ∷ ys) list a stand (first, others, b, c, run, more, is, end) =
         let parts = split (StandsAt said all) n first others list is stand in

@@ -1,4 +1,4 @@
-//! Two systems over two numbers: their plan is printed, and run on threads.
+//! Two systems, one of which doubles what the other sets: their plan is printed, and run on threads.
 #![tactic(auto)]
 
 ghost use Rattle.std.specs.Int.{int_wrapping_mul, w64};
@@ -11,9 +11,7 @@ use shred::{
     PlainSystem, ToWriter, View, World, only_id,
 };
 use std::alloc::Global;
-use std::io::Write;
 
-/// Sets the number at 0 to 7.
 #[derive(Drop)]
 struct Sets;
 
@@ -36,7 +34,6 @@ impl PlainSystem<Only<i64>> for Sets {
     }
 }
 
-/// Sets the number at 1 to the double of that at 0.
 #[derive(Drop)]
 struct Doubles;
 
@@ -60,20 +57,23 @@ impl PlainSystem<Only<i64>> for Doubles {
     }
 }
 
+type Both = OneOf<Plain<Sets>, Plain<Doubles>>;
+
+fn planned(alloc: Global) -> anyhow::Result<DispatcherBuilder<Only<i64>, Both>> {
+    let builder = DispatcherBuilder::new(alloc)
+        .with(OneOf::First(Plain(Sets)), "sets", &[])?
+        .with(OneOf::Second(Plain(Doubles)), "doubles", &["sets"])?;
+    Ok(builder)
+}
+
 fn main(rt: HostRuntime) -> anyhow::Result<()> {
     let mut world = World::empty(rt.alloc());
     world.insert_by_id(only_id(0), 1)?;
     world.insert_by_id(only_id(1), 2)?;
-
-    let builder: DispatcherBuilder<_, OneOf<_, _>> = DispatcherBuilder::new(rt.alloc())
-        .with(OneOf::First(Plain(Sets)), "sets", &[])?
-        .with(OneOf::Second(Plain(Doubles)), "doubles", &["sets"])?;
+    let builder = planned(rt.alloc())?;
     builder.print_par_seq(&mut ToWriter::new(rt.stdout()))?;
-
     builder.build().dispatch_par(&rt, &mut world)?;
-    let number = world
-        .try_fetch_by_id::<i64>(only_id(1))?
-        .map(|number| *number);
-    writeln!(rt.stdout(), "{number:?}")?;
+    let number = world.remove_by_id::<i64>(only_id(1))?;
+    println!(rt; "{number:?}")?;
     Ok(())
 }

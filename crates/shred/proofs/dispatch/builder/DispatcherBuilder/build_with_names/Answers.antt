@@ -1,4 +1,4 @@
-use Rattle.std.proofs.Common.{◌∙◌}
+use Rattle.std.proofs.Common.{◌∙◌, rules}
 use Rattle.shred.proofs.Names.KnownNames.{names-known}
 use Rattle.shred.proofs.dispatch.builder.DispatcherBuilder.build_with_names.Goals as goal
 
@@ -7,3 +7,6 @@ returns-clause-names g c = names-known c.args.self.names c.args.self.distinct_na
 
 pub returns-clause-states : goal.returns-clause-states
 returns-clause-states g c path = c.new_dispatcher-dispatcher.ensures.states path ∙ c.build.ensures.states path
+
+pub returns-clause-workers : goal.returns-clause-workers
+returns-clause-workers g c = search rules

@@ -9,3 +9,6 @@ returns-in-Some-view-clause-refused g c = search rules
 
 pub returns-in-Some-view-clause-shown : goal.returns-in-Some-view-clause-shown
 returns-in-Some-view-clause-shown g c = search rules
+
+pub returns-in-Err-clause-refused : goal.returns-in-Err-clause-refused
+returns-in-Err-clause-refused g c = search rules

@@ -15,3 +15,6 @@ returns-in-Err-take_out-clause-refused g c = search rules
 
 pub returns-in-Ok-Some-clause-taken : goal.returns-in-Ok-Some-clause-taken
 returns-in-Ok-Some-clause-taken g c = search rules
+
+pub returns-in-Ok-Some-clause-loan : goal.returns-in-Ok-Some-clause-loan
+returns-in-Ok-Some-clause-loan g c = c.take_out.ensures.loan

@@ -27,3 +27,6 @@ pub returns : goal.returns
 returns g c =
     let past : length c.args.self.now.groups.items ≤ c.loop-place.place = search rules in
     touched_all group_plan (is_touched same_id (numbers_of c.args.left.now) (access_of c.args.entry.now)) c.args.self.now.groups.items c.loop-place.place c.loop-place.touched past c.loop-place.invariant
+
+pub loop-place-init : goal.loop-place-init
+loop-place-init g c = search rules

@@ -1,4 +1,5 @@
 use Rattle.std.proofs.Common.{arith, rules}
+use Rattle.std.proofs.lemmas.Grind.{common_steps}
 use Rattle.shred_group.specs.Sides.{stage_side}
 use Rattle.shred_stage.specs.StagePlan.{stage_plan}
 use Rattle.shred_group.proofs.Groups.Appended.{appended_more}
@@ -8,3 +9,6 @@ pub loop-place-preserved : goal.loop-place-preserved
 loop-place-preserved g c =
     appended_more stage_plan (stage_side c.args.side) c.args.self.now.stages.items c.loop-place.place c.index.result.now c.args.ids.now.items c.loop-place.ids.items _ (omega (arith, c.loop-place-test.true)) c.index.ensures
     c.loop-place.invariant (search rules)
+
+pub returns : goal.returns
+returns g c = grind (arith, common_steps)

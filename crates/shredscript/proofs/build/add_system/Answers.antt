@@ -1,4 +1,4 @@
-use Rattle.std.proofs.Common.{ap}
+use Rattle.std.proofs.Common.{ap, rules}
 use Rattle.shred.specs.Builders.{built}
 use Rattle.shred_stage.specs.Known.{texts_of}
 use Rattle.shredscript.proofs.Lines.{added-by}
@@ -8,3 +8,6 @@ pub returns-in-Ok-clause-added : goal.returns-in-Ok-clause-added
 returns-in-Ok-clause-added c =
     let system = c.in_ok-system.system in
     added-by c.args.line (built c.args.builder.now) (built c.add.new.self) system _ _ _ (ap texts_of c.as_slice.ensures.value) c.in_ok-system.ensures.steps c.in_ok-system.ensures.time system.reads_of_steps system.writes_of_steps c.in-Ok.ensures.allowed c.in-Ok.ensures.added
+
+pub returns-clause-not_added : goal.returns-clause-not_added
+returns-clause-not_added c = search rules

@@ -20,6 +20,7 @@ pub record RanAsBatch {V C X E : Type 0} (kind : V → Kind) (own : X → List R
   pub run : BatchRun kind asks (control_access old.control) (InnerRun kind step) begins old.control.controller old.tiers.items (shown kind lent before) outcome new.control.controller new.tiers.items (shown kind lent after)
   pub same_access : control_access new.control ≡ control_access old.control
   pub same_plan : tiers_plan new.tiers.items ≡ tiers_plan old.tiers.items
+  pub same_depth : new.depth ≡ old.depth
   pub kinds : (id : ResourceId) → option_map kind (shown kind lent after id) ≡ option_map kind (shown kind lent before id)
   pub slots : IsSameSlots before after
   pub frame : (id : ResourceId) → among writes id ≡ false → shown kind lent after id ≡ shown kind lent before id

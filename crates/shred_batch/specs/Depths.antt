@@ -45,6 +45,7 @@ pub record BatchStep {V C X E : Type 0} (kind : V → Kind) (begins : Control V 
   pub same_access : control_access new.control ≡ control_access old.control
   pub same_plan : tiers_plan new.tiers.items ≡ tiers_plan old.tiers.items
   pub same_ids : map tier_numbers new.tiers.items ≡ map tier_numbers old.tiers.items
+  pub same_depth : new.depth ≡ old.depth
 
 module _ {V S C E : Type 0} (kind : V → Kind) (related : Related V S C E) where
   -- A step of a system lies in its relation; a step of a batch is a run of it, whose inner steps are those of batches that nest less deep.

@@ -15,7 +15,7 @@ pub mod run_beside;
 mod step;
 pub mod stepper;
 mod tiers;
-mod turn;
+pub mod turn;
 pub mod work;
 
 pub use controller::BatchController;

@@ -19,8 +19,8 @@ use crate::work::{Batch, Tier};
 use shred_group::{Fault, StageFault};
 use shred_world::{ResourceValue, Table};
 
-// A fault of the inner plan, as the batch's own.
-fn within<E>(fault: StageFault<E>) -> Fault<E>
+/// A fault of the inner plan, as the batch's own.
+pub fn within<E>(fault: StageFault<E>) -> Fault<E>
     ensures { result ≡ fault_within fault }
 {
     match fault {

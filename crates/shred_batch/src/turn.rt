@@ -20,8 +20,8 @@ use shred_group::dispatch::hands::{move_all_back, move_all_out};
 use shred_world::{ResourceId, ResourceValue, Shelf, Table};
 use std::thread::Threads;
 
-// A group's run, over its hand and what is lent shared.
-fn run_group<V: ResourceValue + Drop, X, E, T: Stepper<V, X, E>>(
+/// A group's run, over its hand and what is lent shared.
+pub fn run_group<V: ResourceValue + Drop, X, E, T: Stepper<V, X, E>>(
     by: &T,
     group: &mut Group<V, X>,
     shelf: &[Shelf<V>; 1],

@@ -13,6 +13,8 @@ pub struct Tier<V, X> {
 pub struct Batch<V, C, X> {
     pub control: KeptController<V, C>,
     pub tiers: Vec<Tier<V, X>>,
+    /// How deep batches nest here: one more than they do in what stands in the inner plan, or some number above that.
+    pub depth: usize,
 }
 
 /// A system, or a batch.

@@ -3,4 +3,5 @@ pub mod Appended
 pub mod GrownGroups
 pub mod Ids
 pub mod Membership
+pub mod Orders
 pub mod Reading

@@ -5,7 +5,6 @@ pub mod Earlier
 pub mod EntriesAt
 pub mod KeptLists
 pub mod Left
-pub mod Orders
 pub mod PlanKeeps
 pub mod Pushed
 pub mod Searching

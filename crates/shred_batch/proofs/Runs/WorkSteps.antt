@@ -88,6 +88,7 @@ module _ {V S C : Type 0} (declared : Declared S C) (reads writes : List Resourc
                 (tiers-covered (Owns declared less) reads writes batch.tiers.items (recursion_from_All _ batch.tiers.items within.tiers)) ran.run;
             same_access = ran.same_access;
             same_plan = ran.same_plan;
+            same_depth = ran.same_depth;
             same_ids = batch_keeps kind related.asks (control_access batch.control) (InnerRun kind (WorkStep kind related less)) (map tier_numbers) (λ p m answer r l inner. inner.same_ids) related.begins batch.control.controller batch.tiers.items (shown kind lent before) outcome (batch_of left).control.controller (batch_of left).tiers.items (shown kind lent after) ran.run;
           };
           kinds = ran.kinds;

@@ -7,3 +7,4 @@ pub mod fork;
 pub mod hands;
 pub mod run;
 pub mod setup;
+pub mod sorted;

@@ -1,7 +1,6 @@
 //! The planner: it gives each new system a place in the plan.
-ghost use Rattle.std.specs.Prelude.{◌≡◌, ◌↔◌, ◌<◌, ◌≤◌, ℕ, length, [], ◌∷◌, ◌++◌, slice_index_or, slice_set, All, AllPairs, Any, Contains, IfOk, OnOk, OnErr, true};
+ghost use Rattle.std.specs.Prelude.{◌≡◌, ◌↔◌, ◌<◌, ◌≤◌, ℕ, length, [], ◌∷◌, ◌++◌, slice_index_or, slice_set, All, AllPairs, Contains, IfOk, OnOk, OnErr};
 ghost use Rattle.std.specs.List.{flat_map};
-ghost use Rattle.std.specs.List.Sorted.{IsStrictlySortedBy};
 ghost use Rattle.shred_table.specs.Id.{IsBefore};
 ghost use Rattle.shred_table.specs.declared.id.ResourceId.{ResourceId};
 ghost use Rattle.shred_model.specs.Plan as model;
@@ -23,6 +22,7 @@ use crate::dispatch::printing::{PrintError, print};
 use crate::dispatch::sink::PlanSink;
 use crate::dispatch::stage::{Spot, Stage};
 use shred_group::dispatch::entry::{Side, SystemEntry, SystemId, push_or_drop};
+use shred_group::dispatch::sorted::sort_without_doubles;
 use shred_group::system::System;
 use shred_world::parting::empty_hand;
 use shred_world::{Accessor, OutOfMemory, ResourceId, ResourceValue, Table};
@@ -309,14 +309,4 @@ fn kept_entry<V: ResourceValue + Drop, S: System<V> + Drop>(
         system,
         hand,
     })
-}
-
-/// Sorts the items and drops those that equal the one before.
-pub(crate) fn sort_without_doubles<T: Ord + Drop>(items: &mut Vec<T>)
-    ensures in_order { IsStrictlySortedBy T.cmp items.new.items }
-    ensures none_new { (x : T) → Contains items.new.items x → Contains items.old.items x }
-    ensures none_lost { (x : T) → Contains items.old.items x → Any (λ y. T.eq x y ≡ true) items.new.items }
-{
-    items.sort_unstable();
-    items.dedup();
 }

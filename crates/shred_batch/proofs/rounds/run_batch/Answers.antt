@@ -1,4 +1,4 @@
-use Rattle.std.proofs.Common.{◌≡◌, List, length, sym, ◌∙◌, ap, subst}
+use Rattle.std.proofs.Common.{◌≡◌, List, length, refl, sym, ◌∙◌, ap, subst}
 use Rattle.std.proofs.lemmas.List.{with_items_is}
 use Rattle.shred_table.specs.Shown.{shown}
 use Rattle.shred_table.specs.Slots.{among}
@@ -21,6 +21,7 @@ run_parts-requires g c = record {
 pub returns : goal.returns
 returns g c =
     let was = c.args.batch.now.tiers in
+    let was_depth = c.args.batch.now.depth in
     let seen = shown g.V.ResourceValue.kind_of (lent_slot c.args.loan.now.shelf.now) in
     let same : length c.run_parts.new.tiers ≡ was.len = c.run_parts.auto.tiers ∙ c.as_mut_slice.ensures.len in
     let put = with_items_is was c.run_parts.new.tiers same in
@@ -31,6 +32,7 @@ returns g c =
       run = subst (λ (tiers : List (Tier g.row.V.Denot g.row.X.Denot)). BatchRun g.V.ResourceValue.kind_of g.C.ControllerOf.asks (control_access c.args.batch.now.control) (InnerRun g.V.ResourceValue.kind_of (g.T.Turner.step c.args.by.now)) g.C.ControllerOf.begins c.args.batch.now.control.controller was.items (seen c.args.own.now) c.run_parts.result c.run_parts.new.control.controller tiers (seen c.run_parts.new.own)) (sym put) ran;
       same_access = kept.access;
       same_plan = kept.tiers.plan;
+      same_depth = refl {a = was_depth};
       kinds = kept.tiers.keeps.kinds;
       slots = kept.tiers.keeps.slots;
       frame = kept.tiers.keeps.frame;

@@ -2,9 +2,7 @@ use Rattle.std.proofs.Common.{◌≡◌, ◌∙◌, List, ap, refl, subst, rules
 use Rattle.shred_table.specs.declared.id.ResourceId.{ResourceId}
 use Rattle.shred_table.specs.Parting.{IsEmptyHand}
 use Rattle.shred_group.specs.Time.{time_count}
-use Rattle.shred_table.specs.Id.{IsBefore}
 use Rattle.shred_stage.proofs.Planner.KeptLists.{own_lists-of_same}
-use Rattle.shred_stage.proofs.Planner.Orders.{AllPairs-from_sorted, Contains-from_same, IsBefore-from_less}
 use Rattle.shred_stage.proofs.dispatch.stages_builder.kept_entry.Goals as goal
 
 pub returns-clause-kept : goal.returns-clause-kept
@@ -13,8 +11,8 @@ returns-clause-kept g c =
     let given = c.in_ok-reads.ensures ∙ c.in_ok-accessor.ensures.reads in
     record {
       same_id = refl;
-      reads_in_order = AllPairs-from_sorted _ IsBefore IsBefore-from_less sorted.new.items.items sorted.ensures.in_order;
-      same_reads = λ i. ((λ h. rw given at (sorted.ensures.none_new i h)), (λ h. Contains-from_same sorted.new.items.items i (sorted.ensures.none_lost i (rw given h))));
+      reads_in_order = sorted.ensures.in_order;
+      same_reads = rw given at sorted.ensures.same;
       same_writes = c.in_ok-writes.ensures ∙ c.in_ok-accessor.ensures.writes;
       same_time = ap time_count c.running_time-time.ensures;
     }
@@ -26,7 +24,7 @@ returns-clause-own_lists g c =
     let ids : c.as_slice.result.now ≡ c.in_ok-writes.writes.items = search rules in
     record {
       hand = subst (λ (ids : List ResourceId). IsEmptyHand ids c.in_ok-hand.hand) ids c.in_ok-hand.ensures;
-      lists = own_lists-of_same (g.S.System.reads c.args.system) (g.S.System.writes c.args.system) sorted.new.items.items c.in_ok-writes.writes.items
-          (λ i. ((λ h. rw given at (sorted.ensures.none_new i h)), (λ h. Contains-from_same sorted.new.items.items i (sorted.ensures.none_lost i (rw given h)))))
+      lists = own_lists-of_same (g.S.System.reads c.args.system) (g.S.System.writes c.args.system) sorted.new.ids.items c.in_ok-writes.writes.items
+          (rw given at sorted.ensures.same)
           (c.in_ok-writes.ensures ∙ c.in_ok-accessor.ensures.writes);
     }

@@ -1,7 +1,7 @@
 use Rattle.std.proofs.lemmas.List.Filters.{dedup_is}
 use Rattle.std.proofs.lemmas.List.Kept.{Any-dedup, Contains-from_dedup, IsStrictlySortedBy-dedup}
 use Rattle.std.proofs.lemmas.List.Sorted.{Contains-permutation, IsPermutation-sym}
-use Rattle.shred_stage.proofs.dispatch.stages_builder.sort_without_doubles.Goals as goal
+use Rattle.shred_group.proofs.dispatch.sorted.sort_items.Goals as goal
 
 pub returns-clause-in_order : goal.returns-clause-in_order
 returns-clause-in_order g c = rw (dedup_is _ _ _ c.dedup.ensures.filtered) (IsStrictlySortedBy-dedup g.met.T.Ord.total g.met.T.Ord.matches_eq _ c.sort_unstable.ensures.sorted)

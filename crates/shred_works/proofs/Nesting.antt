@@ -1,0 +1,29 @@
+-- How deep batches nest at most in what was looked at so far.
+use Rattle.std.proofs.Common.{◌≡◌, ℕ, ◌+◌, ◌<◌, ◌≤◌, List, [], ◌∷◌, length, take, get_or, sym, subst, arith}
+use Rattle.std.specs.List.{All}
+use Rattle.std.proofs.lemmas.List.{take_more}
+use Rattle.std.proofs.lemmas.List.Elements.{All-push, All-weaker}
+use Rattle.shred_group.specs.declared.dispatch.entry.Group.{Group}
+use Rattle.shred_group.specs.declared.dispatch.entry.SystemEntry.{SystemEntry}
+use Rattle.shred_batch.specs.declared.work.Nested.{Nested}
+use Rattle.shred_batch.specs.declared.work.Tier.{Tier}
+use Rattle.shred_batch.specs.declared.work.Work.{Work}
+use Rattle.shred_works.specs.Batches.{NestsTo, GroupNestsTo, TierNestsTo}
+use Rattle.shred_works.specs.OwnDepth.{depth_of}
+
+module _ {X : Type 0} (below : ℕ → X → Type 0) (grows : (a b : ℕ) → a ≤ b → (x : X) → below a x → below b x) where
+  -- what holds of the elements looked at so far and of the next one, each with its bound, holds of all of them with any that is no less
+  pub most-more : (xs : List X) (n : ℕ) (d : X) → n < length xs → (most here next : ℕ) → most ≤ next → here ≤ next → All (below most) (take n xs) → below here (get_or xs n d) → All (below next) (take (n + 1) xs)
+  most-more xs n d lt most here next up over so_far one =
+      subst (All (below next)) (sym (take_more xs n d lt)) (All-push (below next) (take n xs) (get_or xs n d) (All-weaker (below most) (below next) (grows most next up) (take n xs) so_far) (grows here next over (get_or xs n d) one))
+
+module _ {V S C : Type 0} where
+  -- what nests no deeper than a number nests no deeper than a greater one
+  pub nests-grows : (a b : ℕ) → a ≤ b → (entry : SystemEntry V (Work S (Nested V S C))) → NestsTo a entry → NestsTo b entry
+  nests-grows a b le entry nests = omega (arith, nests)
+
+  pub group-grows : (a b : ℕ) → a ≤ b → (group : Group V (Work S (Nested V S C))) → GroupNestsTo a group → GroupNestsTo b group
+  group-grows a b le group nest = All-weaker (NestsTo a) (NestsTo b) (nests-grows a b le) group.entries.items nest
+
+  pub tier-grows : (a b : ℕ) → a ≤ b → (tier : Tier V (Work S (Nested V S C))) → TierNestsTo a tier → TierNestsTo b tier
+  tier-grows a b le tier nest = All-weaker (GroupNestsTo a) (GroupNestsTo b) (group-grows a b le) tier.groups.items nest

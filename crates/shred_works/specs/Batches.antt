@@ -1,0 +1,60 @@
+-- The entry that is kept of a batch.
+use Rattle.std.specs.Prelude.{◌≡◌, ◌≤◌, ◌↔◌, ◌++◌, ℕ, List, All, AllPairs, Contains}
+use Rattle.shred_model.specs.Access.{Access}
+use Rattle.shred_model.specs.Beside.{AreApart}
+use Rattle.shred_model.specs.Plan as model
+use Rattle.shred_model.specs.Plan.{group_access}
+use Rattle.shred_table.specs.Id.{IsBefore}
+use Rattle.shred_table.specs.declared.id.ResourceId.{ResourceId}
+use Rattle.shred_group.specs.Hands.{KeepsRoom}
+use Rattle.shred_group.specs.OwnLists.{IsGroupOf}
+use Rattle.shred_group.specs.Sides.{plan_reads, plan_writes}
+use Rattle.shred_group.specs.Time.{time_count}
+use Rattle.shred_group.specs.declared.dispatch.entry.Group.{Group}
+use Rattle.shred_group.specs.declared.dispatch.entry.SystemEntry.{SystemEntry}
+use Rattle.shred_group.specs.declared.system.RunningTime.{RunningTime}
+use Rattle.shred_batch.specs.Depths.{batch_of}
+use Rattle.shred_batch.specs.Works.{tier_plan}
+use Rattle.shred_batch.specs.declared.work.Nested.{Nested}
+use Rattle.shred_batch.specs.declared.work.Tier.{Tier}
+use Rattle.shred_batch.specs.declared.work.Work.{Work}
+use Rattle.shred_batch.specs.declared.work.Work.TheVariants.{Batch}
+use Rattle.shred_works.specs.OwnDepth.{depth_of}
+
+-- what a batch may touch: what its controller may, and what the entries of its inner plan may
+abbrev pub joined_access : Access ResourceId → model.Plan ResourceId → Access ResourceId
+joined_access control plan = record { reads = control.reads ++ plan_reads plan; writes = control.writes ++ plan_writes plan }
+
+-- Of a batch both lists are kept in order, each id once, and the time that its controller says.
+pub record IsKeptBatch (id : ℕ) (joined : Access ResourceId) (time : RunningTime) (entry : model.PlanEntry ResourceId) : Type 0 where
+  pub same_id : entry.id ≡ id
+  pub reads_in_order : AllPairs IsBefore entry.access.reads
+  pub same_reads : (i : ResourceId) → Contains entry.access.reads i ↔ Contains joined.reads i
+  pub writes_in_order : AllPairs IsBefore entry.access.writes
+  pub same_writes : (i : ResourceId) → Contains entry.access.writes i ↔ Contains joined.writes i
+  pub same_time : entry.time ≡ time_count time
+
+-- it is a batch of this controller and these tiers
+pub record IsBatchOf {V S C : Type 0} (controller : C) (tiers : List (Tier V (Work S (Nested V S C)))) (work : Work S (Nested V S C)) : Type 0 where
+  pub nested : Nested V S C
+  pub is_batch : work ≡ Batch nested
+  pub same_controller : (batch_of nested).control.controller ≡ controller
+  pub same_tiers : (batch_of nested).tiers.items ≡ tiers
+
+-- The groups of a tier do not conflict, and have their lists and their hands.
+pub record IsTierOf {V X : Type 0} (own : X → List ResourceId → List ResourceId → Type 0) (tier : Tier V X) : Type 0 where
+  pub owns : All (IsGroupOf own) tier.groups.items
+  pub room : All KeepsRoom tier.groups.items
+  pub apart : AreApart group_access (tier_plan tier)
+
+-- batches nest no deeper than this in what stands in the entry
+abbrev pub NestsTo : {V S C : Type 0} → ℕ → SystemEntry V (Work S (Nested V S C)) → Type 0
+NestsTo most entry = depth_of entry.system ≤ most
+
+-- nor in that of any entry of the group
+abbrev pub GroupNestsTo : {V S C : Type 0} → ℕ → Group V (Work S (Nested V S C)) → Type 0
+GroupNestsTo most group = All (NestsTo most) group.entries.items
+
+-- nor in that of any entry of the tier
+abbrev pub TierNestsTo : {V S C : Type 0} → ℕ → Tier V (Work S (Nested V S C)) → Type 0
+TierNestsTo most tier = All (GroupNestsTo most) tier.groups.items

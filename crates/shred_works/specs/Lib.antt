@@ -1,0 +1,5 @@
+pub mod Batches
+pub mod Nesting
+pub mod OwnDepth
+pub mod Owned
+pub mod Setups

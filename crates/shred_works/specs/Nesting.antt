@@ -1,0 +1,32 @@
+-- How deep batches nest in what stands in entries.
+use Rattle.std.specs.Prelude.{ℕ, zero, suc, All}
+use Rattle.shred_group.specs.declared.dispatch.entry.Group.{Group}
+use Rattle.shred_group.specs.declared.dispatch.entry.SystemEntry.{SystemEntry}
+use Rattle.shred_batch.specs.Depths.{batch_of}
+use Rattle.shred_batch.specs.declared.work.Nested.{Nested}
+use Rattle.shred_batch.specs.declared.work.Tier.{Tier}
+use Rattle.shred_batch.specs.declared.work.Work.{Work}
+use Rattle.shred_batch.specs.declared.work.Work.TheVariants.{System, Batch}
+
+-- what holds of what stands in each entry of a tier
+abbrev pub EachWork : {V X : Type 0} → (X → Type 0) → Tier V X → Type 0
+EachWork P tier = All (λ group. All (λ entry. P entry.system) group.entries.items) tier.groups.items
+
+module _ {V S C : Type 0} where
+  -- A system has no batch in it; in a batch they nest deeper by one than in what stands in its inner plan.
+  unfoldable pub IsNoDeeper : ℕ → Work S (Nested V S C) → Type 0
+  IsNoDeeper depth (System system) = Unit {0}
+  IsNoDeeper zero (Batch nested) = ⊥
+  IsNoDeeper (suc less) (Batch nested) = All (EachWork (IsNoDeeper less)) (batch_of nested).tiers.items
+
+  -- so deep at most in what stands in the entry
+  abbrev pub EntryNests : ℕ → SystemEntry V (Work S (Nested V S C)) → Type 0
+  EntryNests depth entry = IsNoDeeper depth entry.system
+
+  -- in that of each entry of the group
+  abbrev pub GroupNests : ℕ → Group V (Work S (Nested V S C)) → Type 0
+  GroupNests depth group = All (EntryNests depth) group.entries.items
+
+  -- and in that of each entry of the tier
+  abbrev pub TierNests : ℕ → Tier V (Work S (Nested V S C)) → Type 0
+  TierNests depth tier = All (GroupNests depth) tier.groups.items

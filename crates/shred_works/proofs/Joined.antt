@@ -27,7 +27,7 @@ use Rattle.shred_batch.specs.declared.work.Tier.{Tier}
 use Rattle.shred_batch.specs.declared.work.Work.{Work}
 use Rattle.shred_batch.specs.declared.work.Work.TheVariants.{Batch}
 use Rattle.shred_batch.proofs.Turns.Tiers.{written-by_plan}
-use Rattle.shred_works.specs.Batches.{IsTierOf, NestsTo, GroupNestsTo, TierNestsTo}
+use Rattle.shred_works.specs.Batches.{IsTierOf, NotesAtMost, GroupNotesAtMost, TierNotesAtMost}
 use Rattle.shred_works.specs.OwnDepth.{OwnsItself, depth_of}
 use Rattle.shred_works.proofs.Deeper.{owns-deeper}
 
@@ -49,15 +49,15 @@ or-left b c e = rw e refl
 
 module _ {V S C : Type 0} (declared : Declared S C) where
   -- where batches nest no deeper than this, what is kept with its lists at its own depth is kept with them at this one
-  owned-entry : (most : ℕ) (entry : SystemEntry V (Work S (Nested V S C))) → NestsTo most entry → IsEntryOf (OwnsItself declared) entry → IsEntryOf (Owns declared most) entry
+  owned-entry : (most : ℕ) (entry : SystemEntry V (Work S (Nested V S C))) → NotesAtMost most entry → IsEntryOf (OwnsItself declared) entry → IsEntryOf (Owns declared most) entry
   owned-entry most entry nests one = record { lists = owns-deeper declared (depth_of entry.system) most entry.system entry.reads.items entry.writes.items nests one.lists; hand = one.hand }
 
-  owned-group : (most : ℕ) (group : Group V (Work S (Nested V S C))) → GroupNestsTo most group → IsGroupOf (OwnsItself declared) group → IsGroupOf (Owns declared most) group
+  owned-group : (most : ℕ) (group : Group V (Work S (Nested V S C))) → GroupNotesAtMost most group → IsGroupOf (OwnsItself declared) group → IsGroupOf (Owns declared most) group
   owned-group most group nest owns = λ k d below. owned-entry most (get_or group.entries.items k d) (nest k d below) (owns k d below)
 
   module _ (reads writes : List ResourceId) where
     -- a tier is within lists that have what its entries read and what they write
-    tier-within : (most : ℕ) (tier : Tier V (Work S (Nested V S C))) → TierNestsTo most tier → IsTierOf (OwnsItself declared) tier
+    tier-within : (most : ℕ) (tier : Tier V (Work S (Nested V S C))) → TierNotesAtMost most tier → IsTierOf (OwnsItself declared) tier
         → ((id : ResourceId) → Contains (stage_side Reads (tier_plan tier)) id → Contains reads id) → ((id : ResourceId) → Contains (stage_side Writes (tier_plan tier)) id → Contains writes id)
         → IsTierWithin (Owns declared most) reads writes tier
     tier-within most tier nest one read written = record {
@@ -70,7 +70,7 @@ module _ {V S C : Type 0} (declared : Declared S C) where
 
     -- A batch may be kept with lists that have all that its controller and its inner plan declare.
     pub batch-owned : (most : ℕ) (nested : Nested V S C) (batch : OneBatch V C (Work S (Nested V S C))) → batch_of nested ≡ batch → batch.depth ≡ suc most
-        → IsOwnControl declared.control_reads declared.control_writes batch.control → All (TierNestsTo most) batch.tiers.items → All (IsTierOf (OwnsItself declared)) batch.tiers.items
+        → IsOwnControl declared.control_reads declared.control_writes batch.control → All (TierNotesAtMost most) batch.tiers.items → All (IsTierOf (OwnsItself declared)) batch.tiers.items
         → ((id : ResourceId) → Contains reads id ↔ Contains (batch.control.reads.items ++ plan_reads (tiers_plan batch.tiers.items)) id) → ((id : ResourceId) → Contains writes id ↔ Contains (batch.control.writes.items ++ plan_writes (tiers_plan batch.tiers.items)) id)
         → OwnsItself declared (Batch nested) reads writes
     unfolding Owns

@@ -1,5 +1,5 @@
 -- The entry that is kept of a batch.
-use Rattle.std.specs.Prelude.{◌≡◌, ◌≤◌, ◌↔◌, ◌++◌, ℕ, List, All, AllPairs, Contains}
+use Rattle.std.specs.Prelude.{◌≡◌, ◌≤◌, ◌↔◌, ◌++◌, ℕ, suc, List, All, AllPairs, Contains}
 use Rattle.shred_model.specs.Access.{Access}
 use Rattle.shred_model.specs.Beside.{AreApart}
 use Rattle.shred_model.specs.Plan as model
@@ -25,7 +25,7 @@ use Rattle.shred_works.specs.OwnDepth.{depth_of}
 abbrev pub joined_access : Access ResourceId → model.Plan ResourceId → Access ResourceId
 joined_access control plan = record { reads = control.reads ++ plan_reads plan; writes = control.writes ++ plan_writes plan }
 
--- Of a batch both lists are kept in order, each id once, and the time that its controller says.
+-- Of a batch the ids that it may touch are kept in order, each once, in both lists, and the time that its controller says.
 pub record IsKeptBatch (id : ℕ) (joined : Access ResourceId) (time : RunningTime) (entry : model.PlanEntry ResourceId) : Type 0 where
   pub same_id : entry.id ≡ id
   pub reads_in_order : AllPairs IsBefore entry.access.reads
@@ -34,27 +34,31 @@ pub record IsKeptBatch (id : ℕ) (joined : Access ResourceId) (time : RunningTi
   pub same_writes : (i : ResourceId) → Contains entry.access.writes i ↔ Contains joined.writes i
   pub same_time : entry.time ≡ time_count time
 
--- it is a batch of this controller and these tiers
-pub record IsBatchOf {V S C : Type 0} (controller : C) (tiers : List (Tier V (Work S (Nested V S C)))) (work : Work S (Nested V S C)) : Type 0 where
-  pub nested : Nested V S C
-  pub is_batch : work ≡ Batch nested
-  pub same_controller : (batch_of nested).control.controller ≡ controller
-  pub same_tiers : (batch_of nested).tiers.items ≡ tiers
-
 -- The groups of a tier do not conflict, and have their lists and their hands.
 pub record IsTierOf {V X : Type 0} (own : X → List ResourceId → List ResourceId → Type 0) (tier : Tier V X) : Type 0 where
   pub owns : All (IsGroupOf own) tier.groups.items
   pub room : All KeepsRoom tier.groups.items
   pub apart : AreApart group_access (tier_plan tier)
 
--- batches nest no deeper than this in what stands in the entry
-abbrev pub NestsTo : {V S C : Type 0} → ℕ → SystemEntry V (Work S (Nested V S C)) → Type 0
-NestsTo most entry = depth_of entry.system ≤ most
+-- the depth that is noted of what stands in the entry is at most this
+abbrev pub NotesAtMost : {V S C : Type 0} → ℕ → SystemEntry V (Work S (Nested V S C)) → Type 0
+NotesAtMost most entry = depth_of entry.system ≤ most
 
--- nor in that of any entry of the group
-abbrev pub GroupNestsTo : {V S C : Type 0} → ℕ → Group V (Work S (Nested V S C)) → Type 0
-GroupNestsTo most group = All (NestsTo most) group.entries.items
+-- so it is in each entry of the group
+abbrev pub GroupNotesAtMost : {V S C : Type 0} → ℕ → Group V (Work S (Nested V S C)) → Type 0
+GroupNotesAtMost most group = All (NotesAtMost most) group.entries.items
 
--- nor in that of any entry of the tier
-abbrev pub TierNestsTo : {V S C : Type 0} → ℕ → Tier V (Work S (Nested V S C)) → Type 0
-TierNestsTo most tier = All (GroupNestsTo most) tier.groups.items
+-- and in each entry of the tier
+abbrev pub TierNotesAtMost : {V S C : Type 0} → ℕ → Tier V (Work S (Nested V S C)) → Type 0
+TierNotesAtMost most tier = All (GroupNotesAtMost most) tier.groups.items
+
+-- It is a batch of this controller and these tiers, and its depth is one more than the greatest that is noted in them, or one where they have no entry.
+pub record IsBatchOf {V S C : Type 0} (controller : C) (tiers : List (Tier V (Work S (Nested V S C)))) (work : Work S (Nested V S C)) : Type 0 where
+  pub nested : Nested V S C
+  pub is_batch : work ≡ Batch nested
+  pub same_controller : (batch_of nested).control.controller ≡ controller
+  pub same_tiers : (batch_of nested).tiers.items ≡ tiers
+  pub greatest : ℕ
+  pub noted : All (TierNotesAtMost greatest) tiers
+  pub least : (most : ℕ) → All (TierNotesAtMost most) tiers → greatest ≤ most
+  pub depth : (batch_of nested).depth ≡ suc greatest

@@ -13,7 +13,7 @@ abbrev pub EachWork : {V X : Type 0} → (X → Type 0) → Tier V X → Type 0
 EachWork P tier = All (λ group. All (λ entry. P entry.system) group.entries.items) tier.groups.items
 
 module _ {V S C : Type 0} where
-  -- A system has no batch in it; in a batch they nest deeper by one than in what stands in its inner plan.
+  -- Batches nest in it to this depth at most: a system has none in it, and in a batch they nest deeper by one than in what stands in its inner plan.
   unfoldable pub IsNoDeeper : ℕ → Work S (Nested V S C) → Type 0
   IsNoDeeper depth (System system) = Unit {0}
   IsNoDeeper zero (Batch nested) = ⊥

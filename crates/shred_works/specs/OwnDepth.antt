@@ -8,7 +8,7 @@ use Rattle.shred_batch.specs.declared.work.Nested.{Nested}
 use Rattle.shred_batch.specs.declared.work.Work.{Work}
 use Rattle.shred_batch.specs.declared.work.Work.TheVariants.{System, Batch}
 
--- to which depth batches nest in what stands in an entry, at most: 0 in a system
+-- the depth that is noted of what stands in an entry: 0 of a system
 abbrev pub depth_of : {V S C : Type 0} → Work S (Nested V S C) → ℕ
 depth_of (System system) = 0
 depth_of (Batch nested) = (batch_of nested).depth

@@ -1,5 +1,5 @@
 -- Setup and disposal of what stands in an entry, over a whole world.
-use Rattle.std.specs.Prelude.{◌≡◌, ℕ, suc, List, Ok, Err, MatchResult}
+use Rattle.std.specs.Prelude.{◌≡◌, ℕ, suc, List, Ok, Err, MatchResult, map}
 use Rattle.shred_model.specs.InTurn.{InTurn, AllInTurn}
 use Rattle.shred_model.specs.Runs.{Answer}
 use Rattle.shred_world.specs.Worked.{Held}
@@ -7,7 +7,9 @@ use Rattle.shred_group.specs.declared.dispatch.run.StageFault.{StageFault}
 use Rattle.shred_group.specs.Setups.{GroupsSetup, GroupsDisposal}
 use Rattle.shred_group.specs.Steps.{Outcome, Step}
 use Rattle.shred_batch.specs.Depths.{batch_of}
+use Rattle.shred_batch.specs.KeptControllers.{control_access}
 use Rattle.shred_batch.specs.Rounds.{fault_within}
+use Rattle.shred_batch.specs.Works.{tier_numbers, tiers_plan}
 use Rattle.shred_batch.specs.declared.work.Batch.{Batch as OneBatch}
 use Rattle.shred_batch.specs.declared.work.Nested.{Nested}
 use Rattle.shred_batch.specs.declared.work.Tier.{Tier}
@@ -28,7 +30,7 @@ module _ {V X E : Type 0} (inner : Step V X E) where
   abbrev pub TiersSetup : List (Tier V X) → Held V → Answer (StageFault E) → List (Tier V X) → Held V → Type 0
   TiersSetup tiers before answer news after = InTurn (λ place. TierSetup) 0 tiers before answer news after
 
-  -- A batch is set up by its controller; where that is Done, what stands in its inner plan is, in the plan's order, up to the first that is not Done, whose fault is the batch's.
+  -- A batch is set up by its controller; where that is Done, what stands in its inner plan is, in the plan's order, up to the first that is not Done, whose fault is the batch's. What was kept of it stays.
   pub record BatchSetup {C : Type 0} (control : Step V C E) (old : OneBatch V C X) (before : Held V) (outcome : Outcome E) (new : OneBatch V C X) (after : Held V) : Type 0 where
     pub of_control : Outcome E
     pub middle : Held V
@@ -36,6 +38,10 @@ module _ {V X E : Type 0} (inner : Step V X E) where
     pub tiers : MatchResult of_control
         (λ done. (answer : Answer (StageFault E)) × TiersSetup old.tiers.items middle answer new.tiers.items after × (outcome ≡ outcome_within answer))
         (λ fault. (new.tiers.items ≡ old.tiers.items) × (after ≡ middle) × (outcome ≡ Err fault))
+    pub same_access : control_access new.control ≡ control_access old.control
+    pub same_plan : tiers_plan new.tiers.items ≡ tiers_plan old.tiers.items
+    pub same_ids : map tier_numbers new.tiers.items ≡ map tier_numbers old.tiers.items
+    pub same_depth : new.depth ≡ old.depth
 
 module _ {V X E : Type 0} (inner : X → Held V → Outcome E → Held V → Type 0) where
   -- a tier's disposal is that of its groups

@@ -14,7 +14,7 @@ use shred_group::dispatch::run::first;
 use shred_group::{Fault, StageFault};
 use shred_world::{ResourceValue, World};
 
-/// Disposes of a system, or of what stands in the inner plan of a batch whose batches nest no deeper than `depth`, in the plan's
+/// Disposes of a system, or of what stands in the inner plan of a batch whose batches nest less deep than `depth`, in the plan's
 /// order, also of what stands behind one that is not Done. The answer tells the first that is not Done.
 #[cycle(dispose)]
 pub fn dispose_of_work<V: ResourceValue + Drop, S: DisposeOf<V, E> + Drop, C: Drop, E: Drop>(
@@ -67,9 +67,9 @@ fn dispose_of_tiers<V: ResourceValue + Drop, S: DisposeOf<V, E> + Drop, C: Drop,
     answer
 }
 
-/// Disposes of all that stands in some groups, in order, and answers the first answer that is not Done.
+// Disposes of all that stands in some groups, in order, and answers the first answer that is not Done.
 #[cycle(dispose)]
-pub fn dispose_of_groups<V: ResourceValue + Drop, S: DisposeOf<V, E> + Drop, C: Drop, E: Drop>(
+fn dispose_of_groups<V: ResourceValue + Drop, S: DisposeOf<V, E> + Drop, C: Drop, E: Drop>(
     depth: usize,
     groups: Vec<Group<V, Work<S, Nested<V, S, C>>>>,
     world: &mut World<V>,

@@ -1,5 +1,5 @@
 //! The entry that is kept of a batch.
-ghost use Rattle.std.specs.Prelude.{◌≡◌, ◌↔◌, ◌++◌, ◌≤◌, All, AllPairs, Contains, IfOk, OnOk};
+ghost use Rattle.std.specs.Prelude.{◌≡◌, ◌↔◌, ◌++◌, ◌≤◌, ℕ, All, AllPairs, Contains, IfOk, OnOk};
 ghost use Rattle.std.specs.List.{flat_map};
 ghost use Rattle.shred_batch.specs.Depths.{Declared};
 ghost use Rattle.shred_batch.specs.KeptControllers.{IsOwnControl, control_access};
@@ -9,7 +9,7 @@ ghost use Rattle.shred_group.specs.PlanOf.{entry_plan};
 ghost use Rattle.shred_group.specs.Sides.{stage_side};
 ghost use Rattle.shred_table.specs.Id.{IsBefore};
 ghost use Rattle.shred_table.specs.declared.id.ResourceId.{ResourceId};
-ghost use Rattle.shred_works.specs.Batches.{IsBatchOf, IsKeptBatch, IsTierOf, NestsTo, TierNestsTo, joined_access};
+ghost use Rattle.shred_works.specs.Batches.{IsBatchOf, IsKeptBatch, IsTierOf, NotesAtMost, TierNotesAtMost, joined_access};
 ghost use Rattle.shred_works.specs.OwnDepth.{OwnsItself};
 
 use crate::own_depth::depth_of;
@@ -93,9 +93,10 @@ fn joined<V, X>(
     }
 }
 
-// To which depth batches nest at most in what stands in some entries.
+// The greatest depth that is noted in some entries.
 fn deepest_entry<V, S, C>(entries: &[SystemEntry<V, Work<S, Nested<V, S, C>>>]) -> usize
-    ensures { All (NestsTo result) entries.now }
+    ensures noted { All (NotesAtMost result) entries.now }
+    ensures least { (most : ℕ) → All (NotesAtMost most) entries.now → result ≤ most }
 {
     let mut most: usize = 0;
     for entry in entries {
@@ -104,9 +105,10 @@ fn deepest_entry<V, S, C>(entries: &[SystemEntry<V, Work<S, Nested<V, S, C>>>]) 
     most
 }
 
-// To which depth batches nest at most in what stands in the entries of a tier.
+// The greatest depth that is noted in the entries of a tier.
 fn deepest_group<V, S, C>(tier: &Tier<V, Work<S, Nested<V, S, C>>>) -> usize
-    ensures { TierNestsTo result tier.now }
+    ensures noted { TierNotesAtMost result tier.now }
+    ensures least { (most : ℕ) → TierNotesAtMost most tier.now → result ≤ most }
 {
     let mut most: usize = 0;
     for group in &tier.groups {
@@ -115,9 +117,10 @@ fn deepest_group<V, S, C>(tier: &Tier<V, Work<S, Nested<V, S, C>>>) -> usize
     most
 }
 
-// To which depth batches nest at most in what stands in the entries of tiers.
+// The greatest depth that is noted in the entries of tiers.
 fn deepest<V, S, C>(tiers: &Vec<Tier<V, Work<S, Nested<V, S, C>>>>) -> usize
-    ensures { All (TierNestsTo result) tiers.now.items }
+    ensures noted { All (TierNotesAtMost result) tiers.now.items }
+    ensures least { (most : ℕ) → All (TierNotesAtMost most) tiers.now.items → result ≤ most }
 {
     let mut most: usize = 0;
     for tier in tiers {
@@ -127,8 +130,8 @@ fn deepest<V, S, C>(tiers: &Vec<Tier<V, Work<S, Nested<V, S, C>>>>) -> usize
 }
 
 /// What is kept of a batch of this controller and these tiers: its lists are those that the controller declares joined with
-/// those of the entries of the tiers, reads with reads and writes with writes; its time is the controller's. `OutOfMemory`
-/// where memory is refused, or where batches nest as deep as can be counted.
+/// those of the entries of the tiers, reads with reads and writes with writes, in order, each id once; its time is the
+/// controller's. `OutOfMemory` where memory is refused, or where batches nest as deep as can be counted.
 pub fn batch_entry<V: ResourceValue + Drop, S: System<V> + Drop, C: BatchController<V> + Drop>(
     alloc: Global,
     id: SystemId,

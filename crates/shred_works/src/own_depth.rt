@@ -16,7 +16,7 @@ use shred_group::Fault;
 use shred_world::{ResourceValue, Table};
 use std::thread::Threads;
 
-/// To which depth batches nest in it, at most: 0 in a system.
+/// The depth that is noted of it: 0 of a system, and of a batch its own.
 pub fn depth_of<V, S, C>(work: &Work<S, Nested<V, S, C>>) -> usize
     ensures { result ≡ depth_of work.now }
 {

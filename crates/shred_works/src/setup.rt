@@ -7,7 +7,6 @@ ghost use Rattle.shred_group.specs.Hands.{IsSameButEntries, KeepsRoom};
 ghost use Rattle.shred_group.specs.OwnLists.{IsEntryOf, IsGroupOf};
 ghost use Rattle.shred_group.specs.PlanOf.{entry_plan, group_plan};
 ghost use Rattle.shred_group.specs.Setups.{EntriesSetup, GroupSetup};
-ghost use Rattle.shred_works.specs.OwnDepth.{depth_of};
 ghost use Rattle.shred_works.specs.Owned.{AreGroupsSetUp, HasOwnGroups, IsOwned, StaysOwned, StayTiers};
 ghost use Rattle.shred_works.specs.Setups.{BatchSetup, TiersSetup, WorkSetup};
 ghost use Rattle.shred_world.specs.Worlds.{world_held};
@@ -19,7 +18,7 @@ use shred_group::dispatch::entry::{Group, SystemEntry};
 use shred_group::{Fault, StageFault};
 use shred_world::{ResourceValue, World};
 
-/// Sets a system up, or a batch whose batches nest no deeper than `depth`: its controller, and then what stands in its inner
+/// Sets a system up, or a batch whose batches nest less deep than `depth`: its controller, and then what stands in its inner
 /// plan, in the plan's order, up to the first that is not Done, whose fault is the batch's. What was done before it stays.
 #[cycle(set_up)]
 pub fn set_up_work<V: ResourceValue, S: SetUp<V, E>, C: ControlSetUp<V, E>, E>(
@@ -30,7 +29,6 @@ pub fn set_up_work<V: ResourceValue, S: SetUp<V, E>, C: ControlSetUp<V, E>, E>(
     requires { IsOwned (record { reads = S.its_reads; writes = S.its_writes; control_reads = C.its_reads; control_writes = C.its_writes }) depth work.old }
     ensures set_up { WorkSetup S.setup C.setup depth work.old (world_held V.kind_of world.old) result work.new (world_held V.kind_of world.new) }
     ensures owned { StaysOwned (record { reads = S.its_reads; writes = S.its_writes; control_reads = C.its_reads; control_writes = C.its_writes }) depth work.old work.new }
-    ensures depth { depth_of work.new ≡ depth_of work.old }
 {
     match work {
         Work::System(system) => system.set_up(world),
@@ -51,7 +49,6 @@ fn set_up_batch<V: ResourceValue, S: SetUp<V, E>, C: ControlSetUp<V, E>, E>(
     ensures access { control_access batch.new.control ≡ control_access batch.old.control }
     ensures control { IsOwnControl C.its_reads C.its_writes batch.new.control }
     ensures tiers { StayTiers (Owns (record { reads = S.its_reads; writes = S.its_writes; control_reads = C.its_reads; control_writes = C.its_writes }) less) batch.old.tiers.items batch.new.tiers.items }
-    ensures depth { batch.new.depth ≡ batch.old.depth }
 {
     if let Err(fault) = batch.control.controller.set_up(world) {
         return Err(fault);
@@ -81,9 +78,9 @@ fn set_up_tiers<V: ResourceValue, S: SetUp<V, E>, C: ControlSetUp<V, E>, E>(
     Ok(())
 }
 
-/// Sets up what stands in some groups, in order, up to the first that is not Done.
+// Sets up what stands in some groups, in order, up to the first that is not Done.
 #[cycle(set_up)]
-pub fn set_up_groups<V: ResourceValue, S: SetUp<V, E>, C: ControlSetUp<V, E>, E>(
+fn set_up_groups<V: ResourceValue, S: SetUp<V, E>, C: ControlSetUp<V, E>, E>(
     depth: usize,
     groups: &mut [Group<V, Work<S, Nested<V, S, C>>>],
     world: &mut World<V>,

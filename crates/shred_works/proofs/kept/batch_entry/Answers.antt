@@ -27,6 +27,10 @@ returns-clause-batch g c = record {
   is_batch = refl;
   same_controller = ap (λ level. level.batch.control.controller) (out-roll-Nested _ _ _ _) ∙ c.in_ok-control.ensures.controller;
   same_tiers = ap (λ level. level.batch.tiers.items) (out-roll-Nested _ _ _ _);
+  greatest = c.deepest.result;
+  noted = c.deepest.ensures.noted;
+  least = c.deepest.ensures.least;
+  depth = ap (λ level. level.batch.depth) (out-roll-Nested _ _ _ _) ∙ (let next : c.in-Some.depth ≡ c.deepest.result + 1 = search rules in omega (arith, next));
 }
 
 pub returns-clause-own_lists : goal.returns-clause-own_lists
@@ -39,6 +43,6 @@ returns-clause-own_lists g c =
     record {
       lists = batch-owned (record { reads = g.S.System.reads; writes = g.S.System.writes; control_reads = g.C.BatchController.reads; control_writes = g.C.BatchController.writes }) c.in_ok-reads.reads.items c.in_ok-writes.writes.items c.deepest.result
           (roll-Nested g.row.V.Denot g.row.S.Denot g.row.C.Denot (record { batch = record { control = c.in_ok-control.control; tiers = c.args.tiers; depth = c.in-Some.depth } }))
-          (record { control = c.in_ok-control.control; tiers = c.args.tiers; depth = c.in-Some.depth }) (ap (λ level. level.batch) (out-roll-Nested _ _ _ _)) deep c.in_ok-control.ensures.own c.deepest.ensures c.requires reads writes;
+          (record { control = c.in_ok-control.control; tiers = c.args.tiers; depth = c.in-Some.depth }) (ap (λ level. level.batch) (out-roll-Nested _ _ _ _)) deep c.in_ok-control.ensures.own c.deepest.ensures.noted c.requires reads writes;
       hand = subst (λ (ids : List ResourceId). IsEmptyHand ids c.in_ok-hand.hand) ids c.in_ok-hand.ensures;
     }

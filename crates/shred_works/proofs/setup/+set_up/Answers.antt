@@ -1,4 +1,4 @@
-use Rattle.std.proofs.Common.{◌≡◌, ◌-◌, suc, List, get_or, length, refl, sym, ◌∙◌, ap, subst, arith, Ok, Err}
+use Rattle.std.proofs.Common.{◌≡◌, ◌-◌, suc, List, get_or, map, length, refl, sym, ◌∙◌, ap, subst, arith, Ok, Err}
 use Rattle.std.proofs.Math.Seq.{map-set_same}
 use Rattle.std.proofs.lemmas.List.{with_items_is}
 use Rattle.std.proofs.lemmas.List.Elements.{All-set}
@@ -13,13 +13,14 @@ use Rattle.shred_group.specs.Setups.{EntrySetup, GroupSetup}
 use Rattle.shred_group.specs.declared.dispatch.entry.Group.{Group}
 use Rattle.shred_group.proofs.Groups.GrownGroups.{room-kept}
 use Rattle.shred_batch.specs.Depths.{Owns}
+use Rattle.shred_batch.specs.Works.{tier_numbers, tiers_plan}
 use Rattle.shred_batch.specs.declared.work.Nested.{Nested}
 use Rattle.shred_batch.specs.declared.work.Nested.TheViews.{roll-Nested, out-roll-Nested}
 use Rattle.shred_batch.specs.declared.work.Tier.{Tier}
 use Rattle.shred_batch.specs.declared.work.Work.{Work}
 use Rattle.shred_works.specs.Owned.{HasOwnGroups, StayTiers}
 use Rattle.shred_works.specs.Setups.{TiersSetup, TierSetup, WorkSetup}
-use Rattle.shred_works.proofs.Stays.{batch-setup, depth-after_setup, owned-deep, owned-parts, stays-owned, system-setup, system-stays, tier-set_up, tiers-set_up}
+use Rattle.shred_works.proofs.Stays.{batch-setup, owned-deep, owned-parts, stays-owned, system-setup, system-stays, tier-set_up, tiers-set_up}
 use Rattle.shred_works.proofs.setup.+set_up.Goals as goal
 
 pub set_up_work-overflow_sub-depth : goal.set_up_work-overflow_sub-depth
@@ -57,6 +58,7 @@ set_up_work-returns-in-Batch-clause-owned g c = λ x.
 pub set_up_batch-returns-in-Ok-clause-set_up : goal.set_up_batch-returns-in-Ok-clause-set_up
 set_up_batch-returns-in-Ok-clause-set_up g c = λ x.
     let was = x.args.batch.now.tiers in
+    let depth = x.args.batch.now.depth in
     let same : length x.set_up_tiers.new.tiers ≡ was.len = x.set_up_tiers.auto.tiers ∙ x.as_mut_slice.ensures.len in
     let put = with_items_is was x.set_up_tiers.new.tiers same in
     record {
@@ -64,11 +66,16 @@ set_up_batch-returns-in-Ok-clause-set_up g c = λ x.
       middle = (world_held g.V.ResourceValue.kind_of x.set_up.new.world);
       controller = x.in_default.ensures.setup;
       tiers = (Ok tt, subst (λ (tiers : List (Tier g.row.V.Denot (Work g.row.S.Denot (Nested g.row.V.Denot g.row.S.Denot g.row.C.Denot)))). TiersSetup (WorkSetup g.S.SetUp.setup g.C.ControlSetUp.setup x.args.less) was.items (world_held g.V.ResourceValue.kind_of x.set_up.new.world) (Ok tt) tiers (world_held g.V.ResourceValue.kind_of x.set_up_tiers.new.world)) (sym put) (subst (λ (tiers : List (Tier g.row.V.Denot (Work g.row.S.Denot (Nested g.row.V.Denot g.row.S.Denot g.row.C.Denot)))). TiersSetup (WorkSetup g.S.SetUp.setup g.C.ControlSetUp.setup x.args.less) tiers (world_held g.V.ResourceValue.kind_of x.set_up.new.world) (Ok tt) x.set_up_tiers.new.tiers (world_held g.V.ResourceValue.kind_of x.set_up_tiers.new.world)) x.as_mut_slice.ensures.value x.in-Ok.ensures.set_up), refl);
+      same_access = refl;
+      same_plan = ap tiers_plan put ∙ x.in-Ok.ensures.stay.plan ∙ ap tiers_plan x.as_mut_slice.ensures.value;
+      same_ids = ap (map tier_numbers) put ∙ x.in-Ok.ensures.stay.ids ∙ ap (map tier_numbers) x.as_mut_slice.ensures.value;
+      same_depth = refl {a = depth};
     }
 
 pub set_up_batch-returns-in-Err-set_up_tiers-clause-set_up : goal.set_up_batch-returns-in-Err-set_up_tiers-clause-set_up
 set_up_batch-returns-in-Err-set_up_tiers-clause-set_up g c = λ x.
     let was = x.args.batch.now.tiers in
+    let depth = x.args.batch.now.depth in
     let same : length x.set_up_tiers.new.tiers ≡ was.len = x.set_up_tiers.auto.tiers ∙ x.as_mut_slice.ensures.len in
     let put = with_items_is was x.set_up_tiers.new.tiers same in
     record {
@@ -76,6 +83,10 @@ set_up_batch-returns-in-Err-set_up_tiers-clause-set_up g c = λ x.
       middle = (world_held g.V.ResourceValue.kind_of x.set_up.new.world);
       controller = x.in_default.ensures.setup;
       tiers = (Err x.in-Err-set_up_tiers.fault, subst (λ (tiers : List (Tier g.row.V.Denot (Work g.row.S.Denot (Nested g.row.V.Denot g.row.S.Denot g.row.C.Denot)))). TiersSetup (WorkSetup g.S.SetUp.setup g.C.ControlSetUp.setup x.args.less) was.items (world_held g.V.ResourceValue.kind_of x.set_up.new.world) (Err x.in-Err-set_up_tiers.fault) tiers (world_held g.V.ResourceValue.kind_of x.set_up_tiers.new.world)) (sym put) (subst (λ (tiers : List (Tier g.row.V.Denot (Work g.row.S.Denot (Nested g.row.V.Denot g.row.S.Denot g.row.C.Denot)))). TiersSetup (WorkSetup g.S.SetUp.setup g.C.ControlSetUp.setup x.args.less) tiers (world_held g.V.ResourceValue.kind_of x.set_up.new.world) (Err x.in-Err-set_up_tiers.fault) x.set_up_tiers.new.tiers (world_held g.V.ResourceValue.kind_of x.set_up_tiers.new.world)) x.as_mut_slice.ensures.value x.in-Err-set_up_tiers.ensures.set_up), ap Err x.within.ensures);
+      same_access = refl;
+      same_plan = ap tiers_plan put ∙ x.in-Err-set_up_tiers.ensures.stay.plan ∙ ap tiers_plan x.as_mut_slice.ensures.value;
+      same_ids = ap (map tier_numbers) put ∙ x.in-Err-set_up_tiers.ensures.stay.ids ∙ ap (map tier_numbers) x.as_mut_slice.ensures.value;
+      same_depth = refl {a = depth};
     }
 
 pub set_up_tiers-set_up_groups-requires : goal.set_up_tiers-set_up_groups-requires

@@ -2,8 +2,10 @@
 #![tactic(auto)]
 
 pub mod dispatch;
+pub mod occupant;
 pub mod system;
 
 pub use dispatch::entry::SystemId;
 pub use dispatch::run::StageFault;
+pub use occupant::{NoBatch, Occupant};
 pub use system::{Fault, RunningTime, System};

@@ -4,9 +4,11 @@
 
 pub mod dispose;
 pub mod kept;
+pub mod occupant;
 pub mod own_depth;
 pub mod settled;
 pub mod setup;
 pub mod turn;
 
+pub use occupant::Batched;
 pub use own_depth::OwnDepth;

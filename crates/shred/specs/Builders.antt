@@ -7,7 +7,7 @@ use Rattle.shred_stage.specs.Names.{NamedId, names_of, named_ids}
 use Rattle.shred.specs.declared.dispatch.builder.DispatcherBuilder.{DispatcherBuilder}
 
 -- what a builder has come to
-abbrev pub built : {V S L E X : Type 0} {gv gs gx : _} → DispatcherBuilder V S L E X gv gs gx → Built S L
+abbrev pub built : {V S B L N A : Type 0} {g : _} → DispatcherBuilder V S B L N A g → Built S L
 built builder = record {
   plan = planned builder.stages;
   states = builder_states builder.stages;
@@ -19,5 +19,5 @@ built builder = record {
 }
 
 -- its names, with what they stand for
-abbrev pub builder_pairs : {V S L E X : Type 0} {gv gs gx : _} → DispatcherBuilder V S L E X gv gs gx → List NamedId
+abbrev pub builder_pairs : {V S B L N A : Type 0} {g : _} → DispatcherBuilder V S B L N A g → List NamedId
 builder_pairs builder = named_ids builder.names

@@ -71,10 +71,8 @@ pub record IsLocalAdded {S L : Type 0} (old new : Built S L) (system : L) : Type
   pub locals : new.locals ≡ old.locals ++ system ∷ []
   pub workers : new.workers ≡ old.workers
 
--- The system is placed with the next id, after its dependencies, and its name is entered unless it is empty; the next id is one more, and all else stays.
-pub record IsAddition {S L : Type 0} (old new : Built S L) (name : List ℕ) (dependencies : List (List ℕ)) (reads writes : List ResourceId) (time : RunningTime) (system : S) : Type 0 where
-  pub entry : PlanEntry ResourceId
-  pub kept : IsKept old.next reads writes time entry
+-- The entry is placed after its dependencies, and its name stands for the next id unless it is empty; the next id is one more, and all else stays.
+pub record IsEntryAdded {S L : Type 0} (entry : PlanEntry ResourceId) (old new : Built S L) (name : List ℕ) (dependencies : List (List ℕ)) (system : S) : Type 0 where
   pub placed : IsPlaced old.plan old.barrier old.barrier (known_ids old.known dependencies) entry new.plan
   pub added : IsAdded old.plan new.plan old.states new.states entry system
   pub from_barrier : IsFromBarrier old.barrier added.place
@@ -84,6 +82,12 @@ pub record IsAddition {S L : Type 0} (old new : Built S L) (name : List ℕ) (de
   pub next : new.next ≡ old.next + 1
   pub locals : new.locals ≡ old.locals
   pub workers : new.workers ≡ old.workers
+
+-- What is kept of the system is added as an entry with the next id.
+pub record IsAddition {S L : Type 0} (old new : Built S L) (name : List ℕ) (dependencies : List (List ℕ)) (reads writes : List ResourceId) (time : RunningTime) (system : S) : Type 0 where
+  pub entry : PlanEntry ResourceId
+  pub kept : IsKept old.next reads writes time entry
+  pub entry_added : IsEntryAdded entry old new name dependencies system
 
 -- The plan's ids are below the next one and each stands at one place; a known name stands for an id below it, no two names for the same id, and the empty name for none.
 pub record IsConsistent {S L : Type 0} (built : Built S L) : Type 0 where

@@ -14,25 +14,25 @@ use Rattle.shred_stage.specs.Plans.{plan_states}
 use Rattle.shred_stage.specs.StagePlan.{plan_of}
 
 -- the plan that a dispatcher runs
-abbrev pub dispatcher_plan : {V S L E X : Type 0} {gv gs gx : _} → Dispatcher V S L E X gv gs gx → model.Plan ResourceId
+abbrev pub dispatcher_plan : {V S B L N A : Type 0} {g : _} → Dispatcher V S B L N A g → model.Plan ResourceId
 dispatcher_plan d = plan_of d.stages.items
 
 -- the states of its systems, by stage, group and place
-abbrev pub dispatcher_states : {V S L E X : Type 0} {gv gs gx : _} → Dispatcher V S L E X gv gs gx → Agent → Option S
+abbrev pub dispatcher_states : {V S B L N A : Type 0} {g : _} → Dispatcher V S B L N A g → Agent → Option S
 dispatcher_states d path = plan_states d.stages.items path
 
 -- the thread-local systems, in order
-abbrev pub dispatcher_locals : {V S L E X : Type 0} {gv gs gx : _} → Dispatcher V S L E X gv gs gx → List L
+abbrev pub dispatcher_locals : {V S B L N A : Type 0} {g : _} → Dispatcher V S B L N A g → List L
 dispatcher_locals d = systems_of d.thread_local
 
 -- on how many threads a stage runs at most
-abbrev pub dispatcher_workers : {V S L E X : Type 0} {gv gs gx : _} → Dispatcher V S L E X gv gs gx → ℕ
+abbrev pub dispatcher_workers : {V S B L N A : Type 0} {g : _} → Dispatcher V S B L N A g → ℕ
 dispatcher_workers d = d.workers
 
 -- a dispatcher's plan with its systems, over these values
-abbrev pub dispatcher_with : {V S L E X : Type 0} {gv gs gx : _} → Dispatcher V S L E X gv gs gx → Held V → Situation (model.Plan ResourceId) V S
+abbrev pub dispatcher_with : {V S B L N A : Type 0} {g : _} → Dispatcher V S B L N A g → Held V → Situation (model.Plan ResourceId) V S
 dispatcher_with dispatcher values = stages_with dispatcher.stages.items values
 
 -- a dispatcher's plan with its systems, over a world
-abbrev pub dispatcher_over : {V S L E X : Type 0} {gv gs gx : _} → (V → Kind) → Dispatcher V S L E X gv gs gx → World V → Situation (model.Plan ResourceId) V S
+abbrev pub dispatcher_over : {V S B L N A : Type 0} {g : _} → (V → Kind) → Dispatcher V S B L N A g → World V → Situation (model.Plan ResourceId) V S
 dispatcher_over kind dispatcher world = dispatcher_with dispatcher (world_held kind world)

@@ -33,11 +33,11 @@ pub record FullyDispatched {P V S L O E : Type 0} (kind : V → Kind) (Run : P �
   pub workers : after.workers ≡ before.workers
 
 -- a dispatcher with its systems, over these values
-abbrev pub whole_with : {V S L E X : Type 0} {gv gs gx : _} → Dispatcher V S L E X gv gs gx → Held V → Whole (model.Plan ResourceId) V S L
+abbrev pub whole_with : {V S B L N A : Type 0} {g : _} → Dispatcher V S B L N A g → Held V → Whole (model.Plan ResourceId) V S L
 whole_with dispatcher values = record { staged = dispatcher_with dispatcher values; locals = dispatcher_locals dispatcher; workers = dispatcher_workers dispatcher }
 
 -- a dispatcher with its systems, over a world
-abbrev pub whole_over : {V S L E X : Type 0} {gv gs gx : _} → (V → Kind) → Dispatcher V S L E X gv gs gx → World V → Whole (model.Plan ResourceId) V S L
+abbrev pub whole_over : {V S B L N A : Type 0} {g : _} → (V → Kind) → Dispatcher V S B L N A g → World V → Whole (model.Plan ResourceId) V S L
 whole_over kind dispatcher world = whole_with dispatcher (world_held kind world)
 
 -- the outcome of a run that answered so: each refusal is told as the run's own

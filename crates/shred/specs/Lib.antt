@@ -5,3 +5,4 @@ pub mod PlanRuns
 pub mod SystemNames
 pub mod FullRuns
 pub mod Setups
+pub mod Batches

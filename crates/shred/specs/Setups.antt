@@ -14,26 +14,26 @@ use Rattle.shred.specs.Dispatchers.{dispatcher_locals, dispatcher_plan, dispatch
 use Rattle.shred.specs.FullRuns.{IsRefusedBy}
 use Rattle.shred.specs.PlanRuns.{dispatch_answer}
 
-module _ {V S E N X : Type 0} {gv gs gx : _} (sets_up : Step V S E) where
+module _ {V S E B N A : Type 0} {g : _} (sets_up : Step V S E) where
   -- the setup of the stage at this place
-  abbrev pub StageSetupAt : ℕ → Stage V S N X gv gs gx → Held V → Answer (DispatchError E) → Stage V S N X gv gs gx → Held V → Type 0
+  abbrev pub StageSetupAt : ℕ → Stage V S B N A g → Held V → Answer (DispatchError E) → Stage V S B N A g → Held V → Type 0
   StageSetupAt place stage before answer new after = (a : Answer (StageFault E)) × StageSetup sets_up stage before a new after × (answer ≡ dispatch_answer place a)
 
   -- the setups of some stages, in order, up to the first that is not Done
-  abbrev pub StagesSetup : List (Stage V S N X gv gs gx) → Held V → Answer (DispatchError E) → List (Stage V S N X gv gs gx) → Held V → Type 0
+  abbrev pub StagesSetup : List (Stage V S B N A g) → Held V → Answer (DispatchError E) → List (Stage V S B N A g) → Held V → Type 0
   StagesSetup stages before answer news after = InTurn StageSetupAt 0 stages before answer news after
 
-module _ {V S E N X : Type 0} {gv gs gx : _} (disposes : S → Held V → Outcome E → Held V → Type 0) where
+module _ {V S E B N A : Type 0} {g : _} (disposes : S → Held V → Outcome E → Held V → Type 0) where
   -- the disposal of the stage at this place
-  abbrev pub StageDisposalAt : ℕ → Stage V S N X gv gs gx → Held V → Answer (DispatchError E) → Held V → Type 0
+  abbrev pub StageDisposalAt : ℕ → Stage V S B N A g → Held V → Answer (DispatchError E) → Held V → Type 0
   StageDisposalAt place stage before answer after = (a : Answer (StageFault E)) × StageDisposal disposes stage before a after × (answer ≡ dispatch_answer place a)
 
   -- the disposals of all of some stages, in order; the answer is the first that is not Done
-  abbrev pub StagesDisposal : List (Stage V S N X gv gs gx) → Held V → Answer (DispatchError E) → Held V → Type 0
+  abbrev pub StagesDisposal : List (Stage V S B N A g) → Held V → Answer (DispatchError E) → Held V → Type 0
   StagesDisposal stages before answer after = AllInTurn StageDisposalAt 0 stages before answer after
 
 -- The staged systems were set up, in the plan's order, and then the thread-local ones, up to the first that is not Done, whose answer it is; those behind it stay, and so do the plan and the threads.
-pub record IsSetUp {V S L E N X : Type 0} {gv gs gx : _} (staged : Step V S E) (local : Step V L E) (old : Dispatcher V S L N X gv gs gx) (before : Held V) (answer : Answer (DispatchError E)) (new : Dispatcher V S L N X gv gs gx) (after : Held V) : Type 0 where
+pub record IsSetUp {V S B L E N A : Type 0} {g : _} (staged : Step V S E) (local : Step V L E) (old : Dispatcher V S B L N A g) (before : Held V) (answer : Answer (DispatchError E)) (new : Dispatcher V S B L N A g) (after : Held V) : Type 0 where
   pub of_stages : Answer (DispatchError E)
   pub middle : Held V
   pub stages : StagesSetup staged old.stages.items before of_stages new.stages.items middle
@@ -44,7 +44,7 @@ pub record IsSetUp {V S L E N X : Type 0} {gv gs gx : _} (staged : Step V S E) (
   pub workers : dispatcher_workers new ≡ dispatcher_workers old
 
 -- All staged systems were disposed of, in the plan's order, and then all thread-local ones; the answer is the first that is not Done.
-pub record IsDisposedOf {V S L E N X : Type 0} {gv gs gx : _} (staged : S → Held V → Outcome E → Held V → Type 0) (local : L → Held V → Outcome E → Held V → Type 0) (old : Dispatcher V S L N X gv gs gx) (before : Held V) (answer : Answer (DispatchError E)) (after : Held V) : Type 0 where
+pub record IsDisposedOf {V S B L E N A : Type 0} {g : _} (staged : S → Held V → Outcome E → Held V → Type 0) (local : L → Held V → Outcome E → Held V → Type 0) (old : Dispatcher V S B L N A g) (before : Held V) (answer : Answer (DispatchError E)) (after : Held V) : Type 0 where
   pub of_stages : Answer (DispatchError E)
   pub of_locals : Answer (DispatchError E)
   pub middle : Held V
@@ -53,9 +53,9 @@ pub record IsDisposedOf {V S L E N X : Type 0} {gv gs gx : _} (staged : S → He
   pub answer_is : answer ≡ first_fault of_stages of_locals
 
 -- a dispatcher's setup, with each refusal told as its own
-abbrev pub SetsUpNow : {V S L E N X : Type 0} {gv gs gx : _} → Step V S E → Step V L E → Dispatcher V S L N X gv gs gx → Held V → Outcome (DispatchError E) → Dispatcher V S L N X gv gs gx → Held V → Type 0
+abbrev pub SetsUpNow : {V S B L E N A : Type 0} {g : _} → Step V S E → Step V L E → Dispatcher V S B L N A g → Held V → Outcome (DispatchError E) → Dispatcher V S B L N A g → Held V → Type 0
 SetsUpNow {E = E} staged local old before outcome new after = (answer : Answer (DispatchError E)) × IsSetUp staged local old before answer new after × IsRefusedBy answer outcome
 
 -- a dispatcher's disposal, with each refusal told as its own
-abbrev pub DisposesNow : {V S L E N X : Type 0} {gv gs gx : _} → (S → Held V → Outcome E → Held V → Type 0) → (L → Held V → Outcome E → Held V → Type 0) → Dispatcher V S L N X gv gs gx → Held V → Outcome (DispatchError E) → Held V → Type 0
+abbrev pub DisposesNow : {V S B L E N A : Type 0} {g : _} → (S → Held V → Outcome E → Held V → Type 0) → (L → Held V → Outcome E → Held V → Type 0) → Dispatcher V S B L N A g → Held V → Outcome (DispatchError E) → Held V → Type 0
 DisposesNow {E = E} staged local old before outcome after = (answer : Answer (DispatchError E)) × IsDisposedOf staged local old before answer after × IsRefusedBy answer outcome

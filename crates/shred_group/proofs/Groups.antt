@@ -5,3 +5,4 @@ pub mod Ids
 pub mod Membership
 pub mod Orders
 pub mod Reading
+pub mod Walked

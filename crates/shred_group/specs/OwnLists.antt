@@ -16,6 +16,17 @@ module _ {V S : Type 0} (own : S → List ResourceId → List ResourceId → Typ
   abbrev pub IsGroupOf : Group V S → Type 0
   IsGroupOf group = All IsEntryOf group.entries.items
 
+module _ {S : Type 0} (own : S → List ResourceId → List ResourceId → Type 0) where
+  -- There are two lists with which it may be kept.
+  pub record MayBeKept (occupant : S) : Type 0 where
+    pub reads : List ResourceId
+    pub writes : List ResourceId
+    pub keeps : own occupant reads writes
+
+  -- it may be kept with the lists with which it might be kept before
+  abbrev pub StaysKept : S → S → Type 0
+  StaysKept old new = (reads writes : List ResourceId) → own old reads writes → own new reads writes
+
 -- a system may touch what it declares
 abbrev pub declared_lists : {S : Type 0} → (S → List ResourceId) → (S → List ResourceId) → S → List ResourceId → List ResourceId → Type 0
 declared_lists reads writes system kept_reads kept_writes = AreOwnLists (reads system) (writes system) kept_reads kept_writes

@@ -9,7 +9,7 @@ use Rattle.shred_group.specs.declared.dispatch.entry.Group.{Group}
 use Rattle.shred_group.specs.declared.dispatch.run.StageFault.{StageFault}
 use Rattle.shred_group.specs.Entries.{entry_answer}
 use Rattle.shred_group.specs.Hands.{KeepsRoom}
-use Rattle.shred_group.specs.OwnLists.{IsOwnGroup}
+use Rattle.shred_group.specs.OwnLists.{IsGroupOf}
 use Rattle.shred_group.specs.PlanOf.{group_numbers, groups_plan}
 use Rattle.shred_group.specs.Steps.{Outcome, Step}
 
@@ -44,9 +44,9 @@ module _ {V S E : Type 0} (disposes : S → Held V → Outcome E → Held V → 
   GroupsDisposal groups before answer after = AllInTurn (λ place. GroupDisposal) 0 groups before answer after
 
 -- The groups were set up; all beside their systems is as before.
-pub record AreSetUp {V S E : Type 0} (sets_up : Step V S E) (reads writes : S → List ResourceId) (old : List (Group V S)) (before : Held V) (answer : Answer (StageFault E)) (new : List (Group V S)) (after : Held V) : Type 0 where
+pub record AreSetUp {V S E : Type 0} (sets_up : Step V S E) (own : S → List ResourceId → List ResourceId → Type 0) (old : List (Group V S)) (before : Held V) (answer : Answer (StageFault E)) (new : List (Group V S)) (after : Held V) : Type 0 where
   pub turns : GroupsSetup sets_up old before answer new after
   pub plan : groups_plan new ≡ groups_plan old
-  pub own_lists : All (IsOwnGroup reads writes) new
+  pub own_lists : All (IsGroupOf own) new
   pub ids : map group_numbers new ≡ map group_numbers old
   pub room : All KeepsRoom new

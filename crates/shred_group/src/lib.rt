@@ -7,5 +7,7 @@ pub mod system;
 
 pub use dispatch::entry::SystemId;
 pub use dispatch::run::StageFault;
-pub use occupant::{NoBatch, Occupant};
+pub use dispatch::settles::Settles;
+pub use dispatch::turns::RunsInOrder;
+pub use occupant::{Holds, NoBatch, Occupant};
 pub use system::{Fault, RunningTime, System};

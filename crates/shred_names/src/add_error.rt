@@ -16,4 +16,7 @@ pub enum AddError {
     IdsExhausted,
     #[error("out of memory")]
     OutOfMemory,
+    /// The plan that was to be a batch has a thread-local system.
+    #[error("a batch may have no thread-local system")]
+    ThreadLocalInBatch,
 }

@@ -21,12 +21,12 @@ use Rattle.shred.specs.PlanRuns.{PlanRun}
 use Rattle.shred_orders.specs.Interleavings.{AreInParallelGroups, IsInterleaving, LeadsInterleaved}
 use Rattle.shred_orders.proofs.Standing.{IsInPlan, plan-records, parallel-independent}
 
-stages-apart : {V S N X : Type 0} {gv gs gx : _} (stages : List (Stage V S N X gv gs gx)) → All (AreApart model.group_access) (plan_of stages)
+stages-apart : {V S B N A : Type 0} {g : _} (stages : List (Stage V S B N A g)) → All (AreApart model.group_access) (plan_of stages)
 stages-apart [] = All-nil (AreApart model.group_access)
 stages-apart (stage ∷ stages) = All-cons (AreApart model.group_access) _ _ stage.apart (stages-apart stages)
 
 -- the groups of each stage of a dispatcher do not conflict
-pub dispatcher-apart : {V S L N X : Type 0} {gv gs gx : _} (dispatcher : Dispatcher V S L N X gv gs gx) → All (AreApart model.group_access) (dispatcher_plan dispatcher)
+pub dispatcher-apart : {V S B L N A : Type 0} {g : _} (dispatcher : Dispatcher V S B L N A g) → All (AreApart model.group_access) (dispatcher_plan dispatcher)
 dispatcher-apart dispatcher = stages-apart dispatcher.stages.items
 
 module _ {V S E : Type 0} (kind : V → Kind) (step : Step V S E) where

@@ -71,17 +71,18 @@ module _ {V S E : Type 0} (kind : V → Kind) (step : Step V S E) (reads writes 
         (listed-fit (HasOneStep kind step Admitted) entry_plan entry_states group.entries.items (entries-fit group.entries.items (recursion_from_All (IsOwnEntry reads writes) group.entries.items own.0)), groups-fit groups own.1)
 
 -- in each plan that stages hold, where the systems' relation allows one end, each entry has one step from the state at its place
-stages-fit : {V S N X E : Type 0} {gv gs gx : _} (kind : V → Kind) (step : Step V S E) (Admitted : Outcome E → Type 0) (stages : List (Stage V S N X gv gs gx)) → IsDeterministic kind step gs.reads gs.writes Admitted
-    → AllByRecursion (λ stage. FitEach (FitEach (HasOneStep kind step Admitted) 0) 0 (stage_plan stage) (stage_states stage)) stages
-stages-fit kind step Admitted [] one = tt
-stages-fit {gs = gs} kind step Admitted (stage ∷ stages) one = (
-  listed-fit (FitEach (HasOneStep kind step Admitted) 0) group_plan group_states stage.groups.items
-      (groups-fit kind step gs.reads gs.writes Admitted one stage.groups.items (recursion_from_All (IsOwnGroup gs.reads gs.writes) stage.groups.items stage.own_lists)),
-  stages-fit kind step Admitted stages one,
-)
+module _ {V S E B N A : Type 0} {g : _} (kind : V → Kind) (step : Step V S E) (reads writes : S → List ResourceId) (own : (stage : Stage V S B N A g) → All (IsOwnGroup reads writes) stage.groups.items) (Admitted : Outcome E → Type 0)
+    (one : IsDeterministic kind step reads writes Admitted) where
+  stages-fit : (stages : List (Stage V S B N A g)) → AllByRecursion (λ stage. FitEach (FitEach (HasOneStep kind step Admitted) 0) 0 (stage_plan stage) (stage_states stage)) stages
+  stages-fit [] = tt
+  stages-fit (stage ∷ stages) = (
+    listed-fit (FitEach (HasOneStep kind step Admitted) 0) group_plan group_states stage.groups.items
+        (groups-fit kind step reads writes Admitted one stage.groups.items (recursion_from_All (IsOwnGroup reads writes) stage.groups.items (own stage))),
+    stages-fit stages,
+  )
 
-pub plan-fits : {V S N X E : Type 0} {gv gs gx : _} (kind : V → Kind) (step : Step V S E) (Admitted : Outcome E → Type 0) (stages : List (Stage V S N X gv gs gx)) → IsDeterministic kind step gs.reads gs.writes Admitted → HaveOneStep kind step Admitted (plan_of stages) (plan_states stages)
-plan-fits kind step Admitted stages one = listed-fit (FitEach (FitEach (HasOneStep kind step Admitted) 0) 0) stage_plan stage_states stages (stages-fit kind step Admitted stages one)
+  pub plan-fits : (stages : List (Stage V S B N A g)) → HaveOneStep kind step Admitted (plan_of stages) (plan_states stages)
+  plan-fits stages = listed-fit (FitEach (FitEach (HasOneStep kind step Admitted) 0) 0) stage_plan stage_states stages (stages-fit stages)
 
 -- a thread-local system whose answer tells of no want was not refused for memory
 pub tells-no-local : {E : Type 0} (n : ℕ) (o : Outcome E) → TellsNoWant (local_answer n o) → IsNotOutOfMemory o

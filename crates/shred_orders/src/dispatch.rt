@@ -5,7 +5,7 @@ ghost use Rattle.shred.specs.FullRuns.{whole_over};
 ghost use Rattle.shred_orders.specs.Interleavings.{LeadsInterleaved};
 ghost use Rattle.shred_orders.specs.OneEnd.{EndAlike};
 
-use shred::{DispatchError, Dispatcher, ResourceValue, RunNow, System, World};
+use shred::{DispatchError, Dispatcher, NoBatch, ResourceValue, RunNow, System, World};
 use std::thread::Threads;
 
 /// `dispatch_par`, told by its records: those of different groups of a stage are independent, and each order of all of them
@@ -18,7 +18,7 @@ pub fn dispatch_interleaved<
     E: Drop + Send,
 >(
     rt: &R,
-    dispatcher: &mut Dispatcher<V, S, L>,
+    dispatcher: &mut Dispatcher<V, S, NoBatch, L>,
     world: &mut World<V>,
 ) -> Result<(), DispatchError<E>>
 where
@@ -40,9 +40,9 @@ pub fn dispatch_alike<
     E: Drop + Send,
 >(
     rt: &R,
-    first: &mut Dispatcher<V, S, L>,
+    first: &mut Dispatcher<V, S, NoBatch, L>,
     world: &mut World<V>,
-    second: &mut Dispatcher<V, S, L>,
+    second: &mut Dispatcher<V, S, NoBatch, L>,
     other: &mut World<V>,
 ) -> (Result<(), DispatchError<E>>, Result<(), DispatchError<E>>)
 where

@@ -11,3 +11,5 @@ pub mod Serializable
 pub mod Entries
 pub mod Parallel
 pub mod Worked
+pub mod Deeper
+pub mod OwnDepth

@@ -30,7 +30,7 @@ use Rattle.shred_batch.specs.declared.work.Work.TheVariants.{System, Batch}
 use Rattle.shred_paths.specs.Occupants.{Occupants, a_batch, a_system, inside_each, inside_at, by_path, work_occupants}
 use Rattle.shred_paths.proofs.Inside.{by_path-batch, inner_occupants, with_own}
 use Rattle.shred_paths.specs.Entries.{IsNoMore}
-use Rattle.shred_paths.proofs.Fits.{Fits, OccupantFits, PlanFits, PlanFitsThroughout, StageFits, StageFitsThroughout, plan_access}
+use Rattle.shred_paths.proofs.Fits.{Fits, OccupantFits, PlanFits, StageFits, plan_access}
 use Rattle.shred_paths.proofs.Opened.Runs.{EachAt}
 
 module _ {Y Z S : Type 0} (states : Y → Agent → Option S) (view : Y → Z) (P : (Agent → Option S) → Z → Type 0) where
@@ -98,26 +98,34 @@ module _ {V X : Type 0} (own : X → List ResourceId → List ResourceId → Typ
   tiers-apart [] within = All-nil (AreApart model.group_access)
   tiers-apart (tier ∷ rest) within = All-cons (AreApart model.group_access) (tier_plan tier) (tiers_plan rest) within.0.apart (tiers-apart rest within.1)
 
--- what may be kept with its lists, where batches nest to the first depth, fits them at the second
-abbrev pub OwnsFits : (V : Type 0) {S C : Type 0} → Declared S C → ℕ → ℕ → Type 0
-OwnsFits V {S} {C} declared depth at = (work : Work S (Nested V S C)) (reads writes : List ResourceId) → Owns declared depth work reads writes → Fits at (work_occupants work) (record { reads = reads; writes = writes })
+-- what may be kept with its lists fits them at this depth
+abbrev pub OwnFits : {V S C : Type 0} → (Work S (Nested V S C) → List ResourceId → List ResourceId → Type 0) → ℕ → Type 0
+OwnFits {V} {S} {C} own at = (work : Work S (Nested V S C)) (reads writes : List ResourceId) → own work reads writes → Fits at (work_occupants work) (record { reads = reads; writes = writes })
+
+module _ {V S C : Type 0} (own : Work S (Nested V S C) → List ResourceId → List ResourceId → Type 0) (at : ℕ) (fits : OwnFits own at) where
+  group-fits : (group : Group V (Work S (Nested V S C))) → IsGroupOf own group → EachAt (λ n entry. Fits at (inside_each 0 work_occupants (inside_at (group_states group) n)) entry.access) 0 (group_plan group)
+  group-fits group owns = EachAt-listed entry_states entry_plan (λ st entry. Fits at (inside_each 0 work_occupants st) entry.access) group.entries.items
+      (AllByRecursion-weaker (IsEntryOf own) _ (λ entry own. fits entry.system entry.reads.items entry.writes.items own.lists) group.entries.items (recursion_from_All _ group.entries.items owns))
+
+  pub groups-fit : (groups : List (Group V (Work S (Nested V S C)))) → All (IsGroupOf own) groups → StageFits (Fits at) (inside_each 2 work_occupants (listed_states group_states groups)) (groups_plan groups)
+  groups-fit groups owns = EachAt-listed group_states group_plan (λ st group. EachAt (λ n entry. Fits at (inside_each 0 work_occupants (inside_at st n)) entry.access) 0 group) groups
+      (AllByRecursion-weaker (IsGroupOf own) _ group-fits groups (recursion_from_All _ groups owns))
+
+  -- stages of such groups
+  pub stages-fit-each : {Y : Type 0} (groups : Y → List (Group V (Work S (Nested V S C)))) (ys : List Y) → AllByRecursion (λ y. All (IsGroupOf own) (groups y)) ys
+      → PlanFits (Fits at) (inside_each 3 work_occupants (listed_states (λ y. listed_states group_states (groups y)) ys)) (map (λ y. groups_plan (groups y)) ys)
+  stages-fit-each groups ys owns = EachAt-listed (λ y. listed_states group_states (groups y)) (λ y. groups_plan (groups y)) (λ st stage. StageFits (Fits at) (inside_each 2 work_occupants st) stage) ys
+      (AllByRecursion-weaker (λ y. All (IsGroupOf own) (groups y)) _ (λ y one. groups-fit (groups y) one) ys owns)
+
+  -- so of stages each of which has such groups
+  pub stages-fit : {Y : Type 0} (groups : Y → List (Group V (Work S (Nested V S C)))) → ((y : Y) → All (IsGroupOf own) (groups y)) → (ys : List Y)
+      → PlanFits (Fits at) (inside_each 3 work_occupants (listed_states (λ y. listed_states group_states (groups y)) ys)) (map (λ y. groups_plan (groups y)) ys)
+  stages-fit groups owns ys = stages-fit-each groups ys (each owns ys) where
+    each : {Y : Type 0} {P : Y → Type 0} → ((y : Y) → P y) → (ys : List Y) → AllByRecursion P ys
+    each owns [] = tt
+    each owns (y ∷ ys) = (owns y, each owns ys)
 
 module _ {V S C : Type 0} (declared : Declared S C) where
-  module _ (depth at : ℕ) (fits : OwnsFits V declared depth at) where
-    group-fits : (group : Group V (Work S (Nested V S C))) → IsGroupOf (Owns declared depth) group → EachAt (λ n entry. Fits at (inside_each 0 work_occupants (inside_at (group_states group) n)) entry.access) 0 (group_plan group)
-    group-fits group owns = EachAt-listed entry_states entry_plan (λ st entry. Fits at (inside_each 0 work_occupants st) entry.access) group.entries.items
-        (AllByRecursion-weaker (IsEntryOf (Owns declared depth)) _ (λ entry own. fits entry.system entry.reads.items entry.writes.items own.lists) group.entries.items (recursion_from_All _ group.entries.items owns))
-
-    groups-fit : (groups : List (Group V (Work S (Nested V S C)))) → All (IsGroupOf (Owns declared depth)) groups → StageFits (Fits at) (inside_each 2 work_occupants (listed_states group_states groups)) (groups_plan groups)
-    groups-fit groups owns = EachAt-listed group_states group_plan (λ st group. EachAt (λ n entry. Fits at (inside_each 0 work_occupants (inside_at st n)) entry.access) 0 group) groups
-        (AllByRecursion-weaker (IsGroupOf (Owns declared depth)) _ group-fits groups (recursion_from_All _ groups owns))
-
-    -- stages of such groups
-    stages-fit : {Y : Type 0} (groups : Y → List (Group V (Work S (Nested V S C)))) (ys : List Y) → AllByRecursion (λ y. All (IsGroupOf (Owns declared depth)) (groups y)) ys
-        → PlanFits (Fits at) (inside_each 3 work_occupants (listed_states (λ y. listed_states group_states (groups y)) ys)) (map (λ y. groups_plan (groups y)) ys)
-    stages-fit groups ys owns = EachAt-listed (λ y. listed_states group_states (groups y)) (λ y. groups_plan (groups y)) (λ st stage. StageFits (Fits at) (inside_each 2 work_occupants st) stage) ys
-        (AllByRecursion-weaker (λ y. All (IsGroupOf (Owns declared depth)) (groups y)) _ (λ y one. groups-fit (groups y) one) ys owns)
-
   -- a batch that is within its lists fits them, where what stands in its inner entries fits these
   batch-fits : (less : ℕ) (InnerFits : model.Plan ResourceId → Type 0) (nested : Nested V S C) (reads writes : List ResourceId) → IsBatchWithin declared.control_reads declared.control_writes (Owns declared less) reads writes (batch_of nested)
       → InnerFits (tiers_plan (batch_of nested).tiers.items) → OccupantFits InnerFits (Some (a_batch (control_access (batch_of nested).control) (tiers_plan (batch_of nested).tiers.items))) (record { reads = reads; writes = writes })
@@ -129,7 +137,7 @@ module _ {V S C : Type 0} (declared : Declared S C) where
   occupants-of : (nested : Nested V S C) → work_occupants (Batch nested) ≡ with_own (a_batch (control_access (batch_of nested).control) (tiers_plan (batch_of nested).tiers.items)) (inner_occupants (batch_of nested).tiers.items)
   occupants-of = by_path-batch (λ s. a_system) (λ b. a_batch (control_access b.control) (tiers_plan b.tiers.items))
 
-  pub owns-fits : (depth at : ℕ) → OwnsFits V declared depth at
+  pub owns-fits : (depth at : ℕ) → OwnFits {V = V} (Owns declared depth) at
   unfolding Owns Fits by_path
   owns-fits depth zero (System s) reads writes owns = tt
   owns-fits depth (suc at) (System s) reads writes owns = tt
@@ -139,14 +147,5 @@ module _ {V S C : Type 0} (declared : Declared S C) where
       let batch = batch_of nested in
       subst (λ (all : Occupants). Fits (suc at) all (record { reads = reads; writes = writes })) (sym (occupants-of nested))
       (batch-fits less (PlanFits (Fits at) (inner_occupants batch.tiers.items)) nested reads writes owns
-      (stages-fit less at (owns-fits less at) (λ (tier : Tier V (Work S (Nested V S C))). tier.groups.items) batch.tiers.items
+      (stages-fit-each (Owns declared less) at (owns-fits less at) (λ (tier : Tier V (Work S (Nested V S C))). tier.groups.items) batch.tiers.items
       (AllByRecursion-weaker (IsTierWithin (Owns declared less) reads writes) _ (λ tier one. one.owns) batch.tiers.items (recursion_from_All _ batch.tiers.items owns.tiers))))
-
-  -- the groups of a stage that may be kept with their lists fit them
-  pub stage-fits : (depth : ℕ) (groups : List (Group V (Work S (Nested V S C)))) → All (IsGroupOf (Owns declared depth)) groups → StageFitsThroughout (inside_each 2 work_occupants (listed_states group_states groups)) (groups_plan groups)
-  stage-fits depth groups owns at = groups-fit depth at (owns-fits depth at) groups owns
-
-  -- so do the stages of a plan
-  pub plan-fits : (depth : ℕ) {Y : Type 0} (groups : Y → List (Group V (Work S (Nested V S C)))) (ys : List Y) → AllByRecursion (λ y. All (IsGroupOf (Owns declared depth)) (groups y)) ys
-      → PlanFitsThroughout (inside_each 3 work_occupants (listed_states (λ y. listed_states group_states (groups y)) ys)) (map (λ y. groups_plan (groups y)) ys)
-  plan-fits depth groups ys owns at = stages-fit depth at (owns-fits depth at) groups ys owns

@@ -14,3 +14,4 @@ pub mod StageStays
 pub mod Tests
 pub mod Times
 pub mod Touching
+pub mod Tiers

@@ -8,13 +8,13 @@ use Rattle.shred_stage.specs.StagePlan.{plan_of}
 use Rattle.shred_stage.specs.declared.dispatch.stages_builder.StagesBuilder.{StagesBuilder}
 
 -- the builder's plan
-abbrev pub planned : {V S E X : Type 0} {gv gs gx : _} → StagesBuilder V S E X gv gs gx → Plan ResourceId
+abbrev pub planned : {V S B N A : Type 0} {g : _} → StagesBuilder V S B N A g → Plan ResourceId
 planned builder = plan_of builder.stages.items
 
 -- the stage from which on new entries are placed
-abbrev pub barrier_of : {V S E X : Type 0} {gv gs gx : _} → StagesBuilder V S E X gv gs gx → ℕ
+abbrev pub barrier_of : {V S B N A : Type 0} {g : _} → StagesBuilder V S B N A g → ℕ
 barrier_of builder = builder.barrier
 
 -- the states of its systems, by stage, group and position
-abbrev pub builder_states : {V S E X : Type 0} {gv gs gx : _} → StagesBuilder V S E X gv gs gx → Agent → Option S
+abbrev pub builder_states : {V S B N A : Type 0} {g : _} → StagesBuilder V S B N A g → Agent → Option S
 builder_states builder path = plan_states builder.stages.items path

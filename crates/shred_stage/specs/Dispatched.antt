@@ -32,13 +32,13 @@ pub record Dispatched {P V S O F : Type 0} (kind : V → Kind) (Run : P → List
   pub kinds : (id : ResourceId) → option_map kind (after.values id) ≡ option_map kind (before.values id)
 
 -- a stage with its systems, over these values
-abbrev pub stage_with : {V S E X : Type 0} {gv gs gx : _} → Stage V S E X gv gs gx → Held V → Situation (model.Stage ResourceId) V S
+abbrev pub stage_with : {V S B N A : Type 0} {g : _} → Stage V S B N A g → Held V → Situation (model.Stage ResourceId) V S
 stage_with stage values = record { plan = stage_plan stage; states = stage_states stage; values = values }
 
 -- a stage with its systems, over a world
-abbrev pub stage_over : {V S E X : Type 0} {gv gs gx : _} → (V → Kind) → Stage V S E X gv gs gx → World V → Situation (model.Stage ResourceId) V S
+abbrev pub stage_over : {V S B N A : Type 0} {g : _} → (V → Kind) → Stage V S B N A g → World V → Situation (model.Stage ResourceId) V S
 stage_over kind stage world = stage_with stage (world_held kind world)
 
 -- some stages with their systems, over these values
-abbrev pub stages_with : {V S E X : Type 0} {gv gs gx : _} → List (Stage V S E X gv gs gx) → Held V → Situation (model.Plan ResourceId) V S
+abbrev pub stages_with : {V S B N A : Type 0} {g : _} → List (Stage V S B N A g) → Held V → Situation (model.Plan ResourceId) V S
 stages_with stages values = record { plan = plan_of stages; states = plan_states stages; values = values }

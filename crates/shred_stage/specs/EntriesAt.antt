@@ -12,13 +12,13 @@ abbrev pub group_entries : {V S : Type 0} → Group V S → Agent → Option (Sy
 group_entries group path = listed_states own_state group.entries.items path
 
 -- a stage's entries, by group and position
-abbrev pub stage_entries : {V S E X : Type 0} {gv gs gx : _} → Stage V S E X gv gs gx → Agent → Option (SystemEntry V S)
+abbrev pub stage_entries : {V S B N A : Type 0} {g : _} → Stage V S B N A g → Agent → Option (SystemEntry V S)
 stage_entries stage path = listed_states group_entries stage.groups.items path
 
 -- the entries of some stages, by stage, group and position
-abbrev pub plan_entries : {V S E X : Type 0} {gv gs gx : _} → List (Stage V S E X gv gs gx) → Agent → Option (SystemEntry V S)
+abbrev pub plan_entries : {V S B N A : Type 0} {g : _} → List (Stage V S B N A g) → Agent → Option (SystemEntry V S)
 plan_entries stages path = listed_states stage_entries stages path
 
 -- a builder's entries, by stage, group and position
-abbrev pub builder_entries : {V S E X : Type 0} {gv gs gx : _} → StagesBuilder V S E X gv gs gx → Agent → Option (SystemEntry V S)
+abbrev pub builder_entries : {V S B N A : Type 0} {g : _} → StagesBuilder V S B N A g → Agent → Option (SystemEntry V S)
 builder_entries builder path = plan_entries builder.stages.items path

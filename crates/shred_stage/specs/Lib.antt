@@ -15,3 +15,5 @@ pub mod Dispatched
 pub mod Added
 pub mod EntriesAt
 pub mod Setups
+pub mod Inner
+pub mod Inserted

@@ -6,11 +6,11 @@ use Rattle.shred_group.specs.PlanOf.{groups_plan}
 use Rattle.shred_stage.specs.declared.dispatch.stage.Stage.{Stage}
 
 -- a stage's groups, in order
-abbrev pub stage_plan : {V S E X : Type 0} {gv gs gx : _} → Stage V S E X gv gs gx → model.Stage ResourceId
+abbrev pub stage_plan : {V S B N A : Type 0} {g : _} → Stage V S B N A g → model.Stage ResourceId
 stage_plan stage = groups_plan stage.groups.items
 
 -- some stages, in order
-abbrev pub plan_of : {V S E X : Type 0} {gv gs gx : _} → List (Stage V S E X gv gs gx) → model.Plan ResourceId
+abbrev pub plan_of : {V S B N A : Type 0} {g : _} → List (Stage V S B N A g) → model.Plan ResourceId
 plan_of stages = map stage_plan stages
 
 -- the greatest number of groups in a stage of a plan, 0 where there is none

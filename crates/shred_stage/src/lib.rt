@@ -7,4 +7,7 @@ pub use dispatch::printing::PrintError;
 pub use dispatch::sink::{PlanSink, SinkFailed, ToWriter};
 pub use dispatch::stage::Stage;
 pub use dispatch::stages_builder::StagesBuilder;
-pub use shred_group::{Fault, RunningTime, StageFault, System, SystemId, system};
+pub use shred_group::{
+    Fault, Holds, NoBatch, Occupant, RunningTime, RunsInOrder, Settles, StageFault, System,
+    SystemId, system,
+};

@@ -6,7 +6,7 @@ use Rattle.shred_table.specs.declared.table.Table.{Table}
 use Rattle.shred_table.specs.Shown.{Lent}
 use Rattle.shred_world.specs.Worked.{Held}
 use Rattle.shred_group.specs.Steps.{Outcome}
-use Rattle.shred_batch.specs.Depths.{Declared, Related, Owns, WorkStep, batch_of}
+use Rattle.shred_batch.specs.Depths.{Declared, Related, Owns, WorkStep}
 use Rattle.shred_batch.specs.Steppers.{IsStepBy}
 use Rattle.shred_batch.specs.declared.work.Nested.{Nested}
 use Rattle.shred_batch.specs.declared.work.Work.{Work}

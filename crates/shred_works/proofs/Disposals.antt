@@ -1,8 +1,6 @@
 -- What is disposed of, one after the other.
-use Rattle.std.proofs.Common.{◌≡◌, ℕ, zero, suc, ◌-◌, List, [], ◌∷◌, ◌++◌, length, get_or, refl, sym, ◌∙◌, ap, subst, arith}
+use Rattle.std.proofs.Common.{◌≡◌, ℕ, zero, suc, refl, sym, subst, arith}
 use Rattle.std.specs.List.{All}
-use Rattle.std.proofs.Math.Seq.{get_or-append_seam}
-use Rattle.std.proofs.lemmas.List.{length-append}
 use Rattle.shred_world.specs.Worked.{Held}
 use Rattle.shred_group.specs.Steps.{Outcome}
 use Rattle.shred_batch.specs.Depths.{batch_of}
@@ -11,11 +9,6 @@ use Rattle.shred_batch.specs.declared.work.Work.{Work}
 use Rattle.shred_batch.specs.declared.work.Work.TheVariants.{System, Batch}
 use Rattle.shred_works.specs.Nesting.{IsNoDeeper, TierNests}
 use Rattle.shred_works.specs.Setups.{BatchDisposal, WorkDisposal}
-
--- what holds of all items holds of the next one
-pub at-next : {X : Type 0} (P : X → Type 0) (done : List X) (x : X) (rest items : List X) → done ++ x ∷ rest ≡ items → All P items → P x
-at-next P done x rest items is all =
-    subst P (get_or-append_seam done x rest x) (subst (All P) (sym is) all (length done) x (omega (arith, length-append done (x ∷ rest))))
 
 module _ {V S C : Type 0} where
   -- a batch nests deeper than 0, and what stands in its inner plan less deep

@@ -1,5 +1,5 @@
 -- The lists of a batch's entry have what they are joined of, so its controller and its inner plan are within them.
-use Rattle.std.proofs.Common.{arith, ◌≡◌, ℕ, suc, ◌<◌, Bool, true, ◌||◌, List, length, get_or, map, refl, sym, ◌∙◌, ap, subst, Contains, ◌++◌, ◌↔◌}
+use Rattle.std.proofs.Common.{arith, ◌≡◌, ℕ, suc, ◌<◌, Bool, true, ◌||◌, List, length, get_or, refl, sym, ◌∙◌, ap, subst, Contains, ◌++◌, ◌↔◌}
 use Rattle.std.specs.List.{All, flat_map}
 use Rattle.std.proofs.lemmas.List.{get_or-map, length-map}
 use Rattle.std.proofs.lemmas.List.Elements.{Contains-append_left, Contains-append_right, recursion_from_All}

@@ -4,3 +4,4 @@ pub mod Disposals
 pub mod Joined
 pub mod Nesting
 pub mod Stays
+pub mod Occupants

@@ -1,5 +1,5 @@
 -- How deep batches nest at most in what was looked at so far.
-use Rattle.std.proofs.Common.{◌≡◌, ℕ, ◌+◌, ◌<◌, ◌≤◌, List, [], ◌∷◌, ◌++◌, length, take, get_or, refl, sym, subst, arith}
+use Rattle.std.proofs.Common.{ℕ, ◌+◌, ◌<◌, ◌≤◌, List, [], ◌∷◌, ◌++◌, length, take, get_or, refl, sym, subst, arith}
 use Rattle.std.specs.List.{All}
 use Rattle.std.proofs.Math.ListN.{get_or-append}
 use Rattle.std.proofs.lemmas.List.{length-append, take_more}
@@ -10,8 +10,7 @@ use Rattle.shred_batch.specs.declared.work.Nested.{Nested}
 use Rattle.shred_batch.specs.declared.work.Tier.{Tier}
 use Rattle.shred_batch.specs.declared.work.Work.{Work}
 use Rattle.shred_works.specs.Batches.{NotesAtMost, GroupNotesAtMost, TierNotesAtMost}
-use Rattle.shred_works.specs.OwnDepth.{depth_of}
-use Rattle.shred_works.proofs.Disposals.{at-next}
+use Rattle.shred_group.proofs.Groups.Walked.{at-next}
 
 module _ {X : Type 0} (below : ℕ → X → Type 0) (grows : (a b : ℕ) → a ≤ b → (x : X) → below a x → below b x) where
   -- what holds of the elements looked at so far and of the next one, each with its bound, holds of all of them with any that is no less

@@ -14,6 +14,7 @@ use Rattle.shred_group.specs.declared.dispatch.entry.Group.{Group}
 use Rattle.shred_group.specs.declared.dispatch.entry.SystemEntry.{SystemEntry}
 use Rattle.shred_group.specs.declared.system.RunningTime.{RunningTime}
 use Rattle.shred_batch.specs.Depths.{batch_of}
+use Rattle.shred_batch.specs.KeptControllers.{control_access}
 use Rattle.shred_batch.specs.Works.{tier_plan}
 use Rattle.shred_batch.specs.declared.work.Nested.{Nested}
 use Rattle.shred_batch.specs.declared.work.Tier.{Tier}
@@ -52,11 +53,12 @@ GroupNotesAtMost most group = All (NotesAtMost most) group.entries.items
 abbrev pub TierNotesAtMost : {V S C : Type 0} → ℕ → Tier V (Work S (Nested V S C)) → Type 0
 TierNotesAtMost most tier = All (GroupNotesAtMost most) tier.groups.items
 
--- It is a batch of this controller and these tiers, and its depth is one more than the greatest that is noted in them, or one where they have no entry.
-pub record IsBatchOf {V S C : Type 0} (controller : C) (tiers : List (Tier V (Work S (Nested V S C)))) (work : Work S (Nested V S C)) : Type 0 where
+-- It is a batch of this controller, of which these two lists are kept, and of these tiers, and its depth is one more than the greatest that is noted in them, or one where they have no entry.
+pub record IsBatchOf {V S C : Type 0} (controller : C) (declared : Access ResourceId) (tiers : List (Tier V (Work S (Nested V S C)))) (work : Work S (Nested V S C)) : Type 0 where
   pub nested : Nested V S C
   pub is_batch : work ≡ Batch nested
   pub same_controller : (batch_of nested).control.controller ≡ controller
+  pub same_access : control_access (batch_of nested).control ≡ declared
   pub same_tiers : (batch_of nested).tiers.items ≡ tiers
   pub greatest : ℕ
   pub noted : All (TierNotesAtMost greatest) tiers

@@ -1,10 +1,7 @@
 -- That what stands in an entry may be kept with two lists is a fact: there is one reason for it at most.
-use Rattle.std.specs.Prelude.{ℕ, zero, suc, List, All}
+use Rattle.std.specs.Prelude.{ℕ, zero, suc, List}
 use Rattle.std.proofs.Props.{props}
 use Rattle.shred_table.specs.declared.id.ResourceId.{ResourceId}
-use Rattle.shred_group.specs.OwnLists.{IsEntryOf, IsGroupOf}
-use Rattle.shred_group.specs.declared.dispatch.entry.Group.{Group}
-use Rattle.shred_group.specs.declared.dispatch.entry.SystemEntry.{SystemEntry}
 use Rattle.shred_batch.specs.Depths.{Declared, Owns, batch_of}
 use Rattle.shred_batch.specs.Works.{IsBatchWithin, IsTierWithin}
 use Rattle.shred_batch.specs.declared.work.Batch.{Batch as OneBatch}

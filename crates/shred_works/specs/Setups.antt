@@ -15,6 +15,7 @@ use Rattle.shred_batch.specs.declared.work.Nested.{Nested}
 use Rattle.shred_batch.specs.declared.work.Tier.{Tier}
 use Rattle.shred_batch.specs.declared.work.Work.{Work}
 use Rattle.shred_batch.specs.declared.work.Work.TheVariants.{System, Batch}
+use Rattle.shred_works.specs.OwnDepth.{depth_of}
 
 -- how a batch ended whose inner plan answered so: a fault is told as the batch's own
 abbrev pub outcome_within : {E : Type 0} → Answer (StageFault E) → Outcome E
@@ -69,3 +70,11 @@ module _ {V S E : Type 0} (C : Type 0) (system : S → Held V → Outcome E → 
   WorkDisposal depth (System one) before outcome after = system one before outcome after
   WorkDisposal (suc less) (Batch nested) before outcome after = BatchDisposal (WorkDisposal less) (batch_of nested) before outcome after
   WorkDisposal depth work before outcome after = ⊥
+
+-- the setup of what stands in an entry, to the depth that is noted of it
+abbrev pub OwnSetup : {V S C E : Type 0} → Step V S E → Step V C E → Step V (Work S (Nested V S C)) E
+OwnSetup system control old before outcome new after = WorkSetup system control (depth_of old) old before outcome new after
+
+-- the disposal of what stands in an entry, to the depth that is noted of it
+abbrev pub OwnDisposal : {V S C E : Type 0} → (S → Held V → Outcome E → Held V → Type 0) → Work S (Nested V S C) → Held V → Outcome E → Held V → Type 0
+OwnDisposal {C = C} system work before outcome after = WorkDisposal C system (depth_of work) work before outcome after

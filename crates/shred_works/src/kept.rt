@@ -140,7 +140,7 @@ pub fn batch_entry<V: ResourceValue + Drop, S: System<V> + Drop, C: BatchControl
 ) -> Result<SystemEntry<V, Work<S, Nested<V, S, C>>>, OutOfMemory>
     requires { All (IsTierOf (OwnsItself (record { reads = S.reads; writes = S.writes; control_reads = C.reads; control_writes = C.writes }))) tiers.items }
     ensures kept { IfOk result (λ entry. IsKeptBatch id.0 (joined_access (record { reads = C.reads controller; writes = C.writes controller }) (tiers_plan tiers.items)) (C.time controller) (entry_plan entry)) }
-    ensures batch { IfOk result (λ entry. IsBatchOf controller tiers.items entry.system) }
+    ensures batch { IfOk result (λ entry. IsBatchOf controller (record { reads = C.reads controller; writes = C.writes controller }) tiers.items entry.system) }
     ensures own_lists { IfOk result (IsEntryOf (OwnsItself (record { reads = S.reads; writes = S.writes; control_reads = C.reads; control_writes = C.writes }))) }
 {
     let time = controller.running_time();

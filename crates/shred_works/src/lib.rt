@@ -10,5 +10,5 @@ pub mod settled;
 pub mod setup;
 pub mod turn;
 
-pub use occupant::Batched;
+pub use occupant::{Batched, WithBatches};
 pub use own_depth::OwnDepth;

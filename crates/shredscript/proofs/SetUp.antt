@@ -64,7 +64,7 @@ module _ {V S E : Type 0} (staged : Step V S E) (idle : (s : S) (h : Held V) (o 
       let states : group_states y ≡ group_states x = fun_ext (listed-same entry_states x.entries.items y.entries.items r.1) in
       (r.0, states, r.2)
 
-  stage-same : {N X : Type 0} {gv gs gx : _} (n : ℕ) (x : Stage V S N X gv gs gx) (h : Held V) (a : Answer (DispatchError E)) (y : Stage V S N X gv gs gx) (k : Held V) → StageSetupAt staged n x h a y k → (a ≡ Ok tt) × (stage_states y ≡ stage_states x) × (k ≡ h)
+  stage-same : {B N A : Type 0} {g : _} (n : ℕ) (x : Stage V S B N A g) (h : Held V) (a : Answer (DispatchError E)) (y : Stage V S B N A g) (k : Held V) → StageSetupAt staged n x h a y k → (a ≡ Ok tt) × (stage_states y ≡ stage_states x) × (k ≡ h)
   stage-same n x h a y k (b, turns, is) =
       let r = turns-same (λ place. GroupSetup staged) group_states group-same 0 x.groups.items y.groups.items h k b turns in
       let states : stage_states y ≡ stage_states x = fun_ext (listed-same group_states x.groups.items y.groups.items r.1) in
@@ -75,10 +75,10 @@ module _ {V L E : Type 0} (local : Step V L E) (idle : (s : L) (h : Held V) (o :
   local-same n x h a y k (o, own, is) = let i = idle x h o y k own in (is ∙ ap (local_answer n) i.1, i.0, i.2)
 
 -- a dispatcher that was set up is as before, and so are the values
-pub nothing-set-up : {V S L E N X : Type 0} {gv gs gx : _} (staged : Step V S E) (local : Step V L E)
+pub nothing-set-up : {V S B L E N A : Type 0} {g : _} (staged : Step V S E) (local : Step V L E)
     → ((s : S) (h : Held V) (o : Outcome E) (t : S) (k : Held V) → staged s h o t k → (t ≡ s) × (o ≡ Ok tt) × (k ≡ h))
     → ((s : L) (h : Held V) (o : Outcome E) (t : L) (k : Held V) → local s h o t k → (t ≡ s) × (o ≡ Ok tt) × (k ≡ h))
-    → (old new : Dispatcher V S L N X gv gs gx) (h k : Held V) (answer : Answer (DispatchError E)) → IsSetUp staged local old h answer new k → (answer ≡ Ok tt) × (whole_with new k ≡ whole_with old h)
+    → (old new : Dispatcher V S B L N A g) (h k : Held V) (answer : Answer (DispatchError E)) → IsSetUp staged local old h answer new k → (answer ≡ Ok tt) × (whole_with new k ≡ whole_with old h)
 nothing-set-up {E = E} staged local idle idle_local old new h k answer set =
     let s = turns-same (StageSetupAt staged) stage_states (stage-same staged idle) 0 old.stages.items new.stages.items h set.middle set.of_stages set.stages in
     let states = fun_ext (listed-same stage_states old.stages.items new.stages.items s.1) in

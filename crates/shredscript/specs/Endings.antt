@@ -6,7 +6,7 @@ use Rattle.shred_local.specs.declared.dispatch_error.DispatchError.{DispatchErro
 use Rattle.shred_local.specs.declared.dispatch_error.DispatchError.TheVariants.{System as at_system, ThreadLocal, StageMemory as at_stage}
 use Rattle.shred_group.specs.declared.system.Fault.{Fault}
 use Rattle.shred_group.specs.declared.system.Fault.TheVariants.{Refused as refuses, OutOfMemory as wants_memory}
-use Rattle.shredscript.specs.declared.error.AddRefusal.TheVariants.{NoSuchSystem, NameTaken, IdsExhausted}
+use Rattle.shredscript.specs.declared.error.AddRefusal.TheVariants.{NoSuchSystem, NameTaken, IdsExhausted, ThreadLocalInBatch}
 use Rattle.shredscript.specs.declared.error.LineError.{LineError}
 use Rattle.shredscript.specs.declared.error.LineError.TheVariants.{Fault as has_fault, Memory}
 use Rattle.shredscript.specs.declared.error.ScriptError.{ScriptError}
@@ -40,6 +40,7 @@ add_error line (builder.NoSuchSystem place) = refused_line line (NoSuchSystem pl
 add_error line builder.NameTaken = refused_line line NameTaken
 add_error line builder.IdsExhausted = refused_line line IdsExhausted
 add_error line builder.OutOfMemory = OutOfMemory
+add_error line builder.ThreadLocalInBatch = refused_line line ThreadLocalInBatch
 
 -- the status of an outcome: 0 where nothing was refused, else 2
 abbrev pub outcome_status : Outcome → ℕ

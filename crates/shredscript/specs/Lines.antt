@@ -7,7 +7,7 @@ use Rattle.shred_stage.specs.Known.{texts_of}
 use Rattle.shred_names.specs.declared.add_error.AddError.{AddError}
 use Rattle.shred_names.specs.declared.add_error.AddError.TheVariants as builder
 use Rattle.shredscript.specs.declared.error.AddRefusal.{AddRefusal}
-use Rattle.shredscript.specs.declared.error.AddRefusal.TheVariants.{NoSuchSystem, NameTaken, IdsExhausted}
+use Rattle.shredscript.specs.declared.error.AddRefusal.TheVariants.{NoSuchSystem, NameTaken, IdsExhausted, ThreadLocalInBatch}
 use Rattle.shredscript.specs.declared.error.ScriptError.{ScriptError}
 use Rattle.shredscript.specs.declared.error.ScriptError.TheVariants.{TooLong, InputFailed, Line, Refused, Unnamed, OutOfMemory, OutputFailed}
 use Rattle.shredscript.specs.declared.script.PlanLine.{PlanLine}
@@ -53,6 +53,7 @@ abbrev pub answer_of : AddRefusal → AddError
 answer_of (NoSuchSystem place) = builder.NoSuchSystem place
 answer_of NameTaken = builder.NameTaken
 answer_of IdsExhausted = builder.IdsExhausted
+answer_of ThreadLocalInBatch = builder.ThreadLocalInBatch
 
 -- why a line's system is not added: the builder refuses it, which is told with the line's number; or memory is refused
 abbrev pub IsNotAdded : SystemLine → Built ScriptSystem ScriptLocal → ScriptError → Type 0

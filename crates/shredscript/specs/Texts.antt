@@ -2,7 +2,7 @@
 use Rattle.std.specs.Prelude.{ℕ, ℤ, List, [], ◌∷◌, ◌++◌, codes}
 use Rattle.std.specs.Fmt.{decimal, signed_decimal}
 use Rattle.shredscript.specs.declared.error.AddRefusal.{AddRefusal}
-use Rattle.shredscript.specs.declared.error.AddRefusal.TheVariants.{NoSuchSystem, NameTaken, IdsExhausted}
+use Rattle.shredscript.specs.declared.error.AddRefusal.TheVariants.{NoSuchSystem, NameTaken, IdsExhausted, ThreadLocalInBatch}
 use Rattle.shredscript.specs.declared.error.LineFault.{LineFault}
 use Rattle.shredscript.specs.declared.error.LineFault.TheVariants.{UnknownLine, BadWord, NoSuchResource, ResourceTwice}
 use Rattle.shredscript.specs.declared.error.ScriptError.{ScriptError}
@@ -56,6 +56,7 @@ abbrev pub refused_add_text : AddRefusal → List ℕ
 refused_add_text (NoSuchSystem place) = codes "no such system at " ++ decimal place
 refused_add_text NameTaken = codes "name taken"
 refused_add_text IdsExhausted = codes "ids exhausted"
+refused_add_text ThreadLocalInBatch = codes "thread-local system in batch"
 
 -- why a script is not run to its outcome
 abbrev pub error_text : ScriptError → List ℕ

@@ -9,11 +9,11 @@ use crate::script::{PlanLine, SystemLine};
 use crate::step::Step;
 use crate::system::ScriptSystem;
 use crate::value::Value;
-use shred::DispatcherBuilder;
+use shred::{DispatcherBuilder, NoBatch};
 use std::alloc::Global;
 
 /// A builder of plans of a script's systems.
-pub(crate) type ScriptBuilder = DispatcherBuilder<Value, ScriptSystem, ScriptLocal>;
+pub(crate) type ScriptBuilder = DispatcherBuilder<Value, ScriptSystem, NoBatch, ScriptLocal>;
 
 /// The builder that has taken all lines, in their order.
 pub(crate) fn builder_of(

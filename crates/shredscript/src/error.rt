@@ -63,6 +63,9 @@ pub(crate) enum AddRefusal {
 
     /// No id is left.
     IdsExhausted,
+
+    /// The plan of a batch has a thread-local system.
+    ThreadLocalInBatch,
 }
 
 impl fmt::Display for AddRefusal {
@@ -76,6 +79,7 @@ impl fmt::Display for AddRefusal {
             AddRefusal::NoSuchSystem { place } => write!(f, "no such system at {place}"),
             AddRefusal::NameTaken => write!(f, "name taken"),
             AddRefusal::IdsExhausted => write!(f, "ids exhausted"),
+            AddRefusal::ThreadLocalInBatch => write!(f, "thread-local system in batch"),
         }
     }
 }
@@ -146,6 +150,7 @@ impl ScriptError {
             AddError::NoSuchSystem { place } => AddRefusal::NoSuchSystem { place },
             AddError::NameTaken => AddRefusal::NameTaken,
             AddError::IdsExhausted => AddRefusal::IdsExhausted,
+            AddError::ThreadLocalInBatch => AddRefusal::ThreadLocalInBatch,
             AddError::OutOfMemory => return ScriptError::OutOfMemory,
         };
         ScriptError::Refused { line, refusal }

@@ -24,14 +24,14 @@ use crate::script::{Manner, Mode, Script};
 use crate::step::Resources;
 use crate::system::ScriptSystem;
 use crate::value::{Value, id_at};
-use shred::{DispatchError, Dispatcher, World};
+use shred::{DispatchError, Dispatcher, NoBatch, World};
 use std::alloc::Global;
 use std::io;
 use std::io::Write;
 use std::thread::Threads;
 
 /// A dispatcher of a script's systems.
-type ScriptDispatcher = Dispatcher<Value, ScriptSystem, ScriptLocal>;
+type ScriptDispatcher = Dispatcher<Value, ScriptSystem, NoBatch, ScriptLocal>;
 
 /// The most bytes of a line of a report behind the name: `=`, a number of 64 bits with sign and a line feed.
 const MOST_VALUE_BYTES: usize = 22;

@@ -2,7 +2,7 @@
 
 use crate::ended::{DONE, run_ended};
 use crate::script::{Script, expect_counts, world_of};
-use shred::{DispatcherBuilder, Fault, LocalWorld, RunNow, World, Write};
+use shred::{DispatcherBuilder, Fault, LocalWorld, NoBatch, RunNow, World, Write};
 use shredtest::values::{Count, Value};
 use std::test::Fail;
 use std::thread::Threads;
@@ -48,7 +48,7 @@ impl RunNow<Value> for TakesBundle {
 #[test]
 fn a_local_system_writes_in_a_bundle(rt: HostRuntime) -> Result<(), Fail> {
     let mut world = world_of(rt.alloc(), &[Some(1)])?;
-    let builder: DispatcherBuilder<Value, Script, TakesBundle> = DispatcherBuilder::new(rt.alloc());
+    let builder: DispatcherBuilder<Value, Script, NoBatch, TakesBundle> = DispatcherBuilder::new(rt.alloc());
     let mut dispatcher = builder.with_thread_local(TakesBundle)?.build();
     let end = run_ended(dispatcher.run_now(&rt, world.local()));
     assert_eq!(rt; end, DONE);

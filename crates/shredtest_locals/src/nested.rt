@@ -3,8 +3,8 @@ ghost use Rattle.std.specs.Prelude.{[]};
 
 use crate::script::{IDLE, Script, expect_counts, world_of};
 use shred::{
-    BatchAccessor, DispatchError, Dispatcher, DispatcherBuilder, Fault, Now, OutOfMemory, Plain,
-    PlainSystem, SystemId, View,
+    BatchAccessor, DispatchError, Dispatcher, DispatcherBuilder, Fault, NoBatch, Now, OutOfMemory,
+    Plain, PlainSystem, SystemId, View,
 };
 use shredtest::values::Value;
 use std::alloc::Global;
@@ -32,7 +32,7 @@ impl PlainSystem<Value> for Quiet {
     }
 }
 
-type Outer = Dispatcher<Value, Plain<Quiet>, Dispatcher<Value, Script>>;
+type Outer = Dispatcher<Value, Plain<Quiet>, NoBatch, Dispatcher<Value, Script>>;
 
 /// A dispatcher whose one thread-local system is a dispatcher of these two, the second of which is thread-local.
 fn outer_of(alloc: Global, staged: Script, local: Script) -> Result<Outer, Fail> {
@@ -41,7 +41,7 @@ fn outer_of(alloc: Global, staged: Script, local: Script) -> Result<Outer, Fail>
         .with(staged, "", &[])?
         .with_thread_local(Now(local))?
         .build();
-    let outer: DispatcherBuilder<Value, Plain<Quiet>, Dispatcher<Value, Script>> =
+    let outer: DispatcherBuilder<Value, Plain<Quiet>, NoBatch, Dispatcher<Value, Script>> =
         DispatcherBuilder::new(alloc);
     Ok(
         outer

@@ -6,7 +6,9 @@ ghost use Rattle.std.proofs.Props.{props};
 ghost use Rattle.shred_model.specs.Plan.{plan_ids};
 ghost use Rattle.shred_model.specs.Record.{Agent};
 ghost use Rattle.shred_stage.specs.BuilderPlan.{planned, barrier_of, builder_states};
-ghost use Rattle.shred.specs.Built.{IsAddition, IsBarrierSet, IsConsistent, IsLocalAdded, IsNewBuilt, IsPoolSet, IsSameBuilt};
+ghost use Rattle.shred.specs.Built.{IsAddition, IsBarrierSet, IsConsistent, IsEntryAdded, IsLocalAdded, IsNewBuilt, IsPoolSet, IsSameBuilt};
+ghost use Rattle.shred_group.specs.OwnLists.{IsEntryOf};
+ghost use Rattle.shred_group.specs.PlanOf.{entry_plan};
 ghost use Rattle.shred_names.specs.Refusals.{IsRefusal, MayAdd};
 ghost use Rattle.shred.specs.Dispatchers.{dispatcher_locals, dispatcher_plan, dispatcher_states, dispatcher_workers};
 ghost use Rattle.shred.specs.SystemNames.{names_known, names_pairs};
@@ -19,51 +21,48 @@ ghost use Rattle.shred_stage.specs.Prints.{IsPrinted};
 
 use crate::dispatch::dispatcher::{Dispatcher, new_dispatcher};
 use crate::dispatch::names::SystemNames;
+use shred_group::dispatch::entry::SystemEntry;
 use shred_local::{Now, ThreadLocal};
 use shred_names::AddError;
 use shred_names::look_up::{enter, forget, ids_of, may_add};
 use shred_stage::dispatch::printing::print_with_end;
-use shred_stage::{PlanSink, PrintError, StagesBuilder, System, SystemId};
+use shred_stage::dispatch::stages_builder::kept_entry;
+use shred_stage::{
+    Holds, NoBatch, Occupant, PlanSink, PrintError, StagesBuilder, System, SystemId,
+};
 use shred_world::{OutOfMemory, ResourceValue};
 use std::alloc::Global;
 use std::collections::HashMap;
 
 /// A plan that grows by one system after another, with names for them.
 #[derive(Drop)]
-pub struct DispatcherBuilder<V: ResourceValue, S: System<V>, L = Now<S>> {
-    alloc: Global,
-    stages: StagesBuilder<V, S>,
-    names: HashMap<String, SystemId>,
-    next: usize,
-    thread_local: ThreadLocal<L>,
+pub struct DispatcherBuilder<V, X: Occupant<C, V>, C = NoBatch, L = Now<X>> {
+    pub(crate) alloc: Global,
+    pub(crate) stages: StagesBuilder<V, X, C>,
+    pub(crate) names: HashMap<String, SystemId>,
+    pub(crate) next: usize,
+    pub(crate) thread_local: ThreadLocal<L>,
     workers: usize,
     ghost distinct_names: { IsUnique string_eq names } by { Prim.hlevel props },
     ghost known_planned: { (name : List ℕ) (id : ℕ) → names_of names name ≡ Some id → plan_has (planned stages) id ≡ true },
     ghost consistent: { IsConsistent (record { plan = planned stages; states = builder_states stages; known = names_of names; barrier = barrier_of stages; next = next; locals = systems_of thread_local; workers = workers }) },
 }
 
-impl<V: ResourceValue, S: System<V>, L: Drop> DispatcherBuilder<V, S, L> {
+impl<V, X: Occupant<C, V>, C, L: Drop> DispatcherBuilder<V, X, C, L> {
     ghost use Rattle.shred.specs.Builders.{built, builder_pairs};
 
-    /// An empty plan, without names. It takes no memory.
-    pub fn new(alloc: Global) -> Self
+    /// An empty plan, in which may stand what its type says, without names. It takes no memory.
+    pub fn empty(alloc: Global) -> Self
         ensures { IsNewBuilt (built result) }
     {
         DispatcherBuilder {
             alloc,
-            stages: StagesBuilder::new(alloc),
+            stages: StagesBuilder::empty(alloc),
             names: HashMap::new(alloc),
             next: 0,
             thread_local: ThreadLocal::new(alloc),
             workers: 4,
         }
-    }
-
-    /// An empty plan without names, as of `new`.
-    pub fn default(alloc: Global) -> Self
-        ensures { IsNewBuilt (built result) }
-    {
-        Self::new(alloc)
     }
 
     /// Sets the barrier to the number of stages: what is added from now on stands after all that is there. It takes no
@@ -78,7 +77,7 @@ impl<V: ResourceValue, S: System<V>, L: Drop> DispatcherBuilder<V, S, L> {
     pub fn with_barrier(self) -> Self
     where
         V: Drop,
-        S: Drop,
+        X: Drop,
         ensures { IsBarrierSet (built self) (built result) }
     {
         let mut builder = self;
@@ -98,7 +97,7 @@ impl<V: ResourceValue, S: System<V>, L: Drop> DispatcherBuilder<V, S, L> {
     pub fn with_pool(self, workers: usize) -> Self
     where
         V: Drop,
-        S: Drop,
+        X: Drop,
         ensures { IsPoolSet (built self) (built result) workers }
     {
         let mut builder = self;
@@ -123,7 +122,7 @@ impl<V: ResourceValue, S: System<V>, L: Drop> DispatcherBuilder<V, S, L> {
     pub fn with_thread_local(self, system: L) -> Result<Self, AddError>
     where
         V: Drop,
-        S: Drop,
+        X: Drop,
         ensures added { IfOk result (λ after. IsLocalAdded (built self) (built after) system) }
         ensures refused { IfErr result (λ e. e ≡ AddError.OutOfMemory) }
     {
@@ -147,10 +146,10 @@ impl<V: ResourceValue, S: System<V>, L: Drop> DispatcherBuilder<V, S, L> {
     }
 
     /// The dispatcher of the plan. It takes no memory.
-    pub fn build(self) -> Dispatcher<V, S, L>
+    pub fn build(self) -> Dispatcher<V, X, C, L>
     where
         V: Drop,
-        S: Drop,
+        X: Drop,
         ensures plan { dispatcher_plan result ≡ (built self).plan }
         ensures states { (path : Agent) → dispatcher_states result path ≡ (built self).states path }
         ensures locals { dispatcher_locals result ≡ (built self).locals }
@@ -161,10 +160,10 @@ impl<V: ResourceValue, S: System<V>, L: Drop> DispatcherBuilder<V, S, L> {
     }
 
     /// The dispatcher of the plan, and the names that are known. It takes no memory.
-    pub fn build_with_names(self) -> (Dispatcher<V, S, L>, SystemNames)
+    pub fn build_with_names(self) -> (Dispatcher<V, X, C, L>, SystemNames)
     where
         V: Drop,
-        S: Drop,
+        X: Drop,
         ensures plan { dispatcher_plan result.0 ≡ (built self).plan }
         ensures states { (path : Agent) → dispatcher_states result.0 path ≡ (built self).states path }
         ensures locals { dispatcher_locals result.0 ≡ (built self).locals }
@@ -175,6 +174,82 @@ impl<V: ResourceValue, S: System<V>, L: Drop> DispatcherBuilder<V, S, L> {
     {
         let dispatcher = new_dispatcher(self.stages.build(), self.thread_local, self.workers);
         (dispatcher, SystemNames { names: self.names })
+    }
+}
+
+impl<V: ResourceValue + Drop, X: Occupant<C, V> + Drop, C, L: Drop> DispatcherBuilder<V, X, C, L> {
+    ghost use Rattle.shred.specs.Builders.{built};
+
+    // `add`, of a system in any plan that may hold it.
+    pub(crate) fn add_system<S: System<V> + Drop>(
+        &mut self,
+        system: S,
+        name: &str,
+        dependencies: &[&str],
+    ) -> Result<SystemId, AddError>
+    where
+        X: Holds<C, V, S>,
+        ensures id { IfOk result (λ id. id.0 ≡ (built self.old).next) }
+        ensures allowed { OnOk result (MayAdd (built self.old).known (built self.old).next name.now (texts_of dependencies.now)) }
+        ensures added { OnOk result (IsAddition (built self.old) (built self.new) name.now (texts_of dependencies.now) (S.reads system) (S.writes system) (S.time system) (X.holds system)) }
+        ensures refused { IfErr result (IsRefusal (built self.old).known (built self.old).next name.now (texts_of dependencies.now)) }
+        ensures unchanged { OnErr result (IsSameBuilt (built self.old) (built self.new)) }
+    {
+        may_add(&self.names, self.next, name, dependencies)?;
+        let id = SystemId(self.next);
+        let Ok(entry) = kept_entry::<V, X, C, S>(self.alloc, id, system) else {
+            return Err(AddError::OutOfMemory);
+        };
+        match self.accept(entry, name, dependencies) {
+            Ok(()) => Ok(id),
+            Err(_) => Err(AddError::OutOfMemory),
+        }
+    }
+
+    // Gives the entry its place, and enters its name, where it may be added.
+    pub(crate) fn accept(
+        &mut self,
+        entry: SystemEntry<V, X>,
+        name: &str,
+        dependencies: &[&str],
+    ) -> Result<(), OutOfMemory>
+        requires allowed { MayAdd (built self.old).known (built self.old).next name.now (texts_of dependencies.now) }
+        requires own_lists { IsEntryOf X.may_keep entry }
+        requires id { (entry_plan entry).id ≡ (built self.old).next }
+        ensures added { OnOk result (IsEntryAdded (entry_plan entry) (built self.old) (built self.new) name.now (texts_of dependencies.now) entry.system) }
+        ensures unchanged { OnErr result (IsSameBuilt (built self.old) (built self.new)) }
+    {
+        let ids = match ids_of(self.alloc, &self.names, dependencies) {
+            Ok(ids) => ids,
+            Err(e) => return Err(e),
+        };
+        if let Err(e) = enter(self.alloc, &mut self.names, name, SystemId(self.next)) {
+            return Err(e);
+        }
+        if let Err(e) = self.stages.insert_entry(ids.as_slice(), entry) {
+            forget(&mut self.names, name);
+            return Err(e);
+        }
+        self.next += 1;
+        Ok(())
+    }
+}
+
+impl<V: ResourceValue, S: System<V>, L: Drop> DispatcherBuilder<V, S, NoBatch, L> {
+    ghost use Rattle.shred.specs.Builders.{built};
+
+    /// An empty plan of systems, without names. It takes no memory.
+    pub fn new(alloc: Global) -> Self
+        ensures { IsNewBuilt (built result) }
+    {
+        Self::empty(alloc)
+    }
+
+    /// An empty plan of systems without names, as of `new`.
+    pub fn default(alloc: Global) -> Self
+        ensures { IsNewBuilt (built result) }
+    {
+        Self::empty(alloc)
     }
 
     /// Places the system in the plan with the next id, and enters its name unless that is empty. What it depends on stands
@@ -195,11 +270,7 @@ impl<V: ResourceValue, S: System<V>, L: Drop> DispatcherBuilder<V, S, L> {
         ensures refused { IfErr result (IsRefusal (built self.old).known (built self.old).next name.now (texts_of dependencies.now)) }
         ensures unchanged { OnErr result (IsSameBuilt (built self.old) (built self.new)) }
     {
-        may_add(&self.names, self.next, name, dependencies)?;
-        match self.accept(system, name, dependencies) {
-            Ok(id) => Ok(id),
-            Err(_) => Err(AddError::OutOfMemory),
-        }
+        self.add_system(system, name, dependencies)
     }
 
     /// `add`, on a builder that is handed on. After a refusal the builder is dropped.
@@ -216,36 +287,5 @@ impl<V: ResourceValue, S: System<V>, L: Drop> DispatcherBuilder<V, S, L> {
             Ok(_) => Ok(builder),
             Err(e) => Err(e),
         }
-    }
-
-    // Adds a system that may be added.
-    fn accept(
-        &mut self,
-        system: S,
-        name: &str,
-        dependencies: &[&str],
-    ) -> Result<SystemId, OutOfMemory>
-    where
-        V: Drop,
-        S: Drop,
-        requires { MayAdd (built self.old).known (built self.old).next name.now (texts_of dependencies.now) }
-        ensures id { IfOk result (λ id. id.0 ≡ (built self.old).next) }
-        ensures added { OnOk result (IsAddition (built self.old) (built self.new) name.now (texts_of dependencies.now) (S.reads system) (S.writes system) (S.time system) system) }
-        ensures unchanged { OnErr result (IsSameBuilt (built self.old) (built self.new)) }
-    {
-        let id = SystemId(self.next);
-        let ids = match ids_of(self.alloc, &self.names, dependencies) {
-            Ok(ids) => ids,
-            Err(e) => return Err(e),
-        };
-        if let Err(e) = enter(self.alloc, &mut self.names, name, id) {
-            return Err(e);
-        }
-        if let Err(e) = self.stages.insert(ids.as_slice(), id, system) {
-            forget(&mut self.names, name);
-            return Err(e);
-        }
-        self.next += 1;
-        Ok(id)
     }
 }

@@ -22,25 +22,27 @@ ghost use Rattle.shred_world.specs.Worlds.{local_held, world_held};
 use crate::dispatch::names::SystemNames;
 use shred_local::{DispatchError, Now, RunNow, ThreadLocal};
 use shred_stage::dispatch::printing::print;
-use shred_stage::{Fault, PlanSink, PrintError, Stage, StageFault, System};
+use shred_stage::{
+    Fault, NoBatch, Occupant, PlanSink, PrintError, RunsInOrder, Settles, Stage, StageFault, System,
+};
 use shred_world::{LocalWorld, ResourceValue, World};
 use std::thread::Threads;
 
 /// Runs the stages of a plan over a world, and then the thread-local systems.
 #[derive(Drop)]
-pub struct Dispatcher<V: ResourceValue, S: System<V>, L = Now<S>> {
-    stages: Vec<Stage<V, S>>,
-    thread_local: ThreadLocal<L>,
-    workers: usize,
+pub struct Dispatcher<V, X: Occupant<C, V>, C = NoBatch, L = Now<X>> {
+    pub(crate) stages: Vec<Stage<V, X, C>>,
+    pub(crate) thread_local: ThreadLocal<L>,
+    pub(crate) workers: usize,
 }
 
 /// The dispatcher of these stages, each of which runs on at most that many threads, and of these thread-local systems. It
 /// takes no memory.
-pub fn new_dispatcher<V: ResourceValue, S: System<V>, L>(
-    stages: Vec<Stage<V, S>>,
+pub fn new_dispatcher<V, X: Occupant<C, V>, C, L>(
+    stages: Vec<Stage<V, X, C>>,
     thread_local: ThreadLocal<L>,
     workers: usize,
-) -> Dispatcher<V, S, L>
+) -> Dispatcher<V, X, C, L>
     ensures plan { dispatcher_plan result ≡ plan_of stages.items }
     ensures states { (path : Agent) → dispatcher_states result path ≡ plan_states stages.items path }
     ensures locals { dispatcher_locals result ≡ systems_of thread_local }
@@ -54,7 +56,7 @@ pub fn new_dispatcher<V: ResourceValue, S: System<V>, L>(
 }
 
 // The greatest number of groups in a stage.
-fn widest_of<V: ResourceValue, S: System<V>>(stages: &Vec<Stage<V, S>>) -> usize
+fn widest_of<V, X: Occupant<C, V>, C>(stages: &Vec<Stage<V, X, C>>) -> usize
     ensures { result ≡ widest (plan_of stages.now.items) }
 {
     let mut most: usize = 0;
@@ -64,7 +66,7 @@ fn widest_of<V: ResourceValue, S: System<V>>(stages: &Vec<Stage<V, S>>) -> usize
     most
 }
 
-impl<V: ResourceValue, S: System<V>, L> Dispatcher<V, S, L> {
+impl<V, X: Occupant<C, V>, C, L> Dispatcher<V, X, C, L> {
     /// The greatest number of groups in a stage, 0 where there is none.
     pub fn max_threads(&self) -> usize
         ensures { result ≡ widest (dispatcher_plan self.now) }
@@ -89,7 +91,7 @@ impl<V: ResourceValue, S: System<V>, L> Dispatcher<V, S, L> {
 }
 
 // The dispatcher's error for a fault of its stage.
-fn at_stage<E>(stage: usize, fault: StageFault<E>) -> DispatchError<E>
+pub(crate) fn at_stage<E>(stage: usize, fault: StageFault<E>) -> DispatchError<E>
     ensures { Err result ≡ dispatch_answer stage (Err fault) }
 {
     match fault {
@@ -99,11 +101,11 @@ fn at_stage<E>(stage: usize, fault: StageFault<E>) -> DispatchError<E>
 }
 
 // The stages' runs, in order, up to the first that is not Done, on the caller's thread.
-fn run_stages<V: ResourceValue + Drop, S: System<V, Error = E>, E: Drop>(
-    stages: &mut [Stage<V, S>],
+fn run_stages<V: ResourceValue + Drop, X: RunsInOrder<C, V, Error = E>, C, E: Drop>(
+    stages: &mut [Stage<V, X, C>],
     world: &mut LocalWorld<V>,
 ) -> Result<(), DispatchError<E>>
-    ensures { Dispatched V.kind_of (PlanRun V.kind_of S.step) (stages_with stages.old (local_held V.kind_of world.old)) result (stages_with stages.new (local_held V.kind_of world.new)) }
+    ensures { Dispatched V.kind_of (PlanRun V.kind_of X.step) (stages_with stages.old (local_held V.kind_of world.old)) result (stages_with stages.new (local_held V.kind_of world.new)) }
 {
     for (place, stage) in stages.iter_mut().enumerate() {
         if let Err(fault) = stage.execute_seq_local(world) {
@@ -121,7 +123,7 @@ fn fork_stages<
     E: Drop + Send,
 >(
     rt: &R,
-    stages: &mut [Stage<V, S>],
+    stages: &mut [Stage<V, S, NoBatch>],
     world: &mut LocalWorld<V>,
     workers: usize,
 ) -> Result<(), DispatchError<E>>
@@ -138,11 +140,11 @@ where
 }
 
 // The stages' setups, in order, up to the first that is not Done.
-fn set_up_stages<V: ResourceValue + Drop, S: System<V, Error = E> + Drop, E: Drop>(
-    stages: &mut [Stage<V, S>],
+fn set_up_stages<V: ResourceValue + Drop, X: Settles<C, V, Error = E> + Drop, C, E: Drop>(
+    stages: &mut [Stage<V, X, C>],
     world: &mut World<V>,
 ) -> Result<(), DispatchError<E>>
-    ensures set_up { StagesSetup S.sets_up stages.old (world_held V.kind_of world.old) result stages.new (world_held V.kind_of world.new) }
+    ensures set_up { StagesSetup X.sets_up stages.old (world_held V.kind_of world.old) result stages.new (world_held V.kind_of world.new) }
     ensures plan { plan_of stages.new ≡ plan_of stages.old }
 {
     for (place, stage) in stages.iter_mut().enumerate() {
@@ -167,12 +169,12 @@ fn first<E: Drop>(
 }
 
 // The disposal of the stage at this place.
-fn dispose_of_stage<V: ResourceValue + Drop, S: System<V, Error = E> + Drop, E: Drop>(
+fn dispose_of_stage<V: ResourceValue + Drop, X: Settles<C, V, Error = E> + Drop, C, E: Drop>(
     place: usize,
-    stage: Stage<V, S>,
+    stage: Stage<V, X, C>,
     world: &mut World<V>,
 ) -> Result<(), DispatchError<E>>
-    ensures { StageDisposalAt S.disposes place stage (world_held V.kind_of world.old) result (world_held V.kind_of world.new) }
+    ensures { StageDisposalAt X.disposes place stage (world_held V.kind_of world.old) result (world_held V.kind_of world.new) }
 {
     match stage.dispose(world) {
         Ok(()) => Ok(()),
@@ -181,11 +183,11 @@ fn dispose_of_stage<V: ResourceValue + Drop, S: System<V, Error = E> + Drop, E: 
 }
 
 // The disposals of all stages, in order, with the first answer that is not Done.
-fn dispose_of_stages<V: ResourceValue + Drop, S: System<V, Error = E> + Drop, E: Drop>(
-    stages: Vec<Stage<V, S>>,
+fn dispose_of_stages<V: ResourceValue + Drop, X: Settles<C, V, Error = E> + Drop, C, E: Drop>(
+    stages: Vec<Stage<V, X, C>>,
     world: &mut World<V>,
 ) -> Result<(), DispatchError<E>>
-    ensures { StagesDisposal S.disposes stages.items (world_held V.kind_of world.old) result (world_held V.kind_of world.new) }
+    ensures { StagesDisposal X.disposes stages.items (world_held V.kind_of world.old) result (world_held V.kind_of world.new) }
 {
     let mut answer = Ok(());
     let mut place = 0;
@@ -197,7 +199,7 @@ fn dispose_of_stages<V: ResourceValue + Drop, S: System<V, Error = E> + Drop, E:
 }
 
 // A dispatch's answer, as the outcome of one run.
-fn as_run<E>(answer: Result<(), DispatchError<E>>) -> Result<(), Fault<DispatchError<E>>>
+pub(crate) fn as_run<E>(answer: Result<(), DispatchError<E>>) -> Result<(), Fault<DispatchError<E>>>
     ensures { IsRefusedBy answer result }
 {
     match answer {
@@ -206,11 +208,16 @@ fn as_run<E>(answer: Result<(), DispatchError<E>>) -> Result<(), Fault<DispatchE
     }
 }
 
-impl<V: ResourceValue + Drop, S: System<V, Error = E>, L, E: Drop> Dispatcher<V, S, L> {
+impl<V: ResourceValue + Drop, X: RunsInOrder<C, V, Error = E>, C, L, E: Drop> Dispatcher<
+    V,
+    X,
+    C,
+    L,
+> {
     /// Runs the stages, one after the other, up to the first that is not Done, on the caller's thread. A stage whose
     /// memory is refused is told as `StageMemory`; it has not begun, and those before it are done.
     pub fn dispatch_seq(&mut self, world: &mut World<V>) -> Result<(), DispatchError<E>>
-        ensures dispatched { Dispatched V.kind_of (PlanRun V.kind_of S.step) (dispatcher_over V.kind_of self.old world.old) result (dispatcher_over V.kind_of self.new world.new) }
+        ensures dispatched { Dispatched V.kind_of (PlanRun V.kind_of X.step) (dispatcher_over V.kind_of self.old world.old) result (dispatcher_over V.kind_of self.new world.new) }
         ensures locals { dispatcher_locals self.new ≡ dispatcher_locals self.old }
         ensures workers { dispatcher_workers self.new ≡ dispatcher_workers self.old }
     {
@@ -218,7 +225,7 @@ impl<V: ResourceValue + Drop, S: System<V, Error = E>, L, E: Drop> Dispatcher<V,
     }
 }
 
-impl<V: ResourceValue, S: System<V>, L: RunNow<V> + Drop> Dispatcher<V, S, L> {
+impl<V: ResourceValue, X: Occupant<C, V>, C, L: RunNow<V> + Drop> Dispatcher<V, X, C, L> {
     /// Runs the thread-local systems over the world, one after the other, up to the first that is not Done, on the caller's
     /// thread.
     pub fn dispatch_thread_local<R: Threads + Sync>(
@@ -238,14 +245,15 @@ impl<V: ResourceValue, S: System<V>, L: RunNow<V> + Drop> Dispatcher<V, S, L> {
 
 impl<
     V: ResourceValue + Drop,
-    S: System<V, Error = E> + Drop,
+    X: Settles<C, V, Error = E> + Drop,
+    C,
     L: RunNow<V, Error = E> + Drop,
     E: Drop,
-> Dispatcher<V, S, L> {
-    /// Sets up the staged systems, in the plan's order, and then the thread-local ones, up to the first that is not Done,
+> Dispatcher<V, X, C, L> {
+    /// Sets up what stands in the plan, in its order, and then the thread-local ones, up to the first that is not Done,
     /// which the answer tells. What was done before it stays.
     pub fn setup(&mut self, world: &mut World<V>) -> Result<(), DispatchError<E>>
-        ensures { IsSetUp S.sets_up L.sets_up self.old (world_held V.kind_of world.old) result self.new (world_held V.kind_of world.new) }
+        ensures { IsSetUp X.sets_up L.sets_up self.old (world_held V.kind_of world.old) result self.new (world_held V.kind_of world.new) }
     {
         match set_up_stages(self.stages.as_mut_slice(), world) {
             Ok(()) => self.thread_local.setup(world),
@@ -253,22 +261,30 @@ impl<
         }
     }
 
-    /// Disposes of the staged systems, in the plan's order, and then of the thread-local ones, of all of them. The answer
+    /// Disposes of what stands in the plan, in its order, and then of the thread-local ones, of all of them. The answer
     /// tells the first that is not Done.
     pub fn dispose(self, world: &mut World<V>) -> Result<(), DispatchError<E>>
-        ensures { IsDisposedOf S.disposes L.disposes self (world_held V.kind_of world.old) result (world_held V.kind_of world.new) }
+        ensures { IsDisposedOf X.disposes L.disposes self (world_held V.kind_of world.old) result (world_held V.kind_of world.new) }
     {
         let staged = dispose_of_stages(self.stages, world);
         first(staged, self.thread_local.dispose(world))
     }
+}
 
+impl<
+    V: ResourceValue + Drop,
+    X: RunsInOrder<C, V, Error = E>,
+    C,
+    L: RunNow<V, Error = E> + Drop,
+    E: Drop,
+> Dispatcher<V, X, C, L> {
     // The stages' runs on the caller's thread, and then, where these are Done, those of the thread-local systems.
     fn dispatch_here<R: Threads + Sync>(
         &mut self,
         rt: &R,
         world: &mut LocalWorld<V>,
     ) -> Result<(), DispatchError<E>>
-        ensures dispatched { FullyDispatched V.kind_of (PlanRun V.kind_of S.step) L.runs (whole_with self.old (local_held V.kind_of world.old)) result (whole_with self.new (local_held V.kind_of world.new)) }
+        ensures dispatched { FullyDispatched V.kind_of (PlanRun V.kind_of X.step) L.runs (whole_with self.old (local_held V.kind_of world.old)) result (whole_with self.new (local_held V.kind_of world.new)) }
         ensures kinds { KeepsKinds V.kind_of (local_held V.kind_of world.old) (local_held V.kind_of world.new) }
     {
         match run_stages(self.stages.as_mut_slice(), world) {
@@ -280,17 +296,18 @@ impl<
 
 impl<
     V: ResourceValue + Drop,
-    S: System<V, Error = E> + Drop,
+    X: RunsInOrder<C, V, Error = E> + Settles<C, V, Error = E> + Drop,
+    C,
     L: RunNow<V, Error = E> + Drop,
     E: Drop,
-> RunNow<V> for Dispatcher<V, S, L> {
+> RunNow<V> for Dispatcher<V, X, C, L> {
     type Error = DispatchError<E>;
 
-    ghost runs = { λ old before outcome new after. RunsNow V.kind_of (PlanRun V.kind_of S.step) L.runs (whole_with old before) outcome (whole_with new after) };
+    ghost runs = { λ old before outcome new after. RunsNow V.kind_of (PlanRun V.kind_of X.step) L.runs (whole_with old before) outcome (whole_with new after) };
 
-    ghost sets_up = { λ old before outcome new after. SetsUpNow S.sets_up L.sets_up old before outcome new after };
+    ghost sets_up = { λ old before outcome new after. SetsUpNow X.sets_up L.sets_up old before outcome new after };
 
-    ghost disposes = { λ old before outcome after. DisposesNow S.disposes L.disposes old before outcome after };
+    ghost disposes = { λ old before outcome after. DisposesNow X.disposes L.disposes old before outcome after };
 
     fn run_now<R: Threads + Sync>(
         &mut self,
@@ -314,7 +331,7 @@ impl<
     S: System<V, Error = E> + Send,
     L,
     E: Drop + Send,
-> Dispatcher<V, S, L>
+> Dispatcher<V, S, NoBatch, L>
 where
     S::Accessor: Send,
 {
@@ -339,7 +356,7 @@ impl<
     S: System<V, Error = E> + Send,
     L: RunNow<V, Error = E> + Drop,
     E: Drop + Send,
-> Dispatcher<V, S, L>
+> Dispatcher<V, S, NoBatch, L>
 where
     S::Accessor: Send,
 {

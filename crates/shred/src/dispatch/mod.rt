@@ -1,5 +1,6 @@
 //! Builders of plans, and dispatchers that run them.
 
+pub mod batch;
 pub mod builder;
 pub mod dispatcher;
 pub mod names;

@@ -6,5 +6,7 @@ pub mod entry;
 pub mod fork;
 pub mod hands;
 pub mod run;
+pub mod settles;
 pub mod setup;
 pub mod sorted;
+pub mod turns;

@@ -2,26 +2,26 @@
 ghost use Rattle.std.specs.Prelude.{◌≡◌, All, map};
 ghost use Rattle.shred_world.specs.Worlds.{world_held};
 ghost use Rattle.shred_group.specs.Hands.{IsSameButEntries, KeepsRoom};
-ghost use Rattle.shred_group.specs.OwnLists.{IsOwnEntry, IsOwnGroup};
+ghost use Rattle.shred_group.specs.OwnLists.{IsEntryOf, IsGroupOf};
 ghost use Rattle.shred_group.specs.PlanOf.{entry_plan, group_plan};
 ghost use Rattle.shred_group.specs.Setups.{AreSetUp, EntriesSetup, EntryDisposal, EntrySetup, GroupDisposal, GroupSetup, GroupsDisposal};
 
 use crate::dispatch::entry::{Group, SystemEntry};
 use crate::dispatch::run::{StageFault, first};
-use crate::system::System;
+use crate::dispatch::settles::Settles;
 use shred_world::{ResourceValue, World};
 
-// Sets the entry's system up.
-fn set_up<V: ResourceValue, S: System<V>>(
-    entry: &mut SystemEntry<V, S>,
+// Sets up what stands in the entry.
+fn set_up<V: ResourceValue, X: Settles<C, V>, C>(
+    entry: &mut SystemEntry<V, X>,
     world: &mut World<V>,
-) -> Result<(), StageFault<S::Error>>
-    requires own_lists { IsOwnEntry S.reads S.writes entry.old }
-    ensures set_up { EntrySetup S.sets_up entry.old (world_held V.kind_of world.old) result entry.new (world_held V.kind_of world.new) }
+) -> Result<(), StageFault<X::Error>>
+    requires own_lists { IsEntryOf X.may_keep entry.old }
+    ensures set_up { EntrySetup X.sets_up entry.old (world_held V.kind_of world.old) result entry.new (world_held V.kind_of world.new) }
     ensures plan { entry_plan entry.new ≡ entry_plan entry.old }
-    ensures own_lists { IsOwnEntry S.reads S.writes entry.new }
+    ensures own_lists { IsEntryOf X.may_keep entry.new }
 {
-    match entry.system.setup(world) {
+    match entry.system.set_up(world) {
         Ok(()) => Ok(()),
         Err(fault) => Err(StageFault::System {
             id: entry.id,
@@ -30,15 +30,15 @@ fn set_up<V: ResourceValue, S: System<V>>(
     }
 }
 
-// Sets the entries' systems up, in order, up to the first that is not Done.
-fn set_up_each<V: ResourceValue, S: System<V>>(
-    entries: &mut [SystemEntry<V, S>],
+// Sets up what stands in the entries, in order, up to the first that is not Done.
+fn set_up_each<V: ResourceValue, X: Settles<C, V>, C>(
+    entries: &mut [SystemEntry<V, X>],
     world: &mut World<V>,
-) -> Result<(), StageFault<S::Error>>
-    requires own_lists { All (IsOwnEntry S.reads S.writes) entries.old }
-    ensures set_up { EntriesSetup S.sets_up entries.old (world_held V.kind_of world.old) result entries.new (world_held V.kind_of world.new) }
+) -> Result<(), StageFault<X::Error>>
+    requires own_lists { All (IsEntryOf X.may_keep) entries.old }
+    ensures set_up { EntriesSetup X.sets_up entries.old (world_held V.kind_of world.old) result entries.new (world_held V.kind_of world.new) }
     ensures plan { map entry_plan entries.new ≡ map entry_plan entries.old }
-    ensures own_lists { All (IsOwnEntry S.reads S.writes) entries.new }
+    ensures own_lists { All (IsEntryOf X.may_keep) entries.new }
 {
     for entry in entries.iter_mut() {
         if let Err(fault) = set_up(entry, world) {
@@ -48,28 +48,28 @@ fn set_up_each<V: ResourceValue, S: System<V>>(
     Ok(())
 }
 
-// Sets the group's systems up, in order, up to the first that is not Done.
-fn set_up_group<V: ResourceValue, S: System<V>>(
-    group: &mut Group<V, S>,
+// Sets up what stands in the group, in order, up to the first that is not Done.
+fn set_up_group<V: ResourceValue, X: Settles<C, V>, C>(
+    group: &mut Group<V, X>,
     world: &mut World<V>,
-) -> Result<(), StageFault<S::Error>>
-    requires own_lists { IsOwnGroup S.reads S.writes group.old }
-    ensures set_up { GroupSetup S.sets_up group.old (world_held V.kind_of world.old) result group.new (world_held V.kind_of world.new) }
+) -> Result<(), StageFault<X::Error>>
+    requires own_lists { IsGroupOf X.may_keep group.old }
+    ensures set_up { GroupSetup X.sets_up group.old (world_held V.kind_of world.old) result group.new (world_held V.kind_of world.new) }
     ensures plan { group_plan group.new ≡ group_plan group.old }
-    ensures own_lists { IsOwnGroup S.reads S.writes group.new }
+    ensures own_lists { IsGroupOf X.may_keep group.new }
     ensures same { IsSameButEntries group.old group.new }
 {
     set_up_each(group.entries.as_mut_slice(), world)
 }
 
-/// Sets the groups' systems up, in order, up to the first that is not Done.
-pub fn set_up_groups<V: ResourceValue, S: System<V>>(
-    groups: &mut [Group<V, S>],
+/// Sets up what stands in the groups, in order, up to the first that is not Done.
+pub fn set_up_groups<V: ResourceValue, X: Settles<C, V>, C>(
+    groups: &mut [Group<V, X>],
     world: &mut World<V>,
-) -> Result<(), StageFault<S::Error>>
-    requires own_lists { All (IsOwnGroup S.reads S.writes) groups.old }
+) -> Result<(), StageFault<X::Error>>
+    requires own_lists { All (IsGroupOf X.may_keep) groups.old }
     requires room { All KeepsRoom groups.old }
-    ensures { AreSetUp S.sets_up S.reads S.writes groups.old (world_held V.kind_of world.old) result groups.new (world_held V.kind_of world.new) }
+    ensures { AreSetUp X.sets_up X.may_keep groups.old (world_held V.kind_of world.old) result groups.new (world_held V.kind_of world.new) }
 {
     for group in groups.iter_mut() {
         if let Err(fault) = set_up_group(group, world) {
@@ -79,28 +79,30 @@ pub fn set_up_groups<V: ResourceValue, S: System<V>>(
     Ok(())
 }
 
-// Disposes of the entry's system.
-fn dispose_of<V: ResourceValue, S: System<V>>(
-    entry: SystemEntry<V, S>,
+// Disposes of what stands in the entry.
+fn dispose_of<V: ResourceValue, X: Settles<C, V>, C>(
+    entry: SystemEntry<V, X>,
     world: &mut World<V>,
-) -> Result<(), StageFault<S::Error>>
+) -> Result<(), StageFault<X::Error>>
 where
     V: Drop,
-    ensures { EntryDisposal S.disposes entry (world_held V.kind_of world.old) result (world_held V.kind_of world.new) }
+    requires { IsEntryOf X.may_keep entry }
+    ensures { EntryDisposal X.disposes entry (world_held V.kind_of world.old) result (world_held V.kind_of world.new) }
 {
     let id = entry.id;
-    match entry.system.dispose(world) {
+    match entry.system.dispose_of(world) {
         Ok(()) => Ok(()),
         Err(fault) => Err(StageFault::System { id, fault }),
     }
 }
 
-// Disposes of all the group's systems, in order, and answers the first answer that is not Done.
-fn dispose_of_group<V: ResourceValue + Drop, S: System<V, Error = E> + Drop, E: Drop>(
-    group: Group<V, S>,
+// Disposes of all that stands in the group, in order, and answers the first answer that is not Done.
+fn dispose_of_group<V: ResourceValue + Drop, X: Settles<C, V, Error = E> + Drop, C, E: Drop>(
+    group: Group<V, X>,
     world: &mut World<V>,
 ) -> Result<(), StageFault<E>>
-    ensures { GroupDisposal S.disposes group (world_held V.kind_of world.old) result (world_held V.kind_of world.new) }
+    requires { IsGroupOf X.may_keep group }
+    ensures { GroupDisposal X.disposes group (world_held V.kind_of world.old) result (world_held V.kind_of world.new) }
 {
     let mut answer = Ok(());
     for entry in group.entries {
@@ -109,12 +111,13 @@ fn dispose_of_group<V: ResourceValue + Drop, S: System<V, Error = E> + Drop, E: 
     answer
 }
 
-/// Disposes of all the groups' systems, in order, and answers the first answer that is not Done.
-pub fn dispose_of_groups<V: ResourceValue + Drop, S: System<V, Error = E> + Drop, E: Drop>(
-    groups: Vec<Group<V, S>>,
+/// Disposes of all that stands in the groups, in order, and answers the first answer that is not Done.
+pub fn dispose_of_groups<V: ResourceValue + Drop, X: Settles<C, V, Error = E> + Drop, C, E: Drop>(
+    groups: Vec<Group<V, X>>,
     world: &mut World<V>,
 ) -> Result<(), StageFault<E>>
-    ensures { GroupsDisposal S.disposes groups.items (world_held V.kind_of world.old) result (world_held V.kind_of world.new) }
+    requires { All (IsGroupOf X.may_keep) groups.items }
+    ensures { GroupsDisposal X.disposes groups.items (world_held V.kind_of world.old) result (world_held V.kind_of world.new) }
 {
     let mut answer = Ok(());
     for group in groups {

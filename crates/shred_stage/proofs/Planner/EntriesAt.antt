@@ -30,21 +30,21 @@ own_mapped f entry [] = refl
 own_mapped f entry (n ∷ path) = refl
 
 -- the plan has what is planned of each entry, at its place
-entry_at-plan_of : {V S E X : Type 0} {gv gs gx : _} (stages : List (Stage V S E X gv gs gx)) (path : Agent) → entry_at (plan_of stages) path ≡ option_map entry_plan (plan_entries stages path)
+entry_at-plan_of : {V S B N A : Type 0} {g : _} (stages : List (Stage V S B N A g)) (path : Agent) → entry_at (plan_of stages) path ≡ option_map entry_plan (plan_entries stages path)
 entry_at-plan_of =
     listed_states-map stage_entries stage_plan _ entry_plan (λ stage.
     listed_states-map group_entries group_plan _ entry_plan (λ group.
     listed_states-map own_state entry_plan own_state entry_plan (own_mapped entry_plan) group.entries.items) stage.groups.items)
 
 -- the states have the system of each entry, at its place
-plan_states-of : {V S E X : Type 0} {gv gs gx : _} (stages : List (Stage V S E X gv gs gx)) (path : Agent) → plan_states stages path ≡ option_map (λ e. e.system) (plan_entries stages path)
+plan_states-of : {V S B N A : Type 0} {g : _} (stages : List (Stage V S B N A g)) (path : Agent) → plan_states stages path ≡ option_map (λ e. e.system) (plan_entries stages path)
 plan_states-of =
     listed_states-of stage_entries stage_states (λ e. e.system) (λ stage.
     listed_states-of group_entries group_states (λ e. e.system) (λ group.
     listed_states-of own_state entry_states (λ e. e.system) (own_mapped (λ e. e.system)) group.entries.items) stage.groups.items)
 
 -- where an entry is new, what is planned of it and its system are
-pub added_with : {V S E X : Type 0} {gv gs gx : _} (old new : List (Stage V S E X gv gs gx)) (entry : SystemEntry V S) (system : S) → entry.system ≡ system → IsNew (plan_entries old) (plan_entries new) entry
+pub added_with : {V S B N A : Type 0} {g : _} (old new : List (Stage V S B N A g)) (entry : SystemEntry V S) (system : S) → entry.system ≡ system → IsNew (plan_entries old) (plan_entries new) entry
     → IsAdded (plan_of old) (plan_of new) (plan_states old) (plan_states new) (entry_plan entry) system
 added_with old new entry system same is = record {
   place = is.0;
@@ -54,5 +54,5 @@ added_with old new entry system same is = record {
 }
 
 -- where all entries stay, all systems stay
-pub states_stay : {V S E X : Type 0} {gv gs gx : _} (old new : List (Stage V S E X gv gs gx)) → AreSame (plan_entries old) (plan_entries new) → AreSame (plan_states old) (plan_states new)
+pub states_stay : {V S B N A : Type 0} {g : _} (old new : List (Stage V S B N A g)) → AreSame (plan_entries old) (plan_entries new) → AreSame (plan_states old) (plan_states new)
 states_stay old new same path = plan_states-of new path ∙ ap (option_map (λ e. e.system)) (same path) ∙ sym (plan_states-of old path)

@@ -7,7 +7,7 @@ use Rattle.shred_table.specs.declared.id.ResourceId.{ResourceId}
 use Rattle.shred_table.specs.Slots.{among}
 use Rattle.shred_table.proofs.Tables.Ids.{among-true, among-contains, among-false}
 use Rattle.shred_group.specs.Kept.{AreOwnLists}
-use Rattle.shred_group.specs.OwnLists.{IsOwnEntry, IsOwnGroup}
+use Rattle.shred_group.specs.OwnLists.{IsEntryOf, IsGroupOf}
 use Rattle.shred_group.specs.declared.dispatch.entry.SystemEntry.{SystemEntry}
 use Rattle.shred_group.specs.declared.dispatch.entry.Group.{Group}
 
@@ -26,11 +26,11 @@ own_lists-of_same reads writes kept_reads kept_writes same_reads same_writes = r
 }
 
 -- a group of one entry
-pub own_alone : {V S : Type 0} (reads writes : S → List ResourceId) (group : Group V S) (entry : SystemEntry V S) → group.entries.items ≡ entry ∷ [] → IsOwnEntry reads writes entry → IsOwnGroup reads writes group
-own_alone {V} {S} reads writes group entry e own = subst (λ (items : List (SystemEntry V S)). All (IsOwnEntry reads writes) items) (sym e) (All-cons (IsOwnEntry reads writes) entry [] own (All-nil (IsOwnEntry reads writes)))
+pub own_alone : {V S : Type 0} (keeps : S → List ResourceId → List ResourceId → Type 0) (group : Group V S) (entry : SystemEntry V S) → group.entries.items ≡ entry ∷ [] → IsEntryOf keeps entry → IsGroupOf keeps group
+own_alone {V} {S} keeps group entry e own = subst (λ (items : List (SystemEntry V S)). All (IsEntryOf keeps) items) (sym e) (All-cons (IsEntryOf keeps) entry [] own (All-nil (IsEntryOf keeps)))
 
 -- a group with the entry at its end where the push was done, and else as before
-pub own_after_push : {V S E : Type 0} (reads writes : S → List ResourceId) (result : Result (Unit {0}) E) (old new : Group V S) (entry : SystemEntry V S) → OnOk result (new.entries.items ≡ old.entries.items ++ entry ∷ [])
-    → OnErr result (new.entries.items ≡ old.entries.items) → IsOwnGroup reads writes old → IsOwnEntry reads writes entry → IsOwnGroup reads writes new
-own_after_push {V} {S} reads writes (Ok done) old new entry added same before own = subst (λ (items : List (SystemEntry V S)). All (IsOwnEntry reads writes) items) (sym added) (All-push (IsOwnEntry reads writes) old.entries.items entry before own)
-own_after_push {V} {S} reads writes (Err e) old new entry added same before own = subst (λ (items : List (SystemEntry V S)). All (IsOwnEntry reads writes) items) (sym same) before
+pub own_after_push : {V S E : Type 0} (keeps : S → List ResourceId → List ResourceId → Type 0) (result : Result (Unit {0}) E) (old new : Group V S) (entry : SystemEntry V S) → OnOk result (new.entries.items ≡ old.entries.items ++ entry ∷ [])
+    → OnErr result (new.entries.items ≡ old.entries.items) → IsGroupOf keeps old → IsEntryOf keeps entry → IsGroupOf keeps new
+own_after_push {V} {S} keeps (Ok done) old new entry added same before own = subst (λ (items : List (SystemEntry V S)). All (IsEntryOf keeps) items) (sym added) (All-push (IsEntryOf keeps) old.entries.items entry before own)
+own_after_push {V} {S} keeps (Err e) old new entry added same before own = subst (λ (items : List (SystemEntry V S)). All (IsEntryOf keeps) items) (sym same) before

@@ -19,7 +19,7 @@ use Rattle.shred_stage.specs.declared.dispatch.stage.Spot.TheVariants.{NewGroup,
 use Rattle.shred_stage.specs.declared.dispatch.stage.Stage.{Stage}
 
 -- the stage that is read at i
-pub stage_read : {V S E X : Type 0} {gv gs gx : _} (stages : List (Stage V S E X gv gs gx)) (i : ℕ) (x : Stage V S E X gv gs gx) → i < length stages → x ≡ get_or stages i x → get_or (plan_of stages) i [] ≡ stage_plan x
+pub stage_read : {V S B N A : Type 0} {g : _} (stages : List (Stage V S B N A g)) (i : ℕ) (x : Stage V S B N A g) → i < length stages → x ≡ get_or stages i x → get_or (plan_of stages) i [] ≡ stage_plan x
 stage_read stages i x lt is = get_or-map stage_plan stages i x [] lt ∙ ap stage_plan (sym is)
 
 ids_in_group : {I : Type 0} (group : model.Group I) → 0 < length group → 0 < length (group_ids group)
@@ -32,18 +32,18 @@ ids_in_stage (group ∷ groups) some small =
     omega (arith, length-append (group_ids (group_plan group)) (stage_ids (groups_plan groups)), here)
 
 -- each stage has an entry, so there are at most as many stages as entries
-pub few_stages : {V S E X : Type 0} {gv gs gx : _} (stages : List (Stage V S E X gv gs gx)) → length stages ≤ length (plan_ids (plan_of stages))
+pub few_stages : {V S B N A : Type 0} {g : _} (stages : List (Stage V S B N A g)) → length stages ≤ length (plan_ids (plan_of stages))
 few_stages [] = omega arith
 few_stages (stage ∷ stages) =
     let here : 0 < length (stage_ids (stage_plan stage)) = ids_in_stage stage.groups.items stage.some_group stage.small_groups in
     omega (arith, length-append (stage_ids (stage_plan stage)) (plan_ids (plan_of stages)), here, few_stages stages)
 
-pub plan_when_done : {V S E X F : Type 0} {gv gs gx : _} (result : Result (Unit {0}) F) (stages : List (Stage V S E X gv gs gx)) (k : ℕ) (new : Stage V S E X gv gs gx) (after : model.Stage ResourceId) → OnOk result (stage_plan new ≡ after)
+pub plan_when_done : {V S B F N A : Type 0} {g : _} (result : Result (Unit {0}) F) (stages : List (Stage V S B N A g)) (k : ℕ) (new : Stage V S B N A g) (after : model.Stage ResourceId) → OnOk result (stage_plan new ≡ after)
     → OnOk result (plan_of (set stages k new) ≡ set (plan_of stages) k after)
 plan_when_done (Ok done) stages k new after is = rw (map-set stage_plan stages k new, is) refl
 plan_when_done (Err e) stages k new after is = tt
 
-pub plan_when_refused : {V S E X F : Type 0} {gv gs gx : _} (result : Result (Unit {0}) F) (stages : List (Stage V S E X gv gs gx)) (k : ℕ) (new : Stage V S E X gv gs gx) → OnErr result (stage_plan new ≡ get_or (plan_of stages) k []) → OnErr result (plan_of (set stages k new) ≡ plan_of stages)
+pub plan_when_refused : {V S B F N A : Type 0} {g : _} (result : Result (Unit {0}) F) (stages : List (Stage V S B N A g)) (k : ℕ) (new : Stage V S B N A g) → OnErr result (stage_plan new ≡ get_or (plan_of stages) k []) → OnErr result (plan_of (set stages k new) ≡ plan_of stages)
 plan_when_refused (Ok done) stages k new is = tt
 plan_when_refused (Err e) stages k new is = rw (map-set stage_plan stages k new, is) (set-get_or (plan_of stages) k [])
 

@@ -11,7 +11,7 @@ use Rattle.shred_model.specs.Beside.{AreApart}
 use Rattle.shred_model.specs.Plan as model
 use Rattle.shred_model.specs.Plan.{group_access}
 use Rattle.shred_group.specs.Hands.{KeepsRoom}
-use Rattle.shred_group.specs.OwnLists.{IsOwnGroup}
+use Rattle.shred_group.specs.OwnLists.{IsGroupOf}
 use Rattle.shred_group.specs.PlanOf.{access_of, entry_plan, group_plan, groups_plan, HasEntryIds}
 use Rattle.shred_stage.specs.Search.{OthersDoNotConflict}
 use Rattle.shred_stage.specs.Soundness.{IsSmallGroup}
@@ -20,15 +20,15 @@ use Rattle.shred_group.specs.declared.dispatch.entry.Group.{Group}
 use Rattle.shred_stage.proofs.Planner.Apart.{AreApart-push, AreApart-set}
 
 -- what a stage keeps of its groups
-abbrev pub IsKeptBy : {V S : Type 0} → (reads writes : S → List ResourceId) → List (Group V S) → Type 0
-IsKeptBy reads writes groups = record { some_group : 0 < length groups; small_groups : All IsSmallGroup (groups_plan groups); apart : AreApart group_access (groups_plan groups); keep_ids : All HasEntryIds groups; keep_room : All KeepsRoom groups; own_lists : All (IsOwnGroup reads writes) groups }
+abbrev pub IsKeptBy : {V S : Type 0} → (keeps : S → List ResourceId → List ResourceId → Type 0) → List (Group V S) → Type 0
+IsKeptBy keeps groups = record { some_group : 0 < length groups; small_groups : All IsSmallGroup (groups_plan groups); apart : AreApart group_access (groups_plan groups); keep_ids : All HasEntryIds groups; keep_room : All KeepsRoom groups; own_lists : All (IsGroupOf keeps) groups }
 
 single_is_small : {I : Type 0} (entry : model.PlanEntry I) (group : model.Group I) → group ≡ entry ∷ [] → IsSmallGroup group
 single_is_small entry group e = rw e (omega arith, omega arith)
 
-pub kept_after_group : {V S : Type 0} (reads writes : S → List ResourceId) (groups : List (Group V S)) (new : Group V S) (entry : SystemEntry V S) → IsKeptBy reads writes groups → group_plan new ≡ entry_plan entry ∷ [] → HasEntryIds new → KeepsRoom new → IsOwnGroup reads writes new
-    → All (λ group. Conflicts (group_access group) (access_of entry) → ⊥) (groups_plan groups) → IsKeptBy reads writes (groups ++ new ∷ [])
-kept_after_group {S} reads writes groups new entry kept single ids room own free =
+pub kept_after_group : {V S : Type 0} (keeps : S → List ResourceId → List ResourceId → Type 0) (groups : List (Group V S)) (new : Group V S) (entry : SystemEntry V S) → IsKeptBy keeps groups → group_plan new ≡ entry_plan entry ∷ [] → HasEntryIds new → KeepsRoom new → IsGroupOf keeps new
+    → All (λ group. Conflicts (group_access group) (access_of entry) → ⊥) (groups_plan groups) → IsKeptBy keeps (groups ++ new ∷ [])
+kept_after_group {S} keeps groups new entry kept single ids room own free =
     let plan : groups_plan (groups ++ new ∷ []) ≡ groups_plan groups ++ group_plan new ∷ [] = map_push group_plan groups new in
     record {
       some_group = omega (arith, length_push groups new);
@@ -36,18 +36,18 @@ kept_after_group {S} reads writes groups new entry kept single ids room own free
       apart = rw plan (rw single (AreApart-push (groups_plan groups) (entry_plan entry) kept.apart free));
       keep_ids = All-push HasEntryIds groups new kept.keep_ids ids;
       keep_room = All-push KeepsRoom groups new kept.keep_room room;
-      own_lists = All-push (IsOwnGroup reads writes) groups new kept.own_lists own;
+      own_lists = All-push (IsGroupOf keeps) groups new kept.own_lists own;
     }
 
-pub kept_alone : {V S : Type 0} (reads writes : S → List ResourceId) (group : Group V S) (entry : SystemEntry V S) (groups : List (Group V S)) → groups ≡ group ∷ [] → group_plan group ≡ entry_plan entry ∷ [] → HasEntryIds group → KeepsRoom group
-    → IsOwnGroup reads writes group → IsKeptBy reads writes groups
-kept_alone reads writes group entry groups e single ids room own = rw e (record {
+pub kept_alone : {V S : Type 0} (keeps : S → List ResourceId → List ResourceId → Type 0) (group : Group V S) (entry : SystemEntry V S) (groups : List (Group V S)) → groups ≡ group ∷ [] → group_plan group ≡ entry_plan entry ∷ [] → HasEntryIds group → KeepsRoom group
+    → IsGroupOf keeps group → IsKeptBy keeps groups
+kept_alone keeps group entry groups e single ids room own = rw e (record {
   some_group = omega arith;
   small_groups = All-cons IsSmallGroup (group_plan group) [] (single_is_small (entry_plan entry) (group_plan group) single) (All-nil IsSmallGroup);
   apart = λ i j d lt within. absurd (omega (arith, lt, within));
   keep_ids = All-cons HasEntryIds group [] ids (All-nil HasEntryIds);
   keep_room = All-cons KeepsRoom group [] room (All-nil KeepsRoom);
-  own_lists = All-cons (IsOwnGroup reads writes) group [] own (All-nil (IsOwnGroup reads writes));
+  own_lists = All-cons (IsGroupOf keeps) group [] own (All-nil (IsGroupOf keeps));
 })
 
 pub plan_after_group : {V S : Type 0} (groups now : List (Group V S)) (new : Group V S) (entry : model.PlanEntry ResourceId) → now ≡ groups ++ new ∷ [] → group_plan new ≡ entry ∷ [] → groups_plan now ≡ groups_plan groups ++ (entry ∷ []) ∷ []
@@ -79,17 +79,17 @@ apart_after result stage g entry after pushed within apart free =
     (λ e. rw e (rw set-get_or apart))
     (pushed_cases result (get_or stage g []) after entry pushed)
 
-pub kept_after_entry : {V S E : Type 0} (reads writes : S → List ResourceId) (result : Result (Unit {0}) E) (groups : List (Group V S)) (g : ℕ) (new : Group V S) (entry : SystemEntry V S) → IsKeptBy reads writes groups → g < length (groups_plan groups)
-    → length (get_or (groups_plan groups) g []) < 4 → OthersDoNotConflict (groups_plan groups) g (access_of entry) → IsPushed result (get_or (groups_plan groups) g []) (entry_plan entry) (group_plan new) → HasEntryIds new → KeepsRoom new → IsOwnGroup reads writes new
-    → IsKeptBy reads writes (set groups g new)
-kept_after_entry reads writes result groups g new entry kept within few free pushed ids room own = record {
+pub kept_after_entry : {V S E : Type 0} (keeps : S → List ResourceId → List ResourceId → Type 0) (result : Result (Unit {0}) E) (groups : List (Group V S)) (g : ℕ) (new : Group V S) (entry : SystemEntry V S) → IsKeptBy keeps groups → g < length (groups_plan groups)
+    → length (get_or (groups_plan groups) g []) < 4 → OthersDoNotConflict (groups_plan groups) g (access_of entry) → IsPushed result (get_or (groups_plan groups) g []) (entry_plan entry) (group_plan new) → HasEntryIds new → KeepsRoom new → IsGroupOf keeps new
+    → IsKeptBy keeps (set groups g new)
+kept_after_entry keeps result groups g new entry kept within few free pushed ids room own = record {
   some_group = omega (arith, length-set groups g new, kept.some_group);
   small_groups = rw (plan_after groups g new) (All-set IsSmallGroup (groups_plan groups) g (group_plan new)
       (small_after result (get_or (groups_plan groups) g []) (group_plan new) (entry_plan entry) pushed (kept.small_groups g [] within) few) kept.small_groups);
   apart = rw (plan_after groups g new) (apart_after result (groups_plan groups) g (entry_plan entry) (group_plan new) pushed within kept.apart free);
   keep_ids = All-set HasEntryIds groups g new ids kept.keep_ids;
   keep_room = All-set KeepsRoom groups g new room kept.keep_room;
-  own_lists = All-set (IsOwnGroup reads writes) groups g new own kept.own_lists;
+  own_lists = All-set (IsGroupOf keeps) groups g new own kept.own_lists;
 }
 
 pub plan_when_pushed : {V S E : Type 0} (result : Result (Unit {0}) E) (groups : List (Group V S)) (g : ℕ) (new : Group V S) (entry : model.PlanEntry ResourceId) → IsPushed result (get_or (groups_plan groups) g []) entry (group_plan new)

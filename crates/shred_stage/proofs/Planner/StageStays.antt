@@ -5,7 +5,7 @@ use Rattle.std.proofs.lemmas.List.{length-map}
 use Rattle.shred_model.specs.Plan as model
 use Rattle.shred_table.specs.declared.id.ResourceId.{ResourceId}
 use Rattle.shred_group.specs.Hands.{KeepsRoom}
-use Rattle.shred_group.specs.OwnLists.{IsOwnGroup}
+use Rattle.shred_group.specs.OwnLists.{IsGroupOf}
 use Rattle.shred_group.specs.PlanOf.{group_plan, group_numbers, groups_plan, HasEntryIds}
 use Rattle.shred_model.specs.Beside.{AreApart}
 use Rattle.shred_stage.specs.Soundness.{IsSmallGroup}
@@ -24,9 +24,9 @@ ids_stay (x ∷ new) (z ∷ old) plan ids keep =
       at first rest zero d below = first
       at first rest (suc k) d below = rest k d (omega arith)
 
-pub stays : {V S : Type 0} (reads writes : S → List ResourceId) (new old : List (Group V S)) → groups_plan new ≡ groups_plan old → map group_numbers new ≡ map group_numbers old → All KeepsRoom new → All (IsOwnGroup reads writes) new
-    → IsKeptBy reads writes old → IsKeptBy reads writes new
-stays {S} reads writes new old plan ids room own kept =
+pub stays : {V S : Type 0} (keeps : S → List ResourceId → List ResourceId → Type 0) (new old : List (Group V S)) → groups_plan new ≡ groups_plan old → map group_numbers new ≡ map group_numbers old → All KeepsRoom new → All (IsGroupOf keeps) new
+    → IsKeptBy keeps old → IsKeptBy keeps new
+stays {S} keeps new old plan ids room own kept =
     let same : length new ≡ length old = simp length-map at (ap length plan) in
     record {
       some_group = let h = kept.some_group in omega arith;

@@ -1,5 +1,6 @@
 //! Plans of systems, and the runs of their stages.
 
+pub mod inner;
 pub mod printing;
 pub mod sink;
 pub mod stage;

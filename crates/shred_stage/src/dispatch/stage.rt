@@ -1,4 +1,5 @@
 //! A stage of a plan: groups that run beside each other.
+ghost use Rattle.std.proofs.Props.{props};
 ghost use Rattle.std.specs.Prelude.{◌≡◌, ◌↔◌, ◌<◌, ◌≤◌, ℕ, length, All, IfOk, OnOk, OnErr, IsSome, IfSome, ◌++◌, ◌∷◌, [], slice_set, slice_index_or};
 ghost use Rattle.shred_model.specs.Plan.{group_access, group_ids, stage_ids};
 ghost use Rattle.shred_model.specs.Access.{Conflicts};
@@ -7,22 +8,27 @@ ghost use Rattle.shred_table.specs.Id.{same_id};
 ghost use Rattle.shred_stage.specs.Placement.{greatest_time};
 ghost use Rattle.shred_group.specs.Left.{difference};
 ghost use Rattle.shred_group.specs.Hands.{KeepsRoom};
-ghost use Rattle.shred_group.specs.OwnLists.{IsOwnEntry, IsOwnGroup};
+ghost use Rattle.shred_group.specs.OwnLists.{IsEntryOf, IsGroupOf};
 ghost use Rattle.shred_group.specs.PlanOf.{access_of, entry_plan, group_plan, groups_plan, numbers_of, HasEntryIds};
 ghost use Rattle.shred_stage.specs.Search.{may_end, OthersDoNotConflict, SpotIs, TouchedIs};
 ghost use Rattle.shred_group.specs.Touching.{is_touched};
 ghost use Rattle.shred_group.specs.Sides.{stage_side};
 ghost use Rattle.shred_stage.specs.Soundness.{IsSmallGroup};
 
-use shred_group::dispatch::beside::{turn_beside, turn_in_order};
+use shred_batch::{BatchController, Nested, Tier, Work};
+use shred_group::dispatch::beside;
 use shred_group::dispatch::entry::{Group, Side, SystemEntry, SystemId};
 use shred_group::dispatch::run::StageFault;
 use shred_group::dispatch::setup::{dispose_of_groups, set_up_groups};
+use shred_group::occupant::{NoBatch, Occupant};
 use shred_group::system::System;
+use shred_group::{RunsInOrder, Settles};
+use shred_works::{Batched, turn};
 use shred_world::parting::table_of_local;
 use shred_world::{LocalWorld, OutOfMemory, ResourceId, ResourceValue, World};
 use smallvec::SmallVec;
 use std::alloc::Global;
+use std::marker::PhantomData;
 use std::thread::Threads;
 
 /// Which groups of a stage an entry has to come after.
@@ -42,34 +48,38 @@ pub(crate) enum Spot {
 
 /// Groups that do not conflict, of one to four entries each.
 #[derive(Drop)]
-pub struct Stage<V: ResourceValue, S: System<V>> {
-    groups: Vec<Group<V, S>>,
+pub struct Stage<V, X: Occupant<C, V>, C = NoBatch> {
+    groups: Vec<Group<V, X>>,
+    batches: PhantomData<C>,
     ghost some_group: { 0 < length groups.items },
     ghost small_groups: { All IsSmallGroup (groups_plan groups.items) },
     ghost apart: { AreApart group_access (groups_plan groups.items) },
     ghost keep_ids: { All HasEntryIds groups.items },
     ghost keep_room: { All KeepsRoom groups.items },
-    ghost own_lists: { All (IsOwnGroup S.reads S.writes) groups.items },
+    ghost own_lists: { All (IsGroupOf X.may_keep) groups.items } by { Prim.hlevel (props, X.keeps_is_fact) },
 }
 
-impl<V: ResourceValue, S: System<V>> Stage<V, S> {
+impl<V, X: Occupant<C, V>, C> Stage<V, X, C> {
     ghost use Rattle.shred_stage.specs.Added.{nothing_at, AreSame, IsNew};
     ghost use Rattle.shred_stage.specs.EntriesAt.{stage_entries};
     ghost use Rattle.shred_stage.specs.StagePlan.{stage_plan};
 
     /// A stage with this entry alone.
-    pub(crate) fn new(alloc: Global, entry: SystemEntry<V, S>) -> Result<Self, OutOfMemory>
+    pub(crate) fn new(alloc: Global, entry: SystemEntry<V, X>) -> Result<Self, OutOfMemory>
     where
         V: Drop,
-        S: Drop,
-        requires own_lists { IsOwnEntry S.reads S.writes entry }
+        X: Drop,
+        requires own_lists { IsEntryOf X.may_keep entry }
         ensures plan { IfOk result (λ stage. stage_plan stage ≡ (entry_plan entry ∷ []) ∷ []) }
         ensures added { IfOk result (λ stage. IsNew nothing_at (stage_entries stage) entry) }
     {
         let mut groups = Vec::new(alloc);
         match Group::new(alloc, entry) {
             Ok(group) => match groups.push(group) {
-                Ok(()) => Ok(Stage { groups }),
+                Ok(()) => Ok(Stage {
+                    groups,
+                    batches: PhantomData,
+                }),
                 Err(_) => Err(OutOfMemory),
             },
             Err(e) => Err(e),
@@ -96,7 +106,7 @@ impl<V: ResourceValue, S: System<V>> Stage<V, S> {
     }
 
     /// Where the stage takes the entry, if it does, while these dependencies are left.
-    pub(crate) fn spot_for(&self, left: &[SystemId], entry: &SystemEntry<V, S>) -> Option<Spot>
+    pub(crate) fn spot_for(&self, left: &[SystemId], entry: &SystemEntry<V, X>) -> Option<Spot>
         ensures { SpotIs (numbers_of left.now) (entry_plan entry.now) (stage_plan self.now) result }
     {
         match self.touched(left, entry) {
@@ -109,7 +119,7 @@ impl<V: ResourceValue, S: System<V>> Stage<V, S> {
     }
 
     /// Which groups the entry has to come after.
-    fn touched(&self, left: &[SystemId], entry: &SystemEntry<V, S>) -> Touched
+    fn touched(&self, left: &[SystemId], entry: &SystemEntry<V, X>) -> Touched
         ensures { TouchedIs (is_touched same_id (numbers_of left.now) (access_of entry.now)) (stage_plan self.now) result }
     {
         let mut touched = Touched::Nothing;
@@ -125,7 +135,7 @@ impl<V: ResourceValue, S: System<V>> Stage<V, S> {
     }
 
     /// Whether the entry may stand at the end of this group, the only one that it has to come after.
-    fn may_end(&self, left: &[SystemId], entry: &SystemEntry<V, S>, group: usize) -> bool
+    fn may_end(&self, left: &[SystemId], entry: &SystemEntry<V, X>, group: usize) -> bool
         requires { group < length (stage_plan self.now) }
         ensures { result ≡ may_end same_id (numbers_of left.now) (entry_plan entry.now) (stage_plan self.now) (slice_index_or (stage_plan self.now) group []) }
     {
@@ -170,12 +180,12 @@ impl<V: ResourceValue, S: System<V>> Stage<V, S> {
     }
 
     /// Gives the entry a new last group.
-    pub(crate) fn push_group(&mut self, entry: SystemEntry<V, S>) -> Result<(), OutOfMemory>
+    pub(crate) fn push_group(&mut self, entry: SystemEntry<V, X>) -> Result<(), OutOfMemory>
     where
         V: Drop,
-        S: Drop,
+        X: Drop,
         requires free { All (λ group. Conflicts (group_access group) (access_of entry) → ⊥) (stage_plan self.old) }
-        requires own_lists { IsOwnEntry S.reads S.writes entry }
+        requires own_lists { IsEntryOf X.may_keep entry }
         ensures ok { OnOk result (stage_plan self.new ≡ stage_plan self.old ++ (entry_plan entry ∷ []) ∷ []) }
         ensures err { OnErr result (stage_plan self.new ≡ stage_plan self.old) }
         ensures added { OnOk result (IsNew (stage_entries self.old) (stage_entries self.new) entry) }
@@ -195,15 +205,15 @@ impl<V: ResourceValue, S: System<V>> Stage<V, S> {
     pub(crate) fn push_entry(
         &mut self,
         group: usize,
-        entry: SystemEntry<V, S>,
+        entry: SystemEntry<V, X>,
     ) -> Result<(), OutOfMemory>
     where
         V: Drop,
-        S: Drop,
+        X: Drop,
         requires within { group < length (stage_plan self.old) }
         requires room { length (slice_index_or (stage_plan self.old) group []) < 4 }
         requires others { OthersDoNotConflict (stage_plan self.old) group (access_of entry) }
-        requires own_lists { IsOwnEntry S.reads S.writes entry }
+        requires own_lists { IsEntryOf X.may_keep entry }
         ensures ok { OnOk result (stage_plan self.new ≡ slice_set (stage_plan self.old) group (slice_index_or (stage_plan self.old) group [] ++ entry_plan entry ∷ [])) }
         ensures err { OnErr result (stage_plan self.new ≡ stage_plan self.old) }
         ensures added { OnOk result (IsNew (stage_entries self.old) (stage_entries self.new) entry) }
@@ -213,46 +223,68 @@ impl<V: ResourceValue, S: System<V>> Stage<V, S> {
     }
 }
 
-impl<V: ResourceValue + Drop, S: System<V, Error = E>, E: Drop> Stage<V, S> {
+impl<V, X: Occupant<C, V>, C> Stage<V, X, C> {
+    ghost use Rattle.shred_batch.specs.Works.{tier_plan, tier_states};
+    ghost use Rattle.shred_model.specs.Record.{Agent};
+    ghost use Rattle.shred_stage.specs.Plans.{stage_states};
+    ghost use Rattle.shred_stage.specs.StagePlan.{stage_plan};
+    ghost use Rattle.shred_works.specs.Batches.{IsTierOf};
+
+    /// Its groups, as a tier of the inner plan of a batch.
+    pub(crate) fn into_tier(self) -> Tier<V, X>
+    where
+        V: Drop,
+        X: Drop,
+        ensures plan { tier_plan result ≡ stage_plan self }
+        ensures states { (path : Agent) → tier_states result path ≡ stage_states self path }
+        ensures own { IsTierOf X.may_keep result }
+    {
+        Tier {
+            groups: self.groups,
+        }
+    }
+}
+
+impl<V: ResourceValue + Drop, X: RunsInOrder<C, V, Error = E>, C, E: Drop> Stage<V, X, C> {
     ghost use Rattle.shred_stage.specs.Dispatched.{Dispatched, stage_over, stage_with};
     ghost use Rattle.shred_group.specs.Entries.{StageTurn};
     ghost use Rattle.shred_world.specs.Worlds.{local_held};
 
-    /// Runs every group, one after the other, each up to its first system that is not Done, on the caller's thread. The
+    /// Runs every group, one after the other, each up to the first entry that is not Done, on the caller's thread. The
     /// answer is that of the first group, in order, that is not Done. Where it is `Memory`,
     /// the stage was refused for memory, and nothing has run; no stage of today asks for any.
     pub fn execute_seq(&mut self, world: &mut World<V>) -> Result<(), StageFault<E>>
-        ensures { Dispatched V.kind_of (StageTurn V.kind_of S.step) (stage_over V.kind_of self.old world.old) result (stage_over V.kind_of self.new world.new) }
+        ensures { Dispatched V.kind_of (StageTurn V.kind_of X.step) (stage_over V.kind_of self.old world.old) result (stage_over V.kind_of self.new world.new) }
     {
         self.execute_seq_local(world.local())
     }
 
     /// `execute_seq`, over what a world holds.
     pub fn execute_seq_local(&mut self, world: &mut LocalWorld<V>) -> Result<(), StageFault<E>>
-        ensures { Dispatched V.kind_of (StageTurn V.kind_of S.step) (stage_with self.old (local_held V.kind_of world.old)) result (stage_with self.new (local_held V.kind_of world.new)) }
+        ensures { Dispatched V.kind_of (StageTurn V.kind_of X.step) (stage_with self.old (local_held V.kind_of world.old)) result (stage_with self.new (local_held V.kind_of world.new)) }
     {
-        turn_in_order(self.groups.as_mut_slice(), table_of_local(world))
+        X::turn_in_order(self.groups.as_mut_slice(), table_of_local(world))
     }
 }
 
-impl<V: ResourceValue + Drop, S: System<V, Error = E> + Drop, E: Drop> Stage<V, S> {
+impl<V: ResourceValue + Drop, X: Settles<C, V, Error = E> + Drop, C, E: Drop> Stage<V, X, C> {
     ghost use Rattle.shred_stage.specs.Setups.{StageSetup, StageDisposal};
     ghost use Rattle.shred_stage.specs.StagePlan.{stage_plan};
     ghost use Rattle.shred_world.specs.Worlds.{world_held};
 
-    /// Sets the systems up, in the plan's order, up to the first that is not Done, which the answer tells. What was done
+    /// Sets up what stands in the entries, in the plan's order, up to the first that is not Done, which the answer tells. What was done
     /// before it stays.
     pub fn setup(&mut self, world: &mut World<V>) -> Result<(), StageFault<E>>
-        ensures set_up { StageSetup S.sets_up self.old (world_held V.kind_of world.old) result self.new (world_held V.kind_of world.new) }
+        ensures set_up { StageSetup X.sets_up self.old (world_held V.kind_of world.old) result self.new (world_held V.kind_of world.new) }
         ensures plan { stage_plan self.new ≡ stage_plan self.old }
     {
         set_up_groups(self.groups.as_mut_slice(), world)
     }
 
-    /// Disposes of all systems, in the plan's order, also of those after one that is not Done. The answer tells the first
+    /// Disposes of all that stands in the entries, in the plan's order, also of what stands after one that is not Done. The answer tells the first
     /// that is not Done.
     pub fn dispose(self, world: &mut World<V>) -> Result<(), StageFault<E>>
-        ensures { StageDisposal S.disposes self (world_held V.kind_of world.old) result (world_held V.kind_of world.new) }
+        ensures { StageDisposal X.disposes self (world_held V.kind_of world.old) result (world_held V.kind_of world.new) }
     {
         dispose_of_groups(self.groups, world)
     }
@@ -261,6 +293,7 @@ impl<V: ResourceValue + Drop, S: System<V, Error = E> + Drop, E: Drop> Stage<V, 
 impl<V: ResourceValue + Drop + Send + Sync, S: System<V, Error = E> + Send, E: Drop + Send> Stage<
     V,
     S,
+    NoBatch,
 >
 where
     S::Accessor: Send,
@@ -269,7 +302,7 @@ where
     ghost use Rattle.shred_group.specs.Entries.{StageTurn};
     ghost use Rattle.shred_world.specs.Worlds.{local_held};
 
-    /// Runs every group, each up to its first system that is not Done, beside each other in halves, and these again, on at
+    /// Runs every group, each up to the first entry that is not Done, beside each other in halves, and these again, on at
     /// most that many threads, the caller's among them: of 0 or 1, and of a stage of one group, on the caller's thread
     /// alone. A half whose thread cannot be started runs on the thread that would have started it. The answer is that of
     /// the first group, in order, that is not Done, whichever refused first in time. Where it is `Memory`, the stage was
@@ -298,7 +331,57 @@ where
         if workers < 2 || self.groups.len() < 2 {
             return self.execute_seq_local(world);
         }
-        turn_beside(
+        beside::turn_beside(
+            rt,
+            self.groups.as_mut_slice(),
+            table_of_local(world),
+            workers,
+        )
+    }
+}
+
+impl<
+    V: ResourceValue + Drop + Send + Sync,
+    S: System<V, Error = E> + Send,
+    C: BatchController<V, Error = E> + Send,
+    E: Drop + Send,
+> Stage<V, Work<S, Nested<V, S, C>>, Batched<C>>
+where
+    S::Accessor: Send,
+    C::Accessor: Send,
+{
+    ghost use Rattle.shred_stage.specs.Dispatched.{Dispatched, stage_over, stage_with};
+    ghost use Rattle.shred_group.specs.Entries.{StageTurn};
+    ghost use Rattle.shred_world.specs.Worlds.{local_held};
+    ghost use Rattle.shred_works.specs.OwnDepth.{OwnStep};
+    ghost use Rattle.shred_batch.specs.Depths.{Related};
+
+    /// As of a stage of systems alone. A batch hands the number of threads on to its inner plan: the groups of that run beside
+    /// each other too, and those of a batch in it one after the other.
+    pub fn execute<R: Threads + Sync>(
+        &mut self,
+        rt: &R,
+        world: &mut World<V>,
+        workers: usize,
+    ) -> Result<(), StageFault<E>>
+        ensures { Dispatched V.kind_of (StageTurn V.kind_of (OwnStep V.kind_of (record { steps = S.step; begins = C.begins; asks = C.asks }))) (stage_over V.kind_of self.old world.old) result (stage_over V.kind_of self.new world.new) }
+    {
+        self.execute_local(rt, world.local(), workers)
+    }
+
+    /// `execute`, over what a world holds.
+    pub fn execute_local<R: Threads + Sync>(
+        &mut self,
+        rt: &R,
+        world: &mut LocalWorld<V>,
+        workers: usize,
+    ) -> Result<(), StageFault<E>>
+        ensures { Dispatched V.kind_of (StageTurn V.kind_of (OwnStep V.kind_of (record { steps = S.step; begins = C.begins; asks = C.asks }))) (stage_with self.old (local_held V.kind_of world.old)) result (stage_with self.new (local_held V.kind_of world.new)) }
+    {
+        if workers < 2 {
+            return self.execute_seq_local(world);
+        }
+        turn::turn_beside(
             rt,
             self.groups.as_mut_slice(),
             table_of_local(world),

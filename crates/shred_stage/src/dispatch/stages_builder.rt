@@ -12,7 +12,7 @@ ghost use Rattle.shred_stage.specs.Names.{first_unnamed, named_ids};
 ghost use Rattle.shred_stage.specs.Placement.{IsPlaced};
 ghost use Rattle.shred_stage.specs.Printed.{plan_text};
 ghost use Rattle.shred_stage.specs.Prints.{IsPrinted};
-ghost use Rattle.shred_group.specs.OwnLists.{IsOwnEntry};
+ghost use Rattle.shred_group.specs.OwnLists.{IsEntryOf};
 ghost use Rattle.shred_group.specs.PlanOf.{access_of, entry_plan, numbers_of};
 ghost use Rattle.shred_stage.specs.Search.{OthersDoNotConflict, PlaceIs};
 ghost use Rattle.shred_group.specs.Sides.{stage_side, plan_reads, plan_writes};
@@ -21,9 +21,12 @@ ghost use Rattle.shred_stage.specs.StagePlan.{plan_of};
 use crate::dispatch::printing::{PrintError, print};
 use crate::dispatch::sink::PlanSink;
 use crate::dispatch::stage::{Spot, Stage};
+use shred_batch::{BatchController, Nested, Work};
 use shred_group::dispatch::entry::{Side, SystemEntry, SystemId, push_or_drop};
 use shred_group::dispatch::sorted::sort_without_doubles;
+use shred_group::occupant::{Holds, NoBatch, Occupant};
 use shred_group::system::System;
+use shred_works::Batched;
 use shred_world::parting::empty_hand;
 use shred_world::{Accessor, OutOfMemory, ResourceId, ResourceValue, Table};
 use smallvec::SmallVec;
@@ -32,22 +35,22 @@ use std::collections::HashMap;
 
 /// A plan that grows by one system after another.
 #[derive(Drop)]
-pub struct StagesBuilder<V: ResourceValue, S: System<V>> {
-    pub(crate) stages: Vec<Stage<V, S>>,
+pub struct StagesBuilder<V, X: Occupant<C, V>, C = NoBatch> {
+    pub(crate) stages: Vec<Stage<V, X, C>>,
     barrier: usize,
     ghost barrier_within: { barrier ≤ length stages.items },
     ghost few_stages: { length stages.items ≤ length (plan_ids (plan_of stages.items)) },
 }
 
-impl<V: ResourceValue, S: System<V>> StagesBuilder<V, S> {
+impl<V, X: Occupant<C, V>, C> StagesBuilder<V, X, C> {
     ghost use Rattle.shred_model.specs.Record.{Agent};
-    ghost use Rattle.shred_stage.specs.Added.{AreSame, IsNew, IsAdded};
+    ghost use Rattle.shred_stage.specs.Added.{AreSame, IsNew};
     ghost use Rattle.shred_stage.specs.BuilderPlan.{planned, barrier_of, builder_states};
     ghost use Rattle.shred_stage.specs.EntriesAt.{builder_entries};
     ghost use Rattle.shred_stage.specs.Plans.{plan_states};
 
-    /// An empty plan. It takes no memory.
-    pub fn new(alloc: Global) -> Self
+    /// An empty plan, in which may stand what its type says. It takes no memory.
+    pub fn empty(alloc: Global) -> Self
         ensures plan { planned result ≡ [] }
         ensures barrier { barrier_of result ≡ 0 }
         ensures states { (path : Agent) → builder_states result path ≡ None }
@@ -58,52 +61,15 @@ impl<V: ResourceValue, S: System<V>> StagesBuilder<V, S> {
         }
     }
 
-    /// An empty plan, as of `new`.
-    pub fn default(alloc: Global) -> Self
-        ensures plan { planned result ≡ [] }
-        ensures barrier { barrier_of result ≡ 0 }
-        ensures states { (path : Agent) → builder_states result path ≡ None }
-    {
-        Self::new(alloc)
-    }
-
     /// The stages of the plan. It takes no memory.
-    pub fn build(self) -> Vec<Stage<V, S>>
+    pub fn build(self) -> Vec<Stage<V, X, C>>
     where
         V: Drop,
-        S: Drop,
+        X: Drop,
         ensures plan { plan_of result.items ≡ planned self }
         ensures states { (path : Agent) → plan_states result.items path ≡ builder_states self path }
     {
         self.stages
-    }
-
-    /// Gives the system its place in the plan, in the barrier's stage or a later one. Each dependency that the plan has
-    /// stands in an earlier stage, or earlier in the same group. Where memory is refused, the plan is as it was, and the
-    /// system is dropped.
-    pub fn insert(
-        &mut self,
-        dependencies: &[SystemId],
-        id: SystemId,
-        system: S,
-    ) -> Result<(), OutOfMemory>
-    where
-        V: Drop,
-        S: Drop,
-        ensures placed { OnOk result ((entry : model.PlanEntry ResourceId) × IsKept id.0 (S.reads system) (S.writes system) (S.time system) entry
-            × IsPlaced (planned self.old) (barrier_of self.old) (barrier_of self.old) (numbers_of dependencies.now) entry (planned self.new)
-            × (added : IsAdded (planned self.old) (planned self.new) (builder_states self.old) (builder_states self.new) entry system)
-            × IsFromBarrier (barrier_of self.old) added.place × ComesAfter (planned self.old) (numbers_of dependencies.now) added.place) }
-        ensures err { OnErr result (planned self.new ≡ planned self.old) }
-        ensures states { OnErr result ((path : Agent) → builder_states self.new path ≡ builder_states self.old path) }
-        ensures barrier { barrier_of self.new ≡ barrier_of self.old }
-    {
-        let start = self.barrier;
-        let alloc = *self.stages.allocator();
-        match kept_entry(alloc, id, system) {
-            Ok(entry) => self.place(start, dependencies, entry),
-            Err(e) => Err(e),
-        }
     }
 
     /// Sets the barrier to the number of stages: what is inserted from now on stands after all that is there.
@@ -176,13 +142,13 @@ impl<V: ResourceValue, S: System<V>> StagesBuilder<V, S> {
         &mut self,
         start: usize,
         dependencies: &[SystemId],
-        entry: SystemEntry<V, S>,
+        entry: SystemEntry<V, X>,
     ) -> Result<(), OutOfMemory>
     where
         V: Drop,
-        S: Drop,
+        X: Drop,
         requires start { barrier_of self.old ≤ start }
-        requires own_lists { IsOwnEntry S.reads S.writes entry }
+        requires own_lists { IsEntryOf X.may_keep entry }
         ensures placed { OnOk result (IsPlaced (planned self.old) (barrier_of self.old) start (numbers_of dependencies.now) (entry_plan entry) (planned self.new)) }
         ensures err { OnErr result (planned self.new ≡ planned self.old) }
         ensures added { OnOk result (IsNew (builder_entries self.old) (builder_entries self.new) entry) }
@@ -202,13 +168,13 @@ impl<V: ResourceValue, S: System<V>> StagesBuilder<V, S> {
     }
 
     /// Gives the entry a new last group of this stage.
-    fn push_group(&mut self, stage: usize, entry: SystemEntry<V, S>) -> Result<(), OutOfMemory>
+    fn push_group(&mut self, stage: usize, entry: SystemEntry<V, X>) -> Result<(), OutOfMemory>
     where
         V: Drop,
-        S: Drop,
+        X: Drop,
         requires within { stage < length (planned self.old) }
         requires free { All (λ group. Conflicts (group_access group) (access_of entry) → ⊥) (slice_index_or (planned self.old) stage []) }
-        requires own_lists { IsOwnEntry S.reads S.writes entry }
+        requires own_lists { IsEntryOf X.may_keep entry }
         ensures ok { OnOk result (planned self.new ≡ slice_set (planned self.old) stage (slice_index_or (planned self.old) stage [] ++ (entry_plan entry ∷ []) ∷ [])) }
         ensures err { OnErr result (planned self.new ≡ planned self.old) }
         ensures added { OnOk result (IsNew (builder_entries self.old) (builder_entries self.new) entry) }
@@ -223,16 +189,16 @@ impl<V: ResourceValue, S: System<V>> StagesBuilder<V, S> {
         &mut self,
         stage: usize,
         group: usize,
-        entry: SystemEntry<V, S>,
+        entry: SystemEntry<V, X>,
     ) -> Result<(), OutOfMemory>
     where
         V: Drop,
-        S: Drop,
+        X: Drop,
         requires within { stage < length (planned self.old) }
         requires within_stage { group < length (slice_index_or (planned self.old) stage []) }
         requires room { length (slice_index_or (slice_index_or (planned self.old) stage []) group []) < 4 }
         requires others { OthersDoNotConflict (slice_index_or (planned self.old) stage []) group (access_of entry) }
-        requires own_lists { IsOwnEntry S.reads S.writes entry }
+        requires own_lists { IsEntryOf X.may_keep entry }
         ensures ok { let here = slice_index_or (planned self.old) stage [] in
             OnOk result (planned self.new ≡ slice_set (planned self.old) stage (slice_set here group (slice_index_or here group [] ++ entry_plan entry ∷ []))) }
         ensures err { OnErr result (planned self.new ≡ planned self.old) }
@@ -244,11 +210,11 @@ impl<V: ResourceValue, S: System<V>> StagesBuilder<V, S> {
     }
 
     /// Gives the entry a new last stage.
-    fn push_stage(&mut self, entry: SystemEntry<V, S>) -> Result<(), OutOfMemory>
+    fn push_stage(&mut self, entry: SystemEntry<V, X>) -> Result<(), OutOfMemory>
     where
         V: Drop,
-        S: Drop,
-        requires own_lists { IsOwnEntry S.reads S.writes entry }
+        X: Drop,
+        requires own_lists { IsEntryOf X.may_keep entry }
         ensures ok { OnOk result (planned self.new ≡ planned self.old ++ ((entry_plan entry ∷ []) ∷ []) ∷ []) }
         ensures err { OnErr result (planned self.new ≡ planned self.old) }
         ensures added { OnOk result (IsNew (builder_entries self.old) (builder_entries self.new) entry) }
@@ -267,7 +233,7 @@ impl<V: ResourceValue, S: System<V>> StagesBuilder<V, S> {
         &self,
         start: usize,
         mut left: SmallVec<SystemId, 4>,
-        entry: &SystemEntry<V, S>,
+        entry: &SystemEntry<V, X>,
     ) -> Option<(usize, Spot)>
         requires { barrier_of self.now ≤ start }
         ensures { PlaceIs (planned self.now) (barrier_of self.now) start (numbers_of left.items) (entry_plan entry.now) result }
@@ -285,15 +251,132 @@ impl<V: ResourceValue, S: System<V>> StagesBuilder<V, S> {
     }
 }
 
-/// What is kept of a system.
-fn kept_entry<V: ResourceValue + Drop, S: System<V> + Drop>(
+impl<V: ResourceValue + Drop, X: Occupant<C, V> + Drop, C> StagesBuilder<V, X, C> {
+    ghost use Rattle.shred_stage.specs.BuilderPlan.{planned, barrier_of, builder_states};
+    ghost use Rattle.shred_stage.specs.Inserted.{IsInserted};
+    ghost use Rattle.shred_model.specs.Record.{Agent};
+
+    /// `insert`, of what is kept of a system or of a batch. It is there for `DispatcherBuilder`.
+    pub fn insert_entry(
+        &mut self,
+        dependencies: &[SystemId],
+        entry: SystemEntry<V, X>,
+    ) -> Result<(), OutOfMemory>
+        requires own_lists { IsEntryOf X.may_keep entry }
+        ensures inserted { OnOk result (IsInserted (planned self.old) (planned self.new) (builder_states self.old) (builder_states self.new) (barrier_of self.old) (numbers_of dependencies.now) (entry_plan entry) entry.system) }
+        ensures err { OnErr result (planned self.new ≡ planned self.old) }
+        ensures states { OnErr result ((path : Agent) → builder_states self.new path ≡ builder_states self.old path) }
+        ensures barrier { barrier_of self.new ≡ barrier_of self.old }
+    {
+        let start = self.barrier;
+        self.place(start, dependencies, entry)
+    }
+
+    // `insert`, of a system in any plan that may hold it.
+    fn insert_system<S: System<V> + Drop>(
+        &mut self,
+        dependencies: &[SystemId],
+        id: SystemId,
+        system: S,
+    ) -> Result<(), OutOfMemory>
+    where
+        X: Holds<C, V, S>,
+        ensures placed { OnOk result ((entry : model.PlanEntry ResourceId) × IsKept id.0 (S.reads system) (S.writes system) (S.time system) entry
+            × IsInserted (planned self.old) (planned self.new) (builder_states self.old) (builder_states self.new) (barrier_of self.old) (numbers_of dependencies.now) entry (X.holds system)) }
+        ensures err { OnErr result (planned self.new ≡ planned self.old) }
+        ensures states { OnErr result ((path : Agent) → builder_states self.new path ≡ builder_states self.old path) }
+        ensures barrier { barrier_of self.new ≡ barrier_of self.old }
+    {
+        let alloc = *self.stages.allocator();
+        match kept_entry::<V, X, C, S>(alloc, id, system) {
+            Ok(entry) => self.insert_entry(dependencies, entry),
+            Err(e) => Err(e),
+        }
+    }
+}
+
+impl<V: ResourceValue, S: System<V>> StagesBuilder<V, S, NoBatch> {
+    ghost use Rattle.shred_stage.specs.BuilderPlan.{planned, barrier_of, builder_states};
+    ghost use Rattle.shred_stage.specs.Inserted.{IsInserted};
+    ghost use Rattle.shred_model.specs.Record.{Agent};
+
+    /// An empty plan of systems. It takes no memory.
+    pub fn new(alloc: Global) -> Self
+        ensures plan { planned result ≡ [] }
+        ensures barrier { barrier_of result ≡ 0 }
+        ensures states { (path : Agent) → builder_states result path ≡ None }
+    {
+        Self::empty(alloc)
+    }
+
+    /// An empty plan of systems, as of `new`.
+    pub fn default(alloc: Global) -> Self
+        ensures plan { planned result ≡ [] }
+        ensures barrier { barrier_of result ≡ 0 }
+        ensures states { (path : Agent) → builder_states result path ≡ None }
+    {
+        Self::empty(alloc)
+    }
+
+    /// Gives the system its place in the plan, in the barrier's stage or a later one. Each dependency that the plan has
+    /// stands in an earlier stage, or earlier in the same group. Where memory is refused, the plan is as it was, and the
+    /// system is dropped.
+    pub fn insert(
+        &mut self,
+        dependencies: &[SystemId],
+        id: SystemId,
+        system: S,
+    ) -> Result<(), OutOfMemory>
+    where
+        V: Drop,
+        S: Drop,
+        ensures placed { OnOk result ((entry : model.PlanEntry ResourceId) × IsKept id.0 (S.reads system) (S.writes system) (S.time system) entry
+            × IsInserted (planned self.old) (planned self.new) (builder_states self.old) (builder_states self.new) (barrier_of self.old) (numbers_of dependencies.now) entry system) }
+        ensures err { OnErr result (planned self.new ≡ planned self.old) }
+        ensures states { OnErr result ((path : Agent) → builder_states self.new path ≡ builder_states self.old path) }
+        ensures barrier { barrier_of self.new ≡ barrier_of self.old }
+    {
+        self.insert_system(dependencies, id, system)
+    }
+}
+
+impl<
+    V: ResourceValue + Drop,
+    S: System<V, Error = E> + Drop,
+    C: BatchController<V, Error = E> + Drop,
+    E,
+> StagesBuilder<V, Work<S, Nested<V, S, C>>, Batched<C>> {
+    ghost use Rattle.shred_batch.specs.declared.work.Work.TheVariants.{System as ASystem};
+    ghost use Rattle.shred_stage.specs.BuilderPlan.{planned, barrier_of, builder_states};
+    ghost use Rattle.shred_stage.specs.Inserted.{IsInserted};
+    ghost use Rattle.shred_model.specs.Record.{Agent};
+
+    /// As into a plan of systems alone.
+    pub fn insert(
+        &mut self,
+        dependencies: &[SystemId],
+        id: SystemId,
+        system: S,
+    ) -> Result<(), OutOfMemory>
+        ensures placed { OnOk result ((entry : model.PlanEntry ResourceId) × IsKept id.0 (S.reads system) (S.writes system) (S.time system) entry
+            × IsInserted (planned self.old) (planned self.new) (builder_states self.old) (builder_states self.new) (barrier_of self.old) (numbers_of dependencies.now) entry (ASystem system)) }
+        ensures err { OnErr result (planned self.new ≡ planned self.old) }
+        ensures states { OnErr result ((path : Agent) → builder_states self.new path ≡ builder_states self.old path) }
+        ensures barrier { barrier_of self.new ≡ barrier_of self.old }
+    {
+        self.insert_system(dependencies, id, system)
+    }
+}
+
+/// The entry that is kept of a system.
+pub fn kept_entry<V: ResourceValue + Drop, X: Holds<C, V, S>, C, S: System<V> + Drop>(
     alloc: Global,
     id: SystemId,
     system: S,
-) -> Result<SystemEntry<V, S>, OutOfMemory>
+) -> Result<SystemEntry<V, X>, OutOfMemory>
     ensures kept { IfOk result (λ entry. IsKept id.0 (S.reads system) (S.writes system) (S.time system) (entry_plan entry)) }
-    ensures same { IfOk result (λ entry. entry.system ≡ system) }
-    ensures own_lists { IfOk result (IsOwnEntry S.reads S.writes) }
+    ensures same { IfOk result (λ entry. entry.system ≡ X.holds system) }
+    ensures own_lists { IfOk result (IsEntryOf X.may_keep) }
 {
     let time = system.running_time();
     let accessor = system.accessor(alloc)?;
@@ -306,7 +389,7 @@ fn kept_entry<V: ResourceValue + Drop, S: System<V> + Drop>(
         reads,
         writes,
         time,
-        system,
+        system: X::hold(system),
         hand,
     })
 }

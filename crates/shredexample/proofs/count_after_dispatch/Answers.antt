@@ -40,7 +40,7 @@ returns-in-Ok-Some c =
     let inserted = on_ok c.insert.result c.in_ok-ok-2.field-0 c.in_ok-ok-2.ensures.value c.insert.ensures.placed in
     let ran = at_ok (λ (r : Result (Unit {0}) (DispatchError DataError)). IsSerializable (λ list. PlanRun kind sets plan list r) x y) c.dispatch_seq.result c.in_ok-ok-3.field-0 c.in_ok-ok-3.ensures.value c.dispatch_seq.ensures.dispatched.ran in
     let held : world_held kind c.dispatch_seq.new.world count_id ≡ Some seven =
-    single_leaves kind sets count_id (Some seven) (λ before seen after left is. is) _ plan _ _ inserted.0 x y c.new-builder.ensures.plan c.new-builder.ensures.barrier inserted.2
+    single_leaves kind sets count_id (Some seven) (λ before seen after left is. is) _ plan _ _ inserted.0 x y c.new-builder.ensures.plan c.new-builder.ensures.barrier inserted.2.placed
     (c.new_dispatcher-dispatcher.ensures.plan ∙ c.build.ensures.plan) (subst (λ (ids : List ResourceId). Contains ids count_id) (sym inserted.1.same_writes) (0, omega arith, λ i. count_id)) ran in
     let now : c.deref.result.now.0 ≡ pos 7 = ap (λ count. count.0) c.deref.ensures ∙ ap number (found (λ (f : _). Count f.resource.now) c.in-Ok-Some.field-0 c.in-Ok-Some.count _ c.in-Ok-Some.field-0-is c.in-Ok-Some.ensures.ok.1 ∙ ap (world_held kind c.dispatch_seq.new.world) c.count_id-2.ensures ∙ held) in
     ap (λ z. to_z w64 (of_z w64 z)) now

@@ -17,6 +17,6 @@ returns g c =
     record {
       ran = ran;
       other_ran = too;
-      alike = λ same one one_local had had_too. full-run-alike kind step g.L.RunNow.runs before other after end c.dispatch-one.result c.dispatch-two.result same ran too (world-of-kinds kind c.args.world.now) (plan-fits kind step IsNotOutOfMemory c.args.first.now.stages.items one) one_local had had_too;
-      alike_done = λ same one one_local done done_too. full-run-alike-done kind step g.L.RunNow.runs before other after end c.dispatch-one.result c.dispatch-two.result same ran too (world-of-kinds kind c.args.world.now) (plan-fits kind step IsDone c.args.first.now.stages.items one) one_local done done_too;
+      alike = λ same one one_local had had_too. full-run-alike kind step g.L.RunNow.runs before other after end c.dispatch-one.result c.dispatch-two.result same ran too (world-of-kinds kind c.args.world.now) (plan-fits kind step g.S.System.reads g.S.System.writes (λ stage. stage.own_lists) IsNotOutOfMemory one c.args.first.now.stages.items) one_local had had_too;
+      alike_done = λ same one one_local done done_too. full-run-alike-done kind step g.L.RunNow.runs before other after end c.dispatch-one.result c.dispatch-two.result same ran too (world-of-kinds kind c.args.world.now) (plan-fits kind step g.S.System.reads g.S.System.writes (λ stage. stage.own_lists) IsDone one c.args.first.now.stages.items) one_local done done_too;
     }

@@ -1,4 +1,4 @@
-use Rattle.std.proofs.Common.{◌≡◌, ◌-◌, suc, [], ◌∷◌, ◌++◌, length, refl, sym, ◌∙◌, ap, subst, arith, append_assoc, append-nil, Ok, Err}
+use Rattle.std.proofs.Common.{◌≡◌, ◌-◌, suc, [], ◌∷◌, ◌++◌, length, sym, ◌∙◌, ap, subst, arith, append_assoc, append-nil}
 use Rattle.std.specs.Vec.Iter.{into_iter_items}
 use Rattle.std.proofs.lemmas.List.{nil_from_length}
 use Rattle.shred_model.proofs.Joined.InTurn.{AllInTurn-more}
@@ -7,7 +7,8 @@ use Rattle.shred_world.specs.Worlds.{world_held}
 use Rattle.shred_group.specs.Setups.{EntryDisposal, GroupDisposal}
 use Rattle.shred_works.specs.Nesting.{EntryNests, GroupNests, TierNests}
 use Rattle.shred_works.specs.Setups.{TierDisposal, WorkDisposal}
-use Rattle.shred_works.proofs.Disposals.{at-next, batch-disposal, nests-deep, nests-inside, system-disposal}
+use Rattle.shred_group.proofs.Groups.Walked.{at-next}
+use Rattle.shred_works.proofs.Disposals.{batch-disposal, nests-deep, nests-inside, system-disposal}
 use Rattle.shred_works.proofs.dispose.+dispose.Goals as goal
 
 pub dispose_of_work-overflow_sub-depth : goal.dispose_of_work-overflow_sub-depth

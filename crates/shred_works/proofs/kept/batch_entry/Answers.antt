@@ -1,9 +1,8 @@
-use Rattle.std.proofs.Common.{◌≡◌, ◌↔◌, ◌+◌, ◌++◌, ◌∙◌, suc, List, Contains, ap, arith, refl, rules, subst, sym}
+use Rattle.std.proofs.Common.{◌≡◌, ◌+◌, ◌∙◌, suc, List, ap, arith, refl, rules, subst}
 use Rattle.shred_table.specs.Parting.{IsEmptyHand}
 use Rattle.shred_table.specs.declared.id.ResourceId.{ResourceId}
-use Rattle.shred_group.specs.Sides.{plan_reads, plan_writes}
 use Rattle.shred_group.specs.Time.{time_count}
-use Rattle.shred_batch.specs.Works.{tiers_plan}
+use Rattle.shred_batch.specs.KeptControllers.{control_access}
 use Rattle.shred_batch.specs.declared.work.Nested.TheViews.{roll-Nested, out-roll-Nested}
 use Rattle.shred_works.proofs.Joined.{batch-owned}
 use Rattle.shred_works.proofs.kept.batch_entry.Goals as goal
@@ -26,6 +25,7 @@ returns-clause-batch g c = record {
   nested = roll-Nested g.row.V.Denot g.row.S.Denot g.row.C.Denot (record { batch = record { control = c.in_ok-control.control; tiers = c.args.tiers; depth = c.in-Some.depth } });
   is_batch = refl;
   same_controller = ap (λ level. level.batch.control.controller) (out-roll-Nested _ _ _ _) ∙ c.in_ok-control.ensures.controller;
+  same_access = ap (λ level. control_access level.batch.control) (out-roll-Nested _ _ _ _) ∙ c.in_ok-control.ensures.access;
   same_tiers = ap (λ level. level.batch.tiers.items) (out-roll-Nested _ _ _ _);
   greatest = c.deepest.result;
   noted = c.deepest.ensures.noted;

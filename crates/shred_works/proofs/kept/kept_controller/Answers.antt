@@ -1,4 +1,4 @@
-use Rattle.std.proofs.Common.{◌≡◌, ◌∙◌, List, ap, sym, subst, rules}
+use Rattle.std.proofs.Common.{◌≡◌, ◌∙◌, List, ap, subst, rules}
 use Rattle.shred_table.specs.Parting.{IsEmptyHand}
 use Rattle.shred_table.specs.Slots.{among}
 use Rattle.shred_table.specs.declared.id.ResourceId.{ResourceId}

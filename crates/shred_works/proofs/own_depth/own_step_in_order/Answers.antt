@@ -1,5 +1,4 @@
-use Rattle.std.proofs.Common.{ℕ, List, sym, subst}
-use Rattle.shred_table.specs.declared.id.ResourceId.{ResourceId}
+use Rattle.std.proofs.Common.{ℕ, sym, subst}
 use Rattle.shred_world.specs.Views.{lent_slot}
 use Rattle.shred_batch.specs.Depths.{Owns}
 use Rattle.shred_works.proofs.Depths.{own-step}

@@ -4,13 +4,12 @@ use Rattle.std.proofs.lemmas.List.{with_items_is}
 use Rattle.std.proofs.lemmas.List.Elements.{All-set}
 use Rattle.std.specs.List.{All}
 use Rattle.std.specs.Vec.{with_items}
-use Rattle.shred_model.proofs.Joined.InTurn.{Turns-start, Turns-more, Turns-fault, Turns-end}
+use Rattle.shred_model.proofs.Joined.InTurn.{Turns-more, Turns-fault, Turns-end}
 use Rattle.shred_world.specs.Worlds.{world_held}
 use Rattle.shred_group.specs.Hands.{KeepsRoom}
 use Rattle.shred_group.specs.OwnLists.{IsEntryOf, IsGroupOf}
 use Rattle.shred_group.specs.PlanOf.{entry_plan, group_numbers, group_plan, numbers_of}
 use Rattle.shred_group.specs.Setups.{EntrySetup, GroupSetup}
-use Rattle.shred_group.specs.declared.dispatch.entry.Group.{Group}
 use Rattle.shred_group.proofs.Groups.GrownGroups.{room-kept}
 use Rattle.shred_batch.specs.Depths.{Owns}
 use Rattle.shred_batch.specs.Works.{tier_numbers, tiers_plan}
@@ -18,7 +17,6 @@ use Rattle.shred_batch.specs.declared.work.Nested.{Nested}
 use Rattle.shred_batch.specs.declared.work.Nested.TheViews.{roll-Nested, out-roll-Nested}
 use Rattle.shred_batch.specs.declared.work.Tier.{Tier}
 use Rattle.shred_batch.specs.declared.work.Work.{Work}
-use Rattle.shred_works.specs.Owned.{HasOwnGroups, StayTiers}
 use Rattle.shred_works.specs.Setups.{TiersSetup, TierSetup, WorkSetup}
 use Rattle.shred_works.proofs.Stays.{batch-setup, owned-deep, owned-parts, stays-owned, system-setup, system-stays, tier-set_up, tiers-set_up}
 use Rattle.shred_works.proofs.setup.+set_up.Goals as goal

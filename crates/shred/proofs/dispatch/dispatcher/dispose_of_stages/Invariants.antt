@@ -10,5 +10,5 @@ invariant-loop-stage g l = record {
   all : l.yielded ++ into_iter_items l.stage-iterator ≡ into_iter_items l.initial.stage-iterator;
   long : into_iter_len l.stage-iterator ≡ length (into_iter_items l.stage-iterator);
   at_place : l.place ≡ length l.yielded;
-  turns : AllInTurn (StageDisposalAt g.S.System.disposes) 0 l.yielded (world_held g.V.ResourceValue.kind_of l.initial.world) l.answer (world_held g.V.ResourceValue.kind_of l.world);
+  turns : AllInTurn (StageDisposalAt g.X.Settles.disposes) 0 l.yielded (world_held g.V.ResourceValue.kind_of l.initial.world) l.answer (world_held g.V.ResourceValue.kind_of l.world);
 }

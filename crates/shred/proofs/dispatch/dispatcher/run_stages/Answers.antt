@@ -11,15 +11,15 @@ use Rattle.shred.proofs.Runs.PlanTurns.{turn-ran}
 use Rattle.shred.proofs.dispatch.dispatcher.run_stages.Goals as goal
 
 pub loop-place-init : goal.loop-place-init
-loop-place-init g c = record { plan = refl; kinds = λ id. refl; ran = SoFar-start (PlanTurn g.V.ResourceValue.kind_of g.S.System.step) _ _ }
+loop-place-init g c = record { plan = refl; kinds = λ id. refl; ran = SoFar-start (PlanTurn g.V.ResourceValue.kind_of g.X.RunsInOrder.step) _ _ }
 
 pub returns-in-Err : goal.returns-in-Err
 returns-in-Err g c =
     let kind = g.V.ResourceValue.kind_of in
-    run-dispatched kind g.S.System.step (stages_with c.args.stages.now (local_held kind c.args.world.now)) (stages_with _ (local_held kind c.execute_seq_local.new.world)) (Err c.at_stage.result)
-    (SoFar-fault (PlanTurn kind g.S.System.step) stage_plan stage_states c.loop-place.stages (local_held kind c.loop-place.world)
+    run-dispatched kind g.X.RunsInOrder.step (stages_with c.args.stages.now (local_held kind c.args.world.now)) (stages_with _ (local_held kind c.execute_seq_local.new.world)) (Err c.at_stage.result)
+    (SoFar-fault (PlanTurn kind g.X.RunsInOrder.step) stage_plan stage_states c.loop-place.stages (local_held kind c.loop-place.world)
     c.loop-place.invariant.plan c.loop-place.invariant.ran c.index-stages-place.result c.execute_seq_local.new.self (local_held kind c.execute_seq_local.new.world) (omega arith) c.at_stage.result
-    (turn-ran kind g.S.System.step c.loop-place.place (stage_plan (get_or c.loop-place.stages c.loop-place.place c.index-stages-place.result)) _ _ (Err c.in-Err.fault) (Err c.at_stage.result) c.at_stage.ensures c.in-Err.ensures.ran))
+    (turn-ran kind g.X.RunsInOrder.step c.loop-place.place (stage_plan (get_or c.loop-place.stages c.loop-place.place c.index-stages-place.result)) _ _ (Err c.in-Err.fault) (Err c.at_stage.result) c.at_stage.ensures c.in-Err.ensures.ran))
     (map-set_same stage_plan c.loop-place.stages c.loop-place.place c.execute_seq_local.new.self c.index-stages-place.result c.in-Err.ensures.plan ∙ c.loop-place.invariant.plan)
     (λ id. c.in-Err.ensures.kinds id ∙ c.loop-place.invariant.kinds id)
 
@@ -29,14 +29,14 @@ loop-place-preserved g c =
     record {
       plan = map-set_same stage_plan c.loop-place.stages c.loop-place.place c.execute_seq_local.new.self c.index-stages-place.result c.in_default.ensures.plan ∙ c.loop-place.invariant.plan;
       kinds = λ id. c.in_default.ensures.kinds id ∙ c.loop-place.invariant.kinds id;
-      ran = SoFar-more (PlanTurn kind g.S.System.step) stage_plan stage_states c.loop-place.stages (local_held kind c.loop-place.world)
+      ran = SoFar-more (PlanTurn kind g.X.RunsInOrder.step) stage_plan stage_states c.loop-place.stages (local_held kind c.loop-place.world)
           c.loop-place.invariant.plan c.loop-place.invariant.ran c.index-stages-place.result c.execute_seq_local.new.self (local_held kind c.execute_seq_local.new.world) (omega arith)
-          (turn-ran kind g.S.System.step c.loop-place.place (stage_plan (get_or c.loop-place.stages c.loop-place.place c.index-stages-place.result)) _ _ (Ok tt) (Ok tt) refl c.in_default.ensures.ran);
+          (turn-ran kind g.X.RunsInOrder.step c.loop-place.place (stage_plan (get_or c.loop-place.stages c.loop-place.place c.index-stages-place.result)) _ _ (Ok tt) (Ok tt) refl c.in_default.ensures.ran);
     }
 
 pub returns : goal.returns
 returns g c =
     let kind = g.V.ResourceValue.kind_of in
-    run-dispatched kind g.S.System.step (stages_with c.args.stages.now (local_held kind c.args.world.now)) (stages_with c.loop-place.stages (local_held kind c.loop-place.world)) (Ok tt)
-    (SoFar-end (PlanTurn kind g.S.System.step) stage_plan stage_states c.loop-place.stages (local_held kind c.loop-place.world) c.loop-place.invariant.plan c.loop-place.invariant.ran (omega arith))
+    run-dispatched kind g.X.RunsInOrder.step (stages_with c.args.stages.now (local_held kind c.args.world.now)) (stages_with c.loop-place.stages (local_held kind c.loop-place.world)) (Ok tt)
+    (SoFar-end (PlanTurn kind g.X.RunsInOrder.step) stage_plan stage_states c.loop-place.stages (local_held kind c.loop-place.world) c.loop-place.invariant.plan c.loop-place.invariant.ran (omega arith))
     c.loop-place.invariant.plan c.loop-place.invariant.kinds

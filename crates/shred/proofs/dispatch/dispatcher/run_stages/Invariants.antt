@@ -13,6 +13,6 @@ abbrev pub invariant-loop-place : goal.invariant-loop-place
 invariant-loop-place g l = record {
   plan : map stage_plan l.stages ≡ map stage_plan l.initial.stages;
   kinds : (id : ResourceId) → option_map g.V.ResourceValue.kind_of (local_held g.V.ResourceValue.kind_of l.world id) ≡ option_map g.V.ResourceValue.kind_of (local_held g.V.ResourceValue.kind_of l.initial.world id);
-  ran : SoFar (PlanTurn g.V.ResourceValue.kind_of g.S.System.step) l.place (map stage_plan l.initial.stages)
+  ran : SoFar (PlanTurn g.V.ResourceValue.kind_of g.X.RunsInOrder.step) l.place (map stage_plan l.initial.stages)
       (configuration_of (listed_states stage_states l.initial.stages) (local_held g.V.ResourceValue.kind_of l.initial.world)) (configuration_of (listed_states stage_states l.stages) (local_held g.V.ResourceValue.kind_of l.world));
 }

@@ -8,5 +8,5 @@ use Rattle.shred.proofs.dispatch.dispatcher.set_up_stages.Given as goal
 abbrev pub invariant-loop-place : goal.invariant-loop-place
 invariant-loop-place g l = record {
   plan : map stage_plan l.stages ≡ map stage_plan l.initial.stages;
-  turns : TurnsSoFar (StageSetupAt g.S.System.sets_up) l.place l.initial.stages (world_held g.V.ResourceValue.kind_of l.initial.world) l.stages (world_held g.V.ResourceValue.kind_of l.world);
+  turns : TurnsSoFar (StageSetupAt g.X.Settles.sets_up) l.place l.initial.stages (world_held g.V.ResourceValue.kind_of l.initial.world) l.stages (world_held g.V.ResourceValue.kind_of l.world);
 }

@@ -9,5 +9,5 @@ abbrev pub invariant-loop-entry : goal.invariant-loop-entry
 invariant-loop-entry g l = record {
   all : l.yielded ++ into_iter_items l.entry-iterator ≡ into_iter_items l.initial.entry-iterator;
   long : into_iter_len l.entry-iterator ≡ length (into_iter_items l.entry-iterator);
-  turns : AllInTurn (λ place. EntryDisposal g.S.System.disposes) 0 l.yielded (world_held g.V.ResourceValue.kind_of l.initial.world) l.answer (world_held g.V.ResourceValue.kind_of l.world);
+  turns : AllInTurn (λ place. EntryDisposal g.X.Settles.disposes) 0 l.yielded (world_held g.V.ResourceValue.kind_of l.initial.world) l.answer (world_held g.V.ResourceValue.kind_of l.world);
 }

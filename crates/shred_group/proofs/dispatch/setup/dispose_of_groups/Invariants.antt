@@ -9,5 +9,5 @@ abbrev pub invariant-loop-group : goal.invariant-loop-group
 invariant-loop-group g l = record {
   all : l.yielded ++ into_iter_items l.group-iterator ≡ into_iter_items l.initial.group-iterator;
   long : into_iter_len l.group-iterator ≡ length (into_iter_items l.group-iterator);
-  turns : AllInTurn (λ place. GroupDisposal g.S.System.disposes) 0 l.yielded (world_held g.V.ResourceValue.kind_of l.initial.world) l.answer (world_held g.V.ResourceValue.kind_of l.world);
+  turns : AllInTurn (λ place. GroupDisposal g.X.Settles.disposes) 0 l.yielded (world_held g.V.ResourceValue.kind_of l.initial.world) l.answer (world_held g.V.ResourceValue.kind_of l.world);
 }

@@ -4,7 +4,7 @@ use Rattle.shred_stage.specs.Earlier.{ComesAfter}
 use Rattle.shred_stage.specs.Known.{known_ids, texts_of}
 use Rattle.shred_stage.specs.Names.{names_of}
 use Rattle.shred_stage.specs.Placement.{IsPlaced}
-use Rattle.shred_group.specs.PlanOf.{numbers_of}
+use Rattle.shred_group.specs.PlanOf.{entry_plan, numbers_of}
 use Rattle.shred.proofs.Names.Consistent.{entered-consistent, known-again, still-consistent}
 use Rattle.shred.proofs.Planner.Standing.{known-still, stands-after_all}
 use Rattle.shred.proofs.dispatch.builder.DispatcherBuilder.accept.Goals as goal
@@ -12,17 +12,15 @@ use Rattle.shred.proofs.dispatch.builder.DispatcherBuilder.accept.Goals as goal
 pub returns-clause-added : goal.returns-clause-added
 returns-clause-added g c =
     let old = c.args.self.now.stages in
-    let (entry, kept, placed, added, from_barrier, after) = c.in_default-insert.ensures.placed in
+    let is = c.in_default-insert_entry.ensures.inserted in
     let same : numbers_of c.as_slice.result.now ≡ known_ids (names_of c.args.self.now.names) (texts_of c.args.dependencies.now) = ap numbers_of c.as_slice.ensures.value ∙ c.in-Ok.ensures in
     record {
-      entry = entry;
-      kept = kept;
-      placed = subst (λ ids. IsPlaced (planned old) (barrier_of old) (barrier_of old) ids entry (planned c.insert.new.self)) same placed;
-      added = added;
-      from_barrier = from_barrier;
-      after = stands-after_all (planned old) (names_of c.args.self.now.names) (texts_of c.args.dependencies.now) added.place c.args.self.now.known_planned c.requires.all_known (subst (λ ids. ComesAfter (planned old) ids added.place) same after);
+      placed = subst (λ ids. IsPlaced (planned old) (barrier_of old) (barrier_of old) ids (entry_plan c.args.entry) (planned c.insert_entry.new.self)) same is.placed;
+      added = is.added;
+      from_barrier = is.from_barrier;
+      after = stands-after_all (planned old) (names_of c.args.self.now.names) (texts_of c.args.dependencies.now) is.added.place c.args.self.now.known_planned c.requires.allowed.all_known (subst (λ ids. ComesAfter (planned old) ids is.added.place) same is.after);
       known = c.in_default.ensures.ok;
-      barrier = c.insert.ensures.barrier;
+      barrier = c.insert_entry.ensures.barrier;
       next = refl;
       locals = refl;
       workers = refl;
@@ -30,20 +28,21 @@ returns-clause-added g c =
 
 pub invariant_of-self-2 : goal.invariant_of-self-2
 invariant_of-self-2 g c =
-    let (entry, kept, placed, added, from_barrier, after) = c.in_default-insert.ensures.placed in
+    let entry = entry_plan c.args.entry in
+    let added = c.in_default-insert_entry.ensures.inserted.added in
     record {
       distinct_names = c.enter.ensures.distinct c.args.self.now.distinct_names;
-      known_planned = known-still (planned c.args.self.now.stages) (planned c.insert.new.self) added.place entry (names_of c.args.self.now.names) (names_of c.enter.new.names) c.args.name.now c.args.self.now.next kept.same_id added.entry_is_new c.in_default.ensures.ok c.args.self.now.known_planned;
-      consistent = entered-consistent _ _ added.place entry c.args.name.now kept.same_id added.entry_is_new c.in_default.ensures.ok refl c.args.self.now.consistent;
+      known_planned = known-still (planned c.args.self.now.stages) (planned c.insert_entry.new.self) added.place entry (names_of c.args.self.now.names) (names_of c.enter.new.names) c.args.name.now c.args.self.now.next c.requires.id added.entry_is_new c.in_default.ensures.ok c.args.self.now.known_planned;
+      consistent = entered-consistent _ _ added.place entry c.args.name.now c.requires.id added.entry_is_new c.in_default.ensures.ok refl c.args.self.now.consistent;
     }
 
-pub invariant_of-self-in-Err-insert : goal.invariant_of-self-in-Err-insert
-invariant_of-self-in-Err-insert g c =
-    let same = known-again (names_of c.args.self.now.names) (names_of c.enter.new.names) (names_of c.forget.new.names) c.args.name.now c.args.self.now.next c.requires.is_new c.in_default.ensures.ok c.forget.ensures.forgotten in
+pub invariant_of-self-in-Err-insert_entry : goal.invariant_of-self-in-Err-insert_entry
+invariant_of-self-in-Err-insert_entry g c =
+    let same = known-again (names_of c.args.self.now.names) (names_of c.enter.new.names) (names_of c.forget.new.names) c.args.name.now c.args.self.now.next c.requires.allowed.is_new c.in_default.ensures.ok c.forget.ensures.forgotten in
     record {
       distinct_names = c.forget.ensures.distinct;
-      known_planned = λ name id e. rw c.in-Err-insert.ensures.err (c.args.self.now.known_planned name id (sym (same name) ∙ e));
-      consistent = still-consistent _ _ c.in-Err-insert.ensures.err same refl c.args.self.now.consistent;
+      known_planned = λ name id e. rw c.in-Err-insert_entry.ensures.err (c.args.self.now.known_planned name id (sym (same name) ∙ e));
+      consistent = still-consistent _ _ c.in-Err-insert_entry.ensures.err same refl c.args.self.now.consistent;
     }
 
 pub invariant_of-self : goal.invariant_of-self
@@ -55,12 +54,12 @@ invariant_of-self g c =
       consistent = still-consistent _ _ refl same refl c.args.self.now.consistent;
     }
 
-pub returns-in-Err-insert-clause-unchanged : goal.returns-in-Err-insert-clause-unchanged
-returns-in-Err-insert-clause-unchanged g c = record {
-  plan = c.in-Err-insert.ensures.err;
-  states = c.in-Err-insert.ensures.states;
-  known = known-again (names_of c.args.self.now.names) (names_of c.enter.new.names) (names_of c.forget.new.names) c.args.name.now c.args.self.now.next c.requires.is_new c.in_default.ensures.ok c.forget.ensures.forgotten;
-  barrier = c.insert.ensures.barrier;
+pub returns-in-Err-insert_entry-clause-unchanged : goal.returns-in-Err-insert_entry-clause-unchanged
+returns-in-Err-insert_entry-clause-unchanged g c = record {
+  plan = c.in-Err-insert_entry.ensures.err;
+  states = c.in-Err-insert_entry.ensures.states;
+  known = known-again (names_of c.args.self.now.names) (names_of c.enter.new.names) (names_of c.forget.new.names) c.args.name.now c.args.self.now.next c.requires.allowed.is_new c.in_default.ensures.ok c.forget.ensures.forgotten;
+  barrier = c.insert_entry.ensures.barrier;
   next = refl;
   locals = refl;
   workers = refl;

@@ -3,7 +3,6 @@ use Rattle.std.proofs.lemmas.List.{with_items_is}
 use Rattle.shred_model.specs.Beside.{AreApart}
 use Rattle.shred_model.specs.Plan.{group_access}
 use Rattle.shred_table.specs.Slots.{held}
-use Rattle.shred_group.specs.OwnLists.{declared_lists}
 use Rattle.shred_group.specs.PlanOf.{groups_plan}
 use Rattle.shred_group.specs.declared.dispatch.entry.Group.{Group}
 use Rattle.shred_group.specs.Turns.{TookTurn}
@@ -13,7 +12,7 @@ use Rattle.shred_stage.proofs.dispatch.stage.Stage.execute_seq_local.Goals as go
 
 pub turn_in_order-requires-clause-apart : goal.turn_in_order-requires-clause-apart
 turn_in_order-requires-clause-apart g c =
-    subst (λ (groups : List (Group g.row.V.Denot g.row.S.Denot)). AreApart group_access (groups_plan groups)) (sym c.as_mut_slice.ensures.value) c.args.self.now.apart
+    subst (λ (groups : List (Group g.row.V.Denot g.row.X.Denot)). AreApart group_access (groups_plan groups)) (sym c.as_mut_slice.ensures.value) c.args.self.now.apart
 
 pub invariant_of-self : goal.invariant_of-self
 invariant_of-self g c =
@@ -21,7 +20,7 @@ invariant_of-self g c =
     let same : length c.turn_in_order.new.groups ≡ old.groups.len = search rules in
     let took = rw c.as_mut_slice.ensures.value at c.turn_in_order.ensures in
     rw (with_items_is old.groups c.turn_in_order.new.groups same)
-    (stays g.S.System.reads g.S.System.writes c.turn_in_order.new.groups old.groups.items took.plan took.ids took.room took.own_lists
+    (stays g.X.Occupant.may_keep c.turn_in_order.new.groups old.groups.items took.plan took.ids took.room took.own_lists
     (record { some_group = old.some_group; small_groups = old.small_groups; apart = old.apart; keep_ids = old.keep_ids; keep_room = old.keep_room; own_lists = old.own_lists }))
 
 pub returns : goal.returns
@@ -30,6 +29,6 @@ returns g c =
     let old = c.args.self.now in
     let same : length c.turn_in_order.new.groups ≡ old.groups.len = search rules in
     let took = rw c.as_mut_slice.ensures.value at c.turn_in_order.ensures in
-    let whole = subst (λ groups. TookTurn kind g.S.System.step (declared_lists g.S.System.reads g.S.System.writes) old.groups.items (held kind c.table_of_local.result.now) c.turn_in_order.result groups (held kind c.turn_in_order.new.table))
+    let whole = subst (λ groups. TookTurn kind g.X.RunsInOrder.step g.X.Occupant.may_keep old.groups.items (held kind c.table_of_local.result.now) c.turn_in_order.result groups (held kind c.turn_in_order.new.table))
     (sym (with_items_is old.groups c.turn_in_order.new.groups same)) took in
-    rw c.table_of_local.ensures.shown at (turn-dispatched kind g.S.System.step g.S.System.reads g.S.System.writes _ _ _ _ c.turn_in_order.result whole)
+    rw c.table_of_local.ensures.shown at (turn-dispatched kind g.X.RunsInOrder.step g.X.Occupant.may_keep _ _ _ _ c.turn_in_order.result whole)

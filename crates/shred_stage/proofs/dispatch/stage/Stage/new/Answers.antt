@@ -14,5 +14,5 @@ returns-in-Ok-push-clause-added g c =
 pub invariant_of-result : goal.invariant_of-result
 invariant_of-result g c =
     let only : c.push.new.self.items ≡ c.in-Ok.group ∷ [] = search rules in
-    kept_alone g.S.System.reads g.S.System.writes c.in-Ok.group c.args.entry c.push.new.self.items only c.in-Ok.ensures.plan c.in-Ok.ensures.ids c.in-Ok.ensures.room
-    (own_alone g.S.System.reads g.S.System.writes c.in-Ok.group c.args.entry c.in-Ok.ensures.entries c.requires.own_lists)
+    kept_alone g.X.Occupant.may_keep c.in-Ok.group c.args.entry c.push.new.self.items only c.in-Ok.ensures.plan c.in-Ok.ensures.ids c.in-Ok.ensures.room
+    (own_alone g.X.Occupant.may_keep c.in-Ok.group c.args.entry c.in-Ok.ensures.entries c.requires.own_lists)

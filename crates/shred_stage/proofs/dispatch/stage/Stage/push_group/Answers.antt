@@ -12,9 +12,9 @@ use Rattle.shred_stage.proofs.dispatch.stage.Stage.push_group.Goals.{in-Ok-push,
 pub invariant_of-self : goal.invariant_of-self
 invariant_of-self g c =
     let old = c.args.self.now in
-    let before : IsKeptBy g.S.System.reads g.S.System.writes old.groups.items = record { some_group = old.some_group; small_groups = old.small_groups; apart = old.apart; keep_ids = old.keep_ids; keep_room = old.keep_room; own_lists = old.own_lists } in
-    holds_after_push (IsKeptBy g.S.System.reads g.S.System.writes) (is_ok c.push.result) old.groups.items c.in-Ok.group c.push.new.self.items c.push.ensures.items before
-    (kept_after_group g.S.System.reads g.S.System.writes old.groups.items c.in-Ok.group c.args.entry before c.in-Ok.ensures.plan c.in-Ok.ensures.ids c.in-Ok.ensures.room (own_alone g.S.System.reads g.S.System.writes c.in-Ok.group c.args.entry c.in-Ok.ensures.entries c.requires.own_lists) c.requires.free)
+    let before : IsKeptBy g.X.Occupant.may_keep old.groups.items = record { some_group = old.some_group; small_groups = old.small_groups; apart = old.apart; keep_ids = old.keep_ids; keep_room = old.keep_room; own_lists = old.own_lists } in
+    holds_after_push (IsKeptBy g.X.Occupant.may_keep) (is_ok c.push.result) old.groups.items c.in-Ok.group c.push.new.self.items c.push.ensures.items before
+    (kept_after_group g.X.Occupant.may_keep old.groups.items c.in-Ok.group c.args.entry before c.in-Ok.ensures.plan c.in-Ok.ensures.ids c.in-Ok.ensures.room (own_alone g.X.Occupant.may_keep c.in-Ok.group c.args.entry c.in-Ok.ensures.entries c.requires.own_lists) c.requires.free)
 
 pub returns-after-push-clause-added : goal.returns-after-push-clause-added
 returns-after-push-clause-added g c =

@@ -9,5 +9,5 @@ invariant_of-self g c =
     let same : length c.set_up_groups.new.groups ≡ old.groups.len = search rules in
     let set = rw c.as_mut_slice.ensures.value at c.set_up_groups.ensures in
     rw (with_items_is old.groups c.set_up_groups.new.groups same)
-    (stays g.S.System.reads g.S.System.writes c.set_up_groups.new.groups old.groups.items set.plan set.ids set.room set.own_lists
+    (stays g.X.Occupant.may_keep c.set_up_groups.new.groups old.groups.items set.plan set.ids set.room set.own_lists
     (record { some_group = old.some_group; small_groups = old.small_groups; apart = old.apart; keep_ids = old.keep_ids; keep_room = old.keep_room; own_lists = old.own_lists }))

@@ -1,0 +1,35 @@
+use Rattle.std.proofs.Common.{◌≡◌, List, length, sym, subst, rules}
+use Rattle.std.proofs.lemmas.List.{with_items_is}
+use Rattle.shred_model.specs.Beside.{AreApart}
+use Rattle.shred_model.specs.Plan.{group_access}
+use Rattle.shred_table.specs.Slots.{held}
+use Rattle.shred_group.specs.OwnLists.{declared_lists}
+use Rattle.shred_group.specs.PlanOf.{groups_plan}
+use Rattle.shred_group.specs.declared.dispatch.entry.Group.{Group}
+use Rattle.shred_group.specs.Turns.{TookTurn}
+use Rattle.shred_stage.proofs.Planner.StageStays.{stays}
+use Rattle.shred_stage.proofs.Runs.Dispatched.{turn-dispatched}
+use Rattle.shred_stage.proofs.dispatch.stage.Stage+V+S+NoBatch.execute_local.Goals as goal
+
+pub turn_beside-requires-clause-apart : goal.turn_beside-requires-clause-apart
+turn_beside-requires-clause-apart g c κs within =
+    subst (λ (groups : List (Group g.row.V.Denot g.row.S.Denot)). AreApart group_access (groups_plan groups)) (sym c.as_mut_slice.ensures.value) c.args.self.now.apart
+
+pub invariant_of-self : goal.invariant_of-self
+invariant_of-self g c =
+    let old = c.args.self.now in
+    let same : length c.turn_beside.new.groups ≡ old.groups.len = search rules in
+    let took = rw c.as_mut_slice.ensures.value at c.turn_beside.ensures in
+    rw (with_items_is old.groups c.turn_beside.new.groups same)
+    (stays (declared_lists g.S.System.reads g.S.System.writes) c.turn_beside.new.groups old.groups.items took.plan took.ids took.room took.own_lists
+    (record { some_group = old.some_group; small_groups = old.small_groups; apart = old.apart; keep_ids = old.keep_ids; keep_room = old.keep_room; own_lists = old.own_lists }))
+
+pub returns : goal.returns
+returns g c =
+    let kind = g.V.ResourceValue.kind_of in
+    let old = c.args.self.now in
+    let same : length c.turn_beside.new.groups ≡ old.groups.len = search rules in
+    let took = rw c.as_mut_slice.ensures.value at c.turn_beside.ensures in
+    let whole = subst (λ groups. TookTurn kind g.S.System.step (declared_lists g.S.System.reads g.S.System.writes) old.groups.items (held kind c.table_of_local.result.now) c.turn_beside.result groups (held kind c.turn_beside.new.table))
+    (sym (with_items_is old.groups c.turn_beside.new.groups same)) took in
+    rw c.table_of_local.ensures.shown at (turn-dispatched kind g.S.System.step (declared_lists g.S.System.reads g.S.System.writes) _ _ _ _ c.turn_beside.result whole)

@@ -1,0 +1,28 @@
+//! How a call ended, as a value that can be compared.
+
+use shred::{DispatchError, Fault};
+
+/// What ended it, which one, and its code.
+pub(crate) type Ended = (&'static str, usize, u8);
+
+pub(crate) const DONE: Ended = ("done", 0, 0);
+
+/// The code where memory was refused. Nothing in these tests refuses with it.
+const NO_MEMORY: u8 = 255;
+
+fn code_of(fault: Fault<u8>) -> u8 {
+    match fault {
+        Fault::Refused(code) => code,
+        Fault::OutOfMemory => NO_MEMORY,
+    }
+}
+
+/// How a dispatcher's call ended.
+pub(crate) fn ended(answer: Result<(), DispatchError<u8>>) -> Ended {
+    match answer {
+        Ok(()) => DONE,
+        Err(DispatchError::System { id, fault }) => ("system", id.0, code_of(fault)),
+        Err(DispatchError::ThreadLocal { index, fault }) => ("thread-local", index, code_of(fault)),
+        Err(DispatchError::StageMemory { stage }) => ("memory of stage", stage, NO_MEMORY),
+    }
+}

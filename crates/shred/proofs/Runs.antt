@@ -1,3 +1,4 @@
 -- Runs of plans.
 pub mod Dispatched
 pub mod PlanTurns
+pub mod AtEveryDepth

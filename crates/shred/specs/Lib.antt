@@ -6,3 +6,4 @@ pub mod SystemNames
 pub mod FullRuns
 pub mod Setups
 pub mod Batches
+pub mod AtEveryDepth

@@ -1,4 +1,4 @@
--- What a run over batches is, of a stage and of a plan with all that nests in it, and what it leaves. No call promises it yet.
+-- What a run over batches is, of a stage and of a plan with all that nests in it, and what it leaves. The dispatches of plans with batches promise it.
 --
 -- Before a run there are a plan, what stands in its entries, and, inside each batch, what stands in the entries of its inner plan; the states of all systems and of all controllers; and what a world holds. After it there are an answer and all these again.
 --

@@ -8,6 +8,7 @@ ghost use Rattle.shred_stage.specs.Dispatched.{Dispatched, stages_with};
 ghost use Rattle.shred_stage.specs.Known.{texts_of};
 ghost use Rattle.shred_works.specs.OwnDepth.{OwnStep};
 ghost use Rattle.shred_world.specs.Worlds.{local_held, world_held};
+ghost use Rattle.shred.specs.AtEveryDepth.{FullyLeavesAtEveryDepth, LeavesAtEveryDepth, RunsAtEveryDepth, nested_over, nested_whole_over, nested_whole_with};
 ghost use Rattle.shred.specs.Batches.{IsBatchAddition};
 ghost use Rattle.shred.specs.Built.{IsAddition, IsSameBuilt};
 ghost use Rattle.shred.specs.Dispatchers.{dispatcher_locals, dispatcher_over, dispatcher_workers};
@@ -122,6 +123,24 @@ impl<
     }
 }
 
+impl<
+    V: ResourceValue + Drop,
+    S: System<V, Error = E>,
+    C: BatchController<V, Error = E>,
+    L,
+    E: Drop,
+> Dispatcher<V, Work<S, Nested<V, S, C>>, Batched<C>, L> {
+    /// As of a plan of systems alone. Inner plans run on the caller's thread too.
+    pub fn dispatch_seq(&mut self, world: &mut World<V>) -> Result<(), DispatchError<E>>
+        ensures dispatched { Dispatched V.kind_of (PlanRun V.kind_of (OwnStep V.kind_of (record { steps = S.step; begins = C.begins; asks = C.asks }))) (dispatcher_over V.kind_of self.old world.old) result (dispatcher_over V.kind_of self.new world.new) }
+        ensures at_every_depth { LeavesAtEveryDepth V.kind_of (record { steps = S.step; begins = C.begins; asks = C.asks }) (nested_over V.kind_of self.old world.old) result (nested_over V.kind_of self.new world.new) }
+        ensures locals { dispatcher_locals self.new ≡ dispatcher_locals self.old }
+        ensures workers { dispatcher_workers self.new ≡ dispatcher_workers self.old }
+    {
+        self.dispatch_in_order(world)
+    }
+}
+
 // The stages' runs, in order, up to the first that is not Done, the groups of each on at most that many threads.
 fn fork_stages<
     R: Threads + Sync,
@@ -166,6 +185,7 @@ where
         world: &mut World<V>,
     ) -> Result<(), DispatchError<E>>
         ensures dispatched { Dispatched V.kind_of (PlanRun V.kind_of (OwnStep V.kind_of (record { steps = S.step; begins = C.begins; asks = C.asks }))) (dispatcher_over V.kind_of self.old world.old) result (dispatcher_over V.kind_of self.new world.new) }
+        ensures at_every_depth { LeavesAtEveryDepth V.kind_of (record { steps = S.step; begins = C.begins; asks = C.asks }) (nested_over V.kind_of self.old world.old) result (nested_over V.kind_of self.new world.new) }
         ensures locals { dispatcher_locals self.new ≡ dispatcher_locals self.old }
         ensures workers { dispatcher_workers self.new ≡ dispatcher_workers self.old }
     {
@@ -206,6 +226,7 @@ where
         world: &mut World<V>,
     ) -> Result<(), DispatchError<E>>
         ensures dispatched { FullyDispatched V.kind_of (PlanRun V.kind_of (OwnStep V.kind_of (record { steps = S.step; begins = C.begins; asks = C.asks }))) L.runs (whole_over V.kind_of self.old world.old) result (whole_over V.kind_of self.new world.new) }
+        ensures at_every_depth { FullyLeavesAtEveryDepth V.kind_of (record { steps = S.step; begins = C.begins; asks = C.asks }) L.runs (nested_whole_over V.kind_of self.old world.old) result (nested_whole_over V.kind_of self.new world.new) }
         ensures kinds { KeepsKinds V.kind_of (world_held V.kind_of world.old) (world_held V.kind_of world.new) }
     {
         self.dispatch_local(rt, world.local())
@@ -219,6 +240,7 @@ where
         world: &mut LocalWorld<V>,
     ) -> Result<(), Fault<DispatchError<E>>>
         ensures run { RunsNow V.kind_of (PlanRun V.kind_of (OwnStep V.kind_of (record { steps = S.step; begins = C.begins; asks = C.asks }))) L.runs (whole_with self.old (local_held V.kind_of world.old)) result (whole_with self.new (local_held V.kind_of world.new)) }
+        ensures at_every_depth { RunsAtEveryDepth V.kind_of (record { steps = S.step; begins = C.begins; asks = C.asks }) L.runs (nested_whole_with self.old (local_held V.kind_of world.old)) result (nested_whole_with self.new (local_held V.kind_of world.new)) }
         ensures kinds { KeepsKinds V.kind_of (local_held V.kind_of world.old) (local_held V.kind_of world.new) }
     {
         as_run(self.dispatch_local(rt, world))

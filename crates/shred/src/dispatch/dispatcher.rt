@@ -214,14 +214,25 @@ impl<V: ResourceValue + Drop, X: RunsInOrder<C, V, Error = E>, C, L, E: Drop> Di
     C,
     L,
 > {
-    /// Runs the stages, one after the other, up to the first that is not Done, on the caller's thread. A stage whose
-    /// memory is refused is told as `StageMemory`; it has not begun, and those before it are done.
-    pub fn dispatch_seq(&mut self, world: &mut World<V>) -> Result<(), DispatchError<E>>
+    // `dispatch_seq`, of any plan.
+    pub(crate) fn dispatch_in_order(&mut self, world: &mut World<V>) -> Result<(), DispatchError<E>>
         ensures dispatched { Dispatched V.kind_of (PlanRun V.kind_of X.step) (dispatcher_over V.kind_of self.old world.old) result (dispatcher_over V.kind_of self.new world.new) }
         ensures locals { dispatcher_locals self.new ≡ dispatcher_locals self.old }
         ensures workers { dispatcher_workers self.new ≡ dispatcher_workers self.old }
     {
         run_stages(self.stages.as_mut_slice(), world.local())
+    }
+}
+
+impl<V: ResourceValue + Drop, S: System<V, Error = E>, L, E: Drop> Dispatcher<V, S, NoBatch, L> {
+    /// Runs the stages, one after the other, up to the first that is not Done, on the caller's thread. A stage whose
+    /// memory is refused is told as `StageMemory`; it has not begun, and those before it are done.
+    pub fn dispatch_seq(&mut self, world: &mut World<V>) -> Result<(), DispatchError<E>>
+        ensures dispatched { Dispatched V.kind_of (PlanRun V.kind_of S.step) (dispatcher_over V.kind_of self.old world.old) result (dispatcher_over V.kind_of self.new world.new) }
+        ensures locals { dispatcher_locals self.new ≡ dispatcher_locals self.old }
+        ensures workers { dispatcher_workers self.new ≡ dispatcher_workers self.old }
+    {
+        self.dispatch_in_order(world)
     }
 }
 

@@ -1,6 +1,6 @@
 use Rattle.std.proofs.Common.{◌≡◌, length, rules}
 use Rattle.std.proofs.lemmas.List.{with_items_is}
-use Rattle.shred.proofs.dispatch.dispatcher.Dispatcher.dispatch_seq.Goals as goal
+use Rattle.shred.proofs.dispatch.dispatcher.Dispatcher.dispatch_in_order.Goals as goal
 
 pub returns-clause-dispatched : goal.returns-clause-dispatched
 returns-clause-dispatched g c =

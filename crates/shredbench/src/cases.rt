@@ -17,6 +17,17 @@ const REFUSED_BESIDE: &str =
 const REFUSED_BESIDE_SEQ: &str =
     "res A 0\nres B 0\nsys L very-long - B+=5\nsys f very-short - A+=1 refuse:7\nsys x very-short - A+=1\nsys z average - B+=100\nlocal A+=1000\nmode seq\n";
 
+/// A batch that runs its plan three times, between a system that opens and one that closes.
+const BATCH_OF_PURCHASES: &str =
+    "res potatoes 50\nres tomatoes 50\nres cents 2000\nres open 0\nsys opener average - open=1\nbatch buy - 3\nsys t average - ?open tomatoes+=-1 cents+=-150\nsys p average - ?open potatoes+=-1 cents+=-50\nend\nsys closer average - open=0\ntimes 10\n";
+
+/// A batch in a batch.
+const NESTED_BATCHES: &str =
+    "res N 0\nbatch outer - 2\nsys a average - N+=1\nbatch inner - 3\nsys b average - N+=10\nend\nend\ntimes 2\n";
+
+const NESTED_REFUSAL: &str =
+    "res N 0\nbatch outer - 2\nsys a average - N+=1\nbatch inner - 3\nsys b average - N+=10 refuse:4\nend\nend\ntimes 2\n";
+
 /// The cases, in the order in which they are run.
 pub(crate) const CASES: &[Case] = &[
     Case {
@@ -74,5 +85,26 @@ pub(crate) const CASES: &[Case] = &[
         stdout: "",
         stderr: "line 1: no such resource\n",
         status: 1,
+    },
+    Case {
+        name: "S3",
+        script: BATCH_OF_PURCHASES,
+        stdout: "potatoes=20\ntomatoes=20\ncents=-4000\nopen=0\nok\n",
+        stderr: "",
+        status: 0,
+    },
+    Case {
+        name: "N1",
+        script: NESTED_BATCHES,
+        stdout: "N=124\nok\n",
+        stderr: "",
+        status: 0,
+    },
+    Case {
+        name: "N2",
+        script: NESTED_REFUSAL,
+        stdout: "N=11\nsystem 0 refused 4\n",
+        stderr: "",
+        status: 2,
     },
 ];

@@ -4,21 +4,19 @@ use Rattle.std.proofs.Math.Path.{fun_ext}
 use Rattle.indexmap.specs.IndexMap.{values}
 use Rattle.shred_model.specs.Record.{Agent}
 use Rattle.shred_table.specs.declared.id.ResourceId.{ResourceId}
-use Rattle.shredscript.specs.declared.local.ScriptLocal.{ScriptLocal}
-use Rattle.shred.specs.Built.{Built}
+use Rattle.shredscript.specs.Lines.{ScriptBuilt}
 use Rattle.shred_stage.specs.Names.{AreNames, NamedId}
 use Rattle.std.specs.Prelude.{IfOk, Result, Ok, Err}
 use Rattle.shredscript.specs.declared.error.ScriptError.{ScriptError}
 use Rattle.shredscript.specs.declared.error.ScriptError.TheVariants.{TooLong, InputFailed, Line, Refused, Unnamed, OutOfMemory, OutputFailed}
 use Rattle.shredscript.specs.declared.outcome.Outcome.{Outcome}
 use Rattle.shredscript.specs.declared.script.Script.{Script}
-use Rattle.shredscript.specs.declared.system.ScriptSystem.{ScriptSystem}
 use Rattle.shredscript.specs.PlanTexts.{IsNotPlanned, IsPlanPart}
 use Rattle.shredscript.specs.Report.{first_held, resource_names}
 use Rattle.shredscript.specs.Runs.{IsDispatch, IsMadeOf, IsNotRun, IsRunOf, Program, program_of}
 
 -- the dispatcher has the plan and the systems that were built, and the world has the first values
-pub run-of : (script : Script) (built : Built ScriptSystem ScriptLocal) (names : List NamedId) (begins : List ℕ) (start : Program) → IsMadeOf script built
+pub run-of : (script : Script) (built : ScriptBuilt) (names : List NamedId) (begins : List ℕ) (start : Program) → IsMadeOf script built
     → AreNames names built.known → IsPlanPart script.prints_plan names built.plan begins → start.staged.plan ≡ built.plan → ((path : Agent) → start.staged.states path ≡ built.states path)
     → ((id : ResourceId) → start.staged.values id ≡ first_held (values script.resources) id) → start.locals ≡ built.locals → start.workers ≡ built.workers
     → (outcome : Outcome) (text : List ℕ) → IsDispatch start script.manner.times (resource_names script.resources) begins outcome text → IsRunOf script outcome text
@@ -43,7 +41,7 @@ ok-then (Ok x) P Q more h = more x h
 ok-then (Err e) P Q more h = tt
 
 -- the plan was not made, which is asked for where it can fail
-pub not-run : (script : Script) (built : Built ScriptSystem ScriptLocal) (names : List NamedId) (asked : Bool) (error : ScriptError) → script.prints_plan ≡ asked → IsMadeOf script built → AreNames names built.known
+pub not-run : (script : Script) (built : ScriptBuilt) (names : List NamedId) (asked : Bool) (error : ScriptError) → script.prints_plan ≡ asked → IsMadeOf script built → AreNames names built.known
     → IsNotPlanned asked names built.plan error → IsNotRun script error
 not-run script built names true (Unnamed id) is made known why = record { asked = is; built = built; made = made; names = names; known = known; first = why }
 not-run script built names true OutOfMemory is made known why = tt

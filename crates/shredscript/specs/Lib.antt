@@ -14,3 +14,4 @@ pub mod Report
 pub mod Lines
 pub mod PlanTexts
 pub mod Runs
+pub mod Building

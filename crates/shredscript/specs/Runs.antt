@@ -1,5 +1,5 @@
 -- Runs of scripts.
-use Rattle.std.specs.Prelude.{◌≡◌, ℕ, zero, suc, ◌≤◌, true, List, ◌++◌, length, Option, Some, Result, Ok, Err, OnOk, IfErr, MatchResult}
+use Rattle.std.specs.Prelude.{◌≡◌, ℕ, zero, suc, ◌≤◌, Bool, true, None, List, ◌++◌, length, Option, Some, Result, Ok, Err, OnOk, IfErr, MatchResult}
 use Rattle.std.specs.Io.KnownBytes.{Appends, Consumes, IsAtEnd, Keeps}
 use Rattle.indexmap.specs.IndexMap.{values}
 use Rattle.shred_model.specs.Plan.{Plan, plan_ids}
@@ -7,12 +7,16 @@ use Rattle.shred_model.specs.Runs.{Answer}
 use Rattle.shred_table.specs.declared.id.ResourceId.{ResourceId}
 use Rattle.shred_world.specs.Worked.{Held}
 use Rattle.shredscript.specs.declared.local.ScriptLocal.{ScriptLocal}
-use Rattle.shred.specs.Built.{Built, IsPoolSet}
+use Rattle.shred.specs.Built.{IsPoolSet}
 use Rattle.shred_stage.specs.Names.{AreNames, NamedId, first_unnamed}
 use Rattle.shred.specs.FullRuns.{FullyDispatched, Whole}
 use Rattle.shred.specs.PlanRuns.{PlanRun}
 use Rattle.shred_stage.specs.Sinks.{AppendsBeginning}
 use Rattle.shred_group.specs.Steps.{Outcome as Ends}
+use Rattle.shred_batch.specs.Controls.{Control}
+use Rattle.shred_model.specs.Record.{Agent}
+use Rattle.shred_works.specs.OwnDepth.{OwnStep}
+use Rattle.shred_works.specs.Setups.{OwnSetup}
 use Rattle.shred_local.specs.declared.dispatch_error.DispatchError.{DispatchError}
 use Rattle.shredscript.specs.declared.error.ScriptError.{ScriptError}
 use Rattle.shredscript.specs.declared.error.ScriptError.TheVariants.{TooLong, InputFailed, Line, Refused, Unnamed, OutOfMemory, OutputFailed}
@@ -20,11 +24,12 @@ use Rattle.shredscript.specs.declared.input.TheConstants.{MOST_BYTES}
 use Rattle.shredscript.specs.declared.outcome.Outcome.{Outcome}
 use Rattle.shredscript.specs.declared.outcome.Refusal.{Refusal}
 use Rattle.shredscript.specs.declared.script.Script.{Script}
+use Rattle.shredscript.specs.declared.batch.ScriptBatch.{ScriptBatch}
 use Rattle.shredscript.specs.declared.system.ScriptSystem.{ScriptSystem}
 use Rattle.shredscript.specs.declared.value.Value.{Value}
 use Rattle.shredscript.specs.Endings.{outcome_of, status_of}
 use Rattle.shredscript.specs.Input.{IsLongerThan}
-use Rattle.shredscript.specs.Lines.{IsBuiltBy, IsStopped}
+use Rattle.shredscript.specs.Lines.{IsBuiltBy, IsNotBuilt, ScriptBuilt, ScriptWork}
 use Rattle.shredscript.specs.PlanTexts.{IsPlanPart}
 use Rattle.shredscript.specs.Report.{first_held, resource_names, report}
 use Rattle.shredscript.specs.Steps.{steps_left, steps_outcome}
@@ -39,13 +44,40 @@ script_step before seen outcome after left = (after ≡ before) × (outcome ≡ 
 abbrev pub local_step : ScriptLocal → Held Value → Ends Refusal → ScriptLocal → Held Value → Type 0
 local_step before held outcome after left = (after ≡ before) × (outcome ≡ steps_outcome before.steps.items held) × (left ≡ steps_left before.steps.items held)
 
--- a plan of a script's systems, with these and its thread-local ones, and the values of a world
+-- what a script's batch begins with: so many rounds, and it stays as it was
+abbrev pub batch_begins : Control Value ScriptBatch ℕ Refusal
+batch_begins before seen outcome after left = (after ≡ before) × (outcome ≡ Ok before.rounds) × (left ≡ seen)
+
+-- what a script's batch says before each round: yes, and it stays as it was
+abbrev pub batch_asks : Control Value ScriptBatch Bool Refusal
+batch_asks before seen outcome after left = (after ≡ before) × (outcome ≡ Ok true) × (left ≡ seen)
+
+-- what a step of what stands in an entry of a script's plan does: of a system its steps, of a batch so many rounds of its plan
+abbrev pub work_step : ScriptWork → Held Value → Ends Refusal → ScriptWork → Held Value → Type 0
+work_step = OwnStep kind_of (record { steps = script_step; begins = batch_begins; asks = batch_asks })
+
+-- the setup of a script's system, or of its batch's controller: nothing changes
+abbrev pub IsIdle : {S : Type 0} → S → Held Value → Ends Refusal → S → Held Value → Type 0
+IsIdle before seen outcome after left = (after ≡ before) × (outcome ≡ Ok tt) × (left ≡ seen)
+
+-- what stood in an entry was set up, over some values, which stay
+abbrev pub WasSetUp : ScriptWork → ScriptWork → Type 0
+WasSetUp old new = (held : Held Value) × OwnSetup IsIdle IsIdle old held (Ok tt) new held
+
+-- there is something before and after, which are so related, or there is nothing
+abbrev pub AtBoth : {X : Type 0} → (X → X → Type 0) → Option X → Option X → Type 0
+AtBoth R None None = Unit {0}
+AtBoth R (Some old) (Some new) = R old new
+AtBoth R None (Some new) = ⊥
+AtBoth R (Some old) None = ⊥
+
+-- a plan of a script's systems and batches, with these and its thread-local systems, and the values of a world
 abbrev pub Program : Type 0
-Program = Whole (Plan ResourceId) Value ScriptSystem ScriptLocal
+Program = Whole (Plan ResourceId) Value ScriptWork ScriptLocal
 
 -- one dispatch: the plan's run, and where it is Done, that of the thread-local systems
 abbrev pub IsOnce : Program → Answer (DispatchError Refusal) → Program → Type 0
-IsOnce before answer after = FullyDispatched kind_of (PlanRun kind_of script_step) local_step before answer after
+IsOnce before answer after = FullyDispatched kind_of (PlanRun kind_of work_step) local_step before answer after
 
 -- that many dispatches, one after another, up to the first that is not Done, whose answer is the answer; it is Done where there is none
 abbrev pub AreDispatched : ℕ → Program → Answer (DispatchError Refusal) → Program → Type 0
@@ -55,25 +87,37 @@ AreDispatched (suc n) before answer after = (a : Answer (DispatchError Refusal))
     (λ done. AreDispatched n middle answer after)
     (λ fault. (after ≡ middle) × (answer ≡ Err fault))
 
--- The program is dispatched that many times, and the text goes on with what this left and how it ended.
+-- What stands in the plan was set up, and all else is as before, the values too.
+pub record IsSetUpFrom (before after : Program) : Type 0 where
+  pub plan : after.staged.plan ≡ before.staged.plan
+  pub states : (path : Agent) → AtBoth WasSetUp (before.staged.states path) (after.staged.states path)
+  pub values : after.staged.values ≡ before.staged.values
+  pub locals : after.locals ≡ before.locals
+  pub workers : after.workers ≡ before.workers
+
+-- the program is set up, and then dispatched that many times
+abbrev pub AreSetUpAndDispatched : ℕ → Program → Answer (DispatchError Refusal) → Program → Type 0
+AreSetUpAndDispatched times before answer after = (ready : Program) × IsSetUpFrom before ready × AreDispatched times ready answer after
+
+-- The program is set up and dispatched that many times, and the text goes on with what this left and how it ended.
 pub record IsDispatch (before : Program) (times : ℕ) (resources : List (List ℕ)) (begins : List ℕ) (outcome : Outcome) (text : List ℕ) : Type 0 where
   pub answer : Answer (DispatchError Refusal)
   pub after : Program
-  pub ran : AreDispatched times before answer after
+  pub ran : AreSetUpAndDispatched times before answer after
   pub outcome_is : outcome ≡ outcome_of answer
   pub text_is : text ≡ begins ++ report resources after.staged.values outcome
 
 -- what a script's lines make of an empty builder, on as many threads as it asks for
-abbrev pub IsMadeOf : Script → Built ScriptSystem ScriptLocal → Type 0
-IsMadeOf script built = (lines : Built ScriptSystem ScriptLocal) × IsBuiltBy script.plan.items lines × IsPoolSet lines built script.manner.workers
+abbrev pub IsMadeOf : Script → ScriptBuilt → Type 0
+IsMadeOf script built = (lines : ScriptBuilt) × IsBuiltBy script.plan.items lines × IsPoolSet lines built script.manner.workers
 
 -- what was built, over these values
-abbrev pub program_of : Built ScriptSystem ScriptLocal → Held Value → Program
+abbrev pub program_of : ScriptBuilt → Held Value → Program
 program_of built held = record { staged = record { plan = built.plan; states = built.states; values = held }; locals = built.locals; workers = built.workers }
 
--- A script is run: its lines make a plan, which is printed where it is asked for, and which is dispatched, from the first values on, as often as asked.
+-- A script is run: its lines make a plan, which is printed where it is asked for, and which is set up and dispatched, from the first values on, as often as asked.
 pub record IsRunOf (script : Script) (outcome : Outcome) (text : List ℕ) : Type 0 where
-  pub built : Built ScriptSystem ScriptLocal
+  pub built : ScriptBuilt
   pub made : IsMadeOf script built
   pub names : List NamedId
   pub known : AreNames names built.known
@@ -84,20 +128,20 @@ pub record IsRunOf (script : Script) (outcome : Outcome) (text : List ℕ) : Typ
 -- A script is not run, since its plan is asked for and a system has no name, of which the first in the plan's order has this id.
 pub record IsUnnamed (script : Script) (id : ℕ) : Type 0 where
   pub asked : script.prints_plan ≡ true
-  pub built : Built ScriptSystem ScriptLocal
+  pub built : ScriptBuilt
   pub made : IsMadeOf script built
   pub names : List NamedId
   pub known : AreNames names built.known
   pub first : Some id ≡ first_unnamed names (plan_ids built.plan)
 
--- why a script that was read is not run: one of its lines is refused, a system has no name to be printed, or memory is refused
+-- why a script that was read is not run: one of its lines is refused, a batch has no end or an end no batch, a system has no name to be printed, or memory is refused
 abbrev pub IsNotRun : Script → ScriptError → Type 0
-IsNotRun script (Refused number refusal) = IsStopped script.plan.items (Refused number refusal)
+IsNotRun script (Refused number refusal) = IsNotBuilt script.plan.items (Refused number refusal)
 IsNotRun script (Unnamed id) = IsUnnamed script id
 IsNotRun script OutOfMemory = Unit {0}
 IsNotRun script TooLong = ⊥
 IsNotRun script InputFailed = ⊥
-IsNotRun script (Line number fault) = ⊥
+IsNotRun script (Line number fault) = IsNotBuilt script.plan.items (Line number fault)
 IsNotRun script OutputFailed = ⊥
 
 -- the text of an outcome's run was added

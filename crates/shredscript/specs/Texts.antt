@@ -4,7 +4,7 @@ use Rattle.std.specs.Fmt.{decimal, signed_decimal}
 use Rattle.shredscript.specs.declared.error.AddRefusal.{AddRefusal}
 use Rattle.shredscript.specs.declared.error.AddRefusal.TheVariants.{NoSuchSystem, NameTaken, IdsExhausted, ThreadLocalInBatch}
 use Rattle.shredscript.specs.declared.error.LineFault.{LineFault}
-use Rattle.shredscript.specs.declared.error.LineFault.TheVariants.{UnknownLine, BadWord, NoSuchResource, ResourceTwice}
+use Rattle.shredscript.specs.declared.error.LineFault.TheVariants.{UnknownLine, BadWord, NoSuchResource, ResourceTwice, NotInBatch, EndWithoutBatch, BatchWithoutEnd, BatchTooDeep}
 use Rattle.shredscript.specs.declared.error.ScriptError.{ScriptError}
 use Rattle.shredscript.specs.declared.error.ScriptError.TheVariants.{TooLong, InputFailed, Line, Refused as refused_line, Unnamed, OutOfMemory as NoMemory, OutputFailed}
 use Rattle.shredscript.specs.declared.outcome.Failure.{Failure}
@@ -50,6 +50,10 @@ fault_text UnknownLine = codes "unknown line"
 fault_text BadWord = codes "bad word"
 fault_text NoSuchResource = codes "no such resource"
 fault_text ResourceTwice = codes "resource twice"
+fault_text NotInBatch = codes "not in a batch"
+fault_text EndWithoutBatch = codes "end without batch"
+fault_text BatchWithoutEnd = codes "batch without end"
+fault_text BatchTooDeep = codes "batch too deep"
 
 -- why the system of a line is not added to the plan
 abbrev pub refused_add_text : AddRefusal → List ℕ

@@ -1,19 +1,45 @@
 //! The plan that a script's lines make.
-ghost use Rattle.std.specs.Prelude.{◌≡◌, OnOk, IfOk, IfErr};
+ghost use Rattle.std.specs.Prelude.{◌≡◌, OnOk, IfOk, IfErr, map};
 ghost use Rattle.shred.specs.Builders.{built};
-ghost use Rattle.shredscript.specs.Lines.{IsLineAdded, IsBuiltBy, IsLocalTaken, IsNotAdded, IsNotTaken, IsStopped, IsLineTaken};
+ghost use Rattle.shredscript.specs.Building.{state_of};
+ghost use Rattle.shredscript.specs.Lines.{IsBatchOpened, IsBatchEnded, IsBatchNotEnded, IsBuiltBy, IsLineAdded, IsLineTaken, IsLocalTaken, IsNotAdded, IsNotBuilt, IsNotTaken};
 
-use crate::error::ScriptError;
+use crate::batch::ScriptBatch;
+use crate::error::{LineFault, ScriptError};
 use crate::local::ScriptLocal;
-use crate::script::{PlanLine, SystemLine};
+use crate::script::{BatchLine, PlanLine, SystemLine};
 use crate::step::Step;
 use crate::system::ScriptSystem;
 use crate::value::Value;
-use shred::{DispatcherBuilder, NoBatch};
+use shred::{Batched, DispatcherBuilder, WithBatches};
+use shred_group::dispatch::entry::push_or_drop;
 use std::alloc::Global;
+use std::mem;
 
-/// A builder of plans of a script's systems.
-pub(crate) type ScriptBuilder = DispatcherBuilder<Value, ScriptSystem, NoBatch, ScriptLocal>;
+/// What stands in an entry of a script's plan.
+pub(crate) type ScriptEntry = WithBatches<Value, ScriptSystem, ScriptBatch>;
+
+/// A builder of plans of a script's systems and batches.
+pub(crate) type ScriptBuilder = DispatcherBuilder<
+    Value,
+    ScriptEntry,
+    Batched<ScriptBatch>,
+    ScriptLocal,
+>;
+
+/// A batch that no line has ended yet, and the builder that is to take it.
+#[derive(Drop)]
+struct Open<'text> {
+    outer: ScriptBuilder,
+    batch: BatchLine<'text>,
+}
+
+/// The builder that takes the next line, and the batches that are open around it, the outermost first.
+#[derive(Drop)]
+struct Building<'text> {
+    builder: ScriptBuilder,
+    open: Vec<Open<'text>>,
+}
 
 /// The builder that has taken all lines, in their order.
 pub(crate) fn builder_of(
@@ -21,32 +47,80 @@ pub(crate) fn builder_of(
     lines: Vec<PlanLine<'_>>,
 ) -> Result<ScriptBuilder, ScriptError>
     ensures built { IfOk result (λ builder. IsBuiltBy lines.entry.items (built builder)) }
-    ensures stopped { IfErr result (IsStopped lines.entry.items) }
+    ensures not_built { IfErr result (IsNotBuilt lines.entry.items) }
 {
-    let mut builder = ScriptBuilder::new(alloc);
+    let mut building = Building {
+        builder: ScriptBuilder::empty(alloc),
+        open: Vec::new(alloc),
+    };
     for line in lines {
-        if let Err(error) = take_line(alloc, &mut builder, line) {
+        if let Err(error) = take_line(alloc, &mut building, line) {
             return Err(error);
         }
     }
-    Ok(builder)
+    match building.open.pop() {
+        None => Ok(building.builder),
+        Some(open) => Err(ScriptError::Line {
+            line: open.batch.line,
+            fault: LineFault::BatchWithoutEnd,
+        }),
+    }
 }
 
-fn take_line(
+fn take_line<'text>(
     alloc: Global,
-    builder: &mut ScriptBuilder,
-    line: PlanLine<'_>,
+    building: &mut Building<'text>,
+    line: PlanLine<'text>,
 ) -> Result<(), ScriptError>
-    ensures taken { OnOk result (IsLineTaken line.entry (built builder.old) (built builder.new)) }
-    ensures not_taken { IfErr result (IsNotTaken line.entry (built builder.old)) }
+    ensures taken { OnOk result (IsLineTaken line.entry (state_of building.old) (state_of building.new)) }
+    ensures not_taken { IfErr result (IsNotTaken line.entry (state_of building.old)) }
 {
     match line {
-        PlanLine::System(line) => add_system(alloc, builder, line),
-        PlanLine::Local(steps) => add_local(builder, steps),
+        PlanLine::System(line) => add_system(alloc, &mut building.builder, line),
+        PlanLine::Local(steps) => add_local(&mut building.builder, steps),
         PlanLine::Barrier => {
-            builder.add_barrier();
+            building.builder.add_barrier();
             Ok(())
         }
+        PlanLine::Batch(batch) => open_batch(alloc, building, batch),
+        PlanLine::End(line) => end_batch(building, line),
+    }
+}
+
+/// Goes on with an empty plan, that of the batch.
+fn open_batch<'text>(
+    alloc: Global,
+    building: &mut Building<'text>,
+    batch: BatchLine<'text>,
+) -> Result<(), ScriptError>
+    ensures opened { OnOk result (IsBatchOpened batch.entry (state_of building.old) (state_of building.new)) }
+    ensures not_opened { IfErr result (λ error. error ≡ ScriptError.OutOfMemory) }
+{
+    let outer = mem::replace(&mut building.builder, ScriptBuilder::empty(alloc));
+    match push_or_drop(&mut building.open, Open { outer, batch }) {
+        Ok(()) => Ok(()),
+        Err(_) => Err(ScriptError::OutOfMemory),
+    }
+}
+
+/// Adds the innermost open batch to the builder around it, and goes on with that.
+fn end_batch(building: &mut Building<'_>, end: usize) -> Result<(), ScriptError>
+    ensures ended { OnOk result (IsBatchEnded (state_of building.old) (state_of building.new)) }
+    ensures not_ended { IfErr result (IsBatchNotEnded end (state_of building.old)) }
+{
+    let Some(Open { outer, batch }) = building.open.pop() else {
+        return Err(ScriptError::Line {
+            line: end,
+            fault: LineFault::EndWithoutBatch,
+        });
+    };
+    let inner = mem::replace(&mut building.builder, outer);
+    let controller = ScriptBatch {
+        rounds: batch.rounds,
+    };
+    match building.builder.add_batch(controller, inner, batch.name, batch.dependencies.as_slice()) {
+        Ok(_) => Ok(()),
+        Err(error) => Err(ScriptError::of_add(end, error)),
     }
 }
 

@@ -23,6 +23,18 @@ pub(crate) enum LineFault {
 
     /// The resource is declared already.
     ResourceTwice,
+
+    /// The line may not stand in a batch.
+    NotInBatch,
+
+    /// No batch is open that it could end.
+    EndWithoutBatch,
+
+    /// No later line ends the batch.
+    BatchWithoutEnd,
+
+    /// Too many batches are open around it.
+    BatchTooDeep,
 }
 
 impl fmt::Display for LineFault {
@@ -37,6 +49,10 @@ impl fmt::Display for LineFault {
             LineFault::BadWord => write!(f, "bad word"),
             LineFault::NoSuchResource => write!(f, "no such resource"),
             LineFault::ResourceTwice => write!(f, "resource twice"),
+            LineFault::NotInBatch => write!(f, "not in a batch"),
+            LineFault::EndWithoutBatch => write!(f, "end without batch"),
+            LineFault::BatchWithoutEnd => write!(f, "batch without end"),
+            LineFault::BatchTooDeep => write!(f, "batch too deep"),
         }
     }
 }

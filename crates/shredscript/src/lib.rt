@@ -1,6 +1,7 @@
 //! The script language: a script is read, looked through, run, and its outcome printed.
 #![tactic(auto)]
 
+mod batch;
 mod build;
 mod declared;
 mod engine;

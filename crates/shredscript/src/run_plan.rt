@@ -11,27 +11,27 @@ ghost use Rattle.shred.specs.FullRuns.{whole_over};
 ghost use Rattle.shredscript.specs.declared.error.ScriptError.TheVariants.{OutOfMemory};
 ghost use Rattle.shredscript.specs.Report.{first_held, resource_names, report, value_line};
 ghost use Rattle.shredscript.specs.PlanTexts.{IsNotPlanned, IsPlanPart};
-ghost use Rattle.shredscript.specs.Runs.{AreDispatched, IsDispatch, IsNotRun, IsOnce, IsRunOf};
+ghost use Rattle.shredscript.specs.Runs.{AreDispatched, AreSetUpAndDispatched, IsDispatch, IsNotRun, IsOnce, IsRunOf};
 ghost use Rattle.shredscript.specs.Place.{number_at};
 ghost use Rattle.shredscript.specs.Value.{kind_of};
 
-use crate::build::{ScriptBuilder, builder_of};
+use crate::batch::ScriptBatch;
+use crate::build::{ScriptBuilder, ScriptEntry, builder_of};
 use crate::error::ScriptError;
 use crate::local::ScriptLocal;
 use crate::outcome::{Outcome, Refusal, write_outcome, write_threads, write_value};
 use crate::plan_text::plan_text;
 use crate::script::{Manner, Mode, Script};
 use crate::step::Resources;
-use crate::system::ScriptSystem;
 use crate::value::{Value, id_at};
-use shred::{DispatchError, Dispatcher, NoBatch, World};
+use shred::{Batched, DispatchError, Dispatcher, World};
 use std::alloc::Global;
 use std::io;
 use std::io::Write;
 use std::thread::Threads;
 
-/// A dispatcher of a script's systems.
-type ScriptDispatcher = Dispatcher<Value, ScriptSystem, NoBatch, ScriptLocal>;
+/// A dispatcher of a script's systems and batches.
+type ScriptDispatcher = Dispatcher<Value, ScriptEntry, Batched<ScriptBatch>, ScriptLocal>;
 
 /// The most bytes of a line of a report behind the name: `=`, a number of 64 bits with sign and a line feed.
 const MOST_VALUE_BYTES: usize = 22;
@@ -54,6 +54,7 @@ pub(crate) fn run_plan<T: Threads + Sync>(
         plan,
         prints_plan,
         manner,
+        ..
     } = script;
     let world = world_of(alloc, &resources)?;
     let mut builder = builder_of(alloc, plan)?;
@@ -89,7 +90,7 @@ fn set_up_and_dispatch<T: Threads + Sync>(
     world: &mut World<Value>,
     manner: Manner,
 ) -> Result<(), DispatchError<Refusal>>
-    ensures { AreDispatched manner.times (whole_over kind_of dispatcher.old world.old) result (whole_over kind_of dispatcher.new world.new) }
+    ensures { AreSetUpAndDispatched manner.times (whole_over kind_of dispatcher.old world.old) result (whole_over kind_of dispatcher.new world.new) }
 {
     match dispatcher.setup(world) {
         Ok(()) => dispatch_each(rt, dispatcher, world, manner),

@@ -15,6 +15,12 @@ const MOST_WORKERS: u32 = 64;
 /// The most times that a plan is dispatched.
 const MOST_TIMES: u32 = 1_000_000;
 
+/// The most rounds of a batch.
+const MOST_ROUNDS: u32 = 1_000;
+
+/// The most batches that nest in each other.
+const MOST_OPEN: usize = 8;
+
 /// A line that adds a staged system, which runs after those that it depends on.
 #[derive(Debug, Drop)]
 pub(crate) struct SystemLine<'text> {
@@ -25,12 +31,23 @@ pub(crate) struct SystemLine<'text> {
     pub(crate) steps: Vec<Step>,
 }
 
-/// A line that the plan is made by, or the thread-local systems.
+/// A line that begins a batch, which runs its plan so often, after those that it depends on.
+#[derive(Debug, Drop)]
+pub(crate) struct BatchLine<'text> {
+    pub(crate) line: usize,
+    pub(crate) name: &'text str,
+    pub(crate) dependencies: Vec<&'text str>,
+    pub(crate) rounds: usize,
+}
+
+/// A line that the plan is made by, or the thread-local systems. That which ends a batch has its number.
 #[derive(Debug, Drop)]
 pub(crate) enum PlanLine<'text> {
     System(SystemLine<'text>),
     Local(Vec<Step>),
     Barrier,
+    Batch(BatchLine<'text>),
+    End(usize),
 }
 
 /// How the staged systems run: their groups beside each other, or one after the other.
@@ -54,6 +71,8 @@ pub(crate) struct Script<'text> {
     /// Each resource's first value. Steps name a resource by its place here.
     pub(crate) resources: Resources<'text>,
     pub(crate) plan: Vec<PlanLine<'text>>,
+    /// The numbers of the lines that began the batches which no line has ended so far.
+    open: Vec<usize>,
     /// Whether the plan is to be printed.
     pub(crate) prints_plan: bool,
     pub(crate) manner: Manner,
@@ -67,6 +86,7 @@ impl<'text> Script<'text> {
         let mut script = Script {
             resources: IndexMap::new(alloc),
             plan: Vec::new(alloc),
+            open: Vec::new(alloc),
             prints_plan: false,
             manner: Manner {
                 workers: 4,
@@ -80,7 +100,10 @@ impl<'text> Script<'text> {
                 return Err(ScriptError::at(line, error));
             }
         }
-        Ok(script)
+        match script.open.last() {
+            None => Ok(script),
+            Some(line) => Err(ScriptError::at(*line, LineFault::BatchWithoutEnd.into())),
+        }
     }
 
     fn take_line(
@@ -92,17 +115,62 @@ impl<'text> Script<'text> {
         let mut words = Words::of_line(bytes)?;
         match words.next() {
             None => Ok(()),
-            Some("res") => self.take_resource(words),
             Some("sys") => self.take_system(alloc, line, words),
             Some("barrier") => self.take_barrier(words),
             Some("local") => self.take_local(alloc, words),
-            Some("workers") => self.take_workers(words),
-            Some("times") => self.take_times(words),
-            Some("mode") => self.take_mode(words),
-            Some("plan") => self.take_plan(words),
+            Some("batch") => self.take_batch(alloc, line, words),
+            Some("end") => self.take_end(line, words),
             Some(word) if word.starts_with('#') => Ok(()),
-            Some(_) => Err(LineFault::UnknownLine.into()),
+            Some(word) => self.take_outside(word, words),
         }
+    }
+
+    /// Takes up a line with this first word that may not stand in a batch.
+    fn take_outside(&mut self, word: &str, words: Words<'text>) -> Result<(), LineError> {
+        match word {
+            "res" | "workers" | "times" | "mode" | "plan" if !self.open.is_empty() => {
+                Err(LineFault::NotInBatch.into())
+            }
+            "res" => self.take_resource(words),
+            "workers" => self.take_workers(words),
+            "times" => self.take_times(words),
+            "mode" => self.take_mode(words),
+            "plan" => self.take_plan(words),
+            _ => Err(LineFault::UnknownLine.into()),
+        }
+    }
+
+    fn take_batch(
+        &mut self,
+        alloc: Global,
+        line: usize,
+        mut words: Words<'text>,
+    ) -> Result<(), LineError> {
+        if self.open.len() == MOST_OPEN {
+            return Err(LineFault::BatchTooDeep.into());
+        }
+        let name = system_name(words.required()?)?;
+        let dependencies = dependencies(alloc, words.required()?)?;
+        let rounds = count(words.required()?, MOST_ROUNDS)?;
+        words.end()?;
+        self.open.push(line)?;
+        self.plan.push(PlanLine::Batch(BatchLine {
+            line,
+            name,
+            dependencies,
+            rounds: rounds as usize,
+        }))?;
+        Ok(())
+    }
+
+    fn take_end(&mut self, line: usize, mut words: Words<'text>) -> Result<(), LineError> {
+        if self.open.is_empty() {
+            return Err(LineFault::EndWithoutBatch.into());
+        }
+        words.end()?;
+        let _ = self.open.pop();
+        self.plan.push(PlanLine::End(line))?;
+        Ok(())
     }
 
     fn take_resource(&mut self, mut words: Words<'text>) -> Result<(), LineError> {

@@ -1,11 +1,12 @@
-use Rattle.std.proofs.Common.{◌≡◌, ◌++◌}
-use Rattle.std.specs.Vec.Iter.{into_iter_items}
-use Rattle.shred.specs.Builders.{built}
-use Rattle.shredscript.specs.Lines.{IsBuiltBy}
+use Rattle.std.proofs.Common.{◌≡◌, ◌++◌, length}
+use Rattle.std.specs.Vec.Iter.{into_iter_items, into_iter_len}
+use Rattle.shredscript.specs.Building.{state_of}
+use Rattle.shredscript.specs.Lines.{AreBuiltBy}
 use Rattle.shredscript.proofs.build.builder_of.Given as goal
 
 abbrev pub invariant-loop-line : goal.invariant-loop-line
 invariant-loop-line l = record {
-  made : IsBuiltBy l.yielded (built l.builder);
+  made : AreBuiltBy l.yielded (state_of l.building);
   rest : l.yielded ++ into_iter_items l.line-iterator ≡ l.fn.lines.items;
+  long : into_iter_len l.line-iterator ≡ length (into_iter_items l.line-iterator);
 }

@@ -14,8 +14,6 @@ ghost use Rattle.shred.specs.Built.{IsAddition, IsSameBuilt};
 ghost use Rattle.shred.specs.Dispatchers.{dispatcher_locals, dispatcher_over, dispatcher_workers};
 ghost use Rattle.shred.specs.FullRuns.{FullyDispatched, RunsNow, whole_over, whole_with};
 ghost use Rattle.shred.specs.PlanRuns.{PlanRun};
-ghost use Rattle.shred.specs.Setups.{DisposesNow, SetsUpNow};
-ghost use Rattle.shred_works.specs.Setups.{OwnDisposal, OwnSetup};
 
 use crate::dispatch::builder::DispatcherBuilder;
 use crate::dispatch::dispatcher::{Dispatcher, as_run, at_stage};
@@ -246,37 +244,5 @@ where
         ensures kinds { KeepsKinds V.kind_of (local_held V.kind_of world.old) (local_held V.kind_of world.new) }
     {
         as_run(self.dispatch_local(rt, world))
-    }
-}
-
-impl<
-    V: ResourceValue + Drop,
-    S: System<V, Error = E> + Drop,
-    C: BatchController<V, Error = E> + Drop,
-    L: RunNow<V, Error = E> + Drop,
-    E: Drop,
-> RunNow<V> for Dispatcher<V, Work<S, Nested<V, S, C>>, Batched<C>, L> {
-    type Error = DispatchError<E>;
-
-    ghost runs = { λ old before outcome new after. RunsNow V.kind_of (PlanRun V.kind_of (OwnStep V.kind_of (record { steps = S.step; begins = C.begins; asks = C.asks }))) L.runs (whole_with old before) outcome (whole_with new after) × RunsAtEveryDepth V.kind_of (record { steps = S.step; begins = C.begins; asks = C.asks }) L.runs (nested_whole_with old before) outcome (nested_whole_with new after) };
-
-    ghost sets_up = { λ old before outcome new after. SetsUpNow (OwnSetup S.sets_up C.sets_up) L.sets_up old before outcome new after };
-
-    ghost disposes = { λ old before outcome after. DisposesNow (OwnDisposal S.disposes) L.disposes old before outcome after };
-
-    fn run_now<R: Threads + Sync>(
-        &mut self,
-        rt: &R,
-        world: &mut LocalWorld<V>,
-    ) -> Result<(), Fault<DispatchError<E>>> {
-        as_run(self.dispatch_here(rt, world))
-    }
-
-    fn setup(&mut self, world: &mut World<V>) -> Result<(), Fault<DispatchError<E>>> {
-        as_run(self.setup(world))
-    }
-
-    fn dispose(self, world: &mut World<V>) -> Result<(), Fault<DispatchError<E>>> {
-        as_run(self.dispose(world))
     }
 }

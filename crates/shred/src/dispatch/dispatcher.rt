@@ -290,7 +290,7 @@ impl<
     E: Drop,
 > Dispatcher<V, X, C, L> {
     // The stages' runs on the caller's thread, and then, where these are Done, those of the thread-local systems.
-    pub(crate) fn dispatch_here<R: Threads + Sync>(
+    fn dispatch_here<R: Threads + Sync>(
         &mut self,
         rt: &R,
         world: &mut LocalWorld<V>,
@@ -307,17 +307,18 @@ impl<
 
 impl<
     V: ResourceValue + Drop,
-    S: System<V, Error = E> + Drop,
+    X: RunsInOrder<C, V, Error = E> + Settles<C, V, Error = E> + Drop,
+    C,
     L: RunNow<V, Error = E> + Drop,
     E: Drop,
-> RunNow<V> for Dispatcher<V, S, NoBatch, L> {
+> RunNow<V> for Dispatcher<V, X, C, L> {
     type Error = DispatchError<E>;
 
-    ghost runs = { λ old before outcome new after. RunsNow V.kind_of (PlanRun V.kind_of S.step) L.runs (whole_with old before) outcome (whole_with new after) };
+    ghost runs = { λ old before outcome new after. RunsNow V.kind_of (PlanRun V.kind_of X.step) L.runs (whole_with old before) outcome (whole_with new after) };
 
-    ghost sets_up = { λ old before outcome new after. SetsUpNow S.sets_up L.sets_up old before outcome new after };
+    ghost sets_up = { λ old before outcome new after. SetsUpNow X.sets_up L.sets_up old before outcome new after };
 
-    ghost disposes = { λ old before outcome after. DisposesNow S.disposes L.disposes old before outcome after };
+    ghost disposes = { λ old before outcome after. DisposesNow X.disposes L.disposes old before outcome after };
 
     fn run_now<R: Threads + Sync>(
         &mut self,

@@ -44,7 +44,9 @@ module _ {V S C B L N A : Type 0} {g : _} where
 abbrev pub LeavesAtEveryDepth : {V S C E : Type 0} → (V → Kind) → Related V S C E → NestedSituation (model.Plan ResourceId) V S C → Answer (DispatchError E) → NestedSituation (model.Plan ResourceId) V S C → Type 0
 LeavesAtEveryDepth kind related before answer after = LeavesNested (RunWithNested kind related dispatch_answer) before answer after
 
--- So the plan was run, and then, where that was Done, the thread-local systems ran from what it left, one after the other, up to the first that is not Done; where it was not, they stay, and so do the values, and the answer is the plan's.
+-- The dispatch left the world and the systems as one thread leaves them that runs the plan in order, each system and each controller by its own relation on its declared values alone, and then, where that was Done, the thread-local systems; and the same steps, the staged ones in any order that keeps the plan's order of conflicting pairs, reach that state.
+--
+-- The thread-local ones ran from what the plan left, one after the other, up to the first that is not Done; where the plan was not Done, they stay, and so do the values, and the answer is the plan's.
 pub record FullyLeavesAtEveryDepth {V S C L E : Type 0} (kind : V → Kind) (related : Related V S C E) (runs : Step V L E) (before : NestedWhole V S C L) (answer : Answer (DispatchError E)) (after : NestedWhole V S C L) : Type 0 where
   pub of_plan : Answer (DispatchError E)
   pub middle : Held V

@@ -11,11 +11,11 @@ use Rattle.shred_batch.specs.Works.{tiers_plan}
 use Rattle.shred_batch.specs.declared.work.Nested.{Nested}
 use Rattle.shred_batch.specs.declared.work.Work.{Work}
 use Rattle.shred_batch.specs.declared.work.Work.TheVariants.{Batch}
-use Rattle.shred_works.specs.Batches.{IsKeptBatch, joined_access}
+use Rattle.shred_works.specs.Batches.{IsKeptBatch, IsOneDeeper, joined_access}
 use Rattle.shred_stage.specs.Inner.{tiers_states}
 use Rattle.shred.specs.Built.{Built, IsEntryAdded}
 
--- It is a batch of this controller, of which these two lists are kept, and its inner plan has these entries with these states.
+-- It is a batch of this controller, of which these two lists are kept, its inner plan has these entries with these states, and its depth is what these give it.
 pub record IsBatchWith {V S C : Type 0} (controller : C) (declared : Access ResourceId) (plan : Plan ResourceId) (states : Agent → Option (Work S (Nested V S C))) (work : Work S (Nested V S C)) : Type 0 where
   pub nested : Nested V S C
   pub is_batch : work ≡ Batch nested
@@ -23,6 +23,7 @@ pub record IsBatchWith {V S C : Type 0} (controller : C) (declared : Access Reso
   pub same_access : control_access (batch_of nested).control ≡ declared
   pub same_plan : tiers_plan (batch_of nested).tiers.items ≡ plan
   pub same_states : (path : Agent) → tiers_states (batch_of nested).tiers.items path ≡ states path
+  pub depth : IsOneDeeper (batch_of nested).depth (batch_of nested).tiers.items
 
 -- What is kept of the batch is added as an entry with the next id: the lists of its controller joined with those of its inner plan, and the controller's time.
 pub record IsBatchAddition {V S C L : Type 0} (old new : Built (Work S (Nested V S C)) L) (name : List ℕ) (dependencies : List (List ℕ)) (declared : Access ResourceId) (time : RunningTime) (controller : C) (inner : Built (Work S (Nested V S C)) L) : Type 0 where

@@ -48,3 +48,11 @@ IsRefusedBy (Err error) outcome = outcome ≡ Err (Refused error)
 -- one run of a dispatcher: a dispatch, with each refusal told as the run's own
 abbrev pub RunsNow : {P V S L O E : Type 0} → (V → Kind) → (P → List (Record Agent ResourceId V S O) → Answer (DispatchError E) → Type 0) → Step V L E → Whole P V S L → Outcome (DispatchError E) → Whole P V S L → Type 0
 RunsNow {E = E} kind Run runs before outcome after = (answer : Answer (DispatchError E)) × FullyDispatched kind Run runs before answer after × IsRefusedBy answer outcome
+
+-- One run of a dispatcher: a dispatch, with each refusal told as the run's own. What the plan left is told by Leaves too.
+pub record RunsTold {P V S L O E : Type 0} (kind : V → Kind) (Run : P → List (Record Agent ResourceId V S O) → Answer (DispatchError E) → Type 0) (Leaves : Situation P V S → Answer (DispatchError E) → Situation P V S → Type 0)
+    (runs : Step V L E) (before : Whole P V S L) (outcome : Outcome (DispatchError E)) (after : Whole P V S L) : Type 0 where
+  pub answer : Answer (DispatchError E)
+  pub dispatched : FullyDispatched kind Run runs before answer after
+  pub leaves : Leaves before.staged dispatched.of_plan (record after.staged { values = dispatched.middle })
+  pub refused : IsRefusedBy answer outcome

@@ -7,3 +7,4 @@ pub mod FullRuns
 pub mod Setups
 pub mod Batches
 pub mod AtEveryDepth
+pub mod Nests

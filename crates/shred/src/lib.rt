@@ -89,9 +89,11 @@
 
 pub mod dispatch;
 
+pub use dispatch::batch::{BatchBuilder, BatchDispatcher};
 pub use dispatch::builder::DispatcherBuilder;
 pub use dispatch::dispatcher::{Dispatcher, new_dispatcher};
 pub use dispatch::names::SystemNames;
+pub use dispatch::nests::Nests;
 pub use shred_batch::{BatchController, MultiDispatchController, MultiDispatcher};
 pub use shred_local::{DispatchError, Now, RunNow, ThreadLocal};
 pub use shred_names::AddError;

@@ -1,5 +1,6 @@
 pub mod Standing
 pub mod Interleaved
+pub mod NestedInterleaved
 pub mod SameRuns
 pub mod OfKinds
 pub mod OneEnd

@@ -1,2 +1,3 @@
 pub mod Interleavings
 pub mod OneEnd
+pub mod NestedInterleavings

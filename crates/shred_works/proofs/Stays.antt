@@ -17,6 +17,7 @@ use Rattle.shred_group.specs.declared.dispatch.run.StageFault.{StageFault}
 use Rattle.shred_group.specs.Sides.{stage_side}
 use Rattle.shred_group.specs.Steps.{Outcome, Step}
 use Rattle.shred_group.specs.declared.dispatch.entry.Side.TheVariants.{Reads}
+use Rattle.shred_group.specs.Setups.{AreSetUp}
 use Rattle.shred_batch.specs.Depths.{Declared, Owns, batch_of}
 use Rattle.shred_batch.specs.KeptControllers.{IsOwnControl, control_access}
 use Rattle.shred_batch.specs.Works.{IsBatchWithin, IsTierWithin, tier_numbers, tier_plan}
@@ -28,7 +29,7 @@ use Rattle.shred_batch.specs.declared.work.Work.TheVariants.{System, Batch}
 use Rattle.shred_batch.proofs.Runs.WorkSteps.{deep}
 use Rattle.shred_batch.proofs.Turns.Tiers.{same-written_plan}
 use Rattle.shred_works.specs.OwnDepth.{depth_of}
-use Rattle.shred_works.specs.Owned.{AreGroupsSetUp, HasOwnGroups, IsOwned, StaysOwned, StayTiers}
+use Rattle.shred_works.specs.Owned.{HasOwnGroups, IsOwned, StaysOwned, StayTiers}
 use Rattle.shred_works.specs.Setups.{BatchSetup, WorkSetup}
 
 module _ {V X : Type 0} (own : X → List ResourceId → List ResourceId → Type 0) where
@@ -120,15 +121,15 @@ module _ {V S C E : Type 0} (system : Step V S E) (control : Step V C E) where
 module _ {V X E : Type 0} (own : X → List ResourceId → List ResourceId → Type 0) (setup : Step V X E) where
   -- a tier's groups were set up
   pub tier-set_up : (old new : Tier V X) (given left : List (Group V X)) → given ≡ old.groups.items → new.groups.items ≡ left → (before : Held V) (answer : Answer (StageFault E)) (after : Held V)
-      → AreGroupsSetUp own setup given before answer left after → AreGroupsSetUp own setup old.groups.items before answer new.groups.items after
+      → AreSetUp setup own given before answer left after → AreSetUp setup own old.groups.items before answer new.groups.items after
   tier-set_up old new given left was is before answer after went =
-      subst (λ (xs : List (Group V X)). AreGroupsSetUp own setup xs before answer new.groups.items after) was (subst (λ (xs : List (Group V X)). AreGroupsSetUp own setup given before answer xs after) (sym is) went)
+      subst (λ (xs : List (Group V X)). AreSetUp setup own xs before answer new.groups.items after) was (subst (λ (xs : List (Group V X)). AreSetUp setup own given before answer xs after) (sym is) went)
 
   -- where one more tier was set up, the tiers stay as they were before it
   pub tiers-set_up : (start tiers : List (Tier V X)) → StayTiers own start tiers → (k : ℕ) (d new : Tier V X) → (before : Held V) (answer : Answer (StageFault E)) (after : Held V)
-      → AreGroupsSetUp own setup (get_or tiers k d).groups.items before answer new.groups.items after → StayTiers own start (set tiers k new)
+      → AreSetUp setup own (get_or tiers k d).groups.items before answer new.groups.items after → StayTiers own start (set tiers k new)
   tiers-set_up start tiers stay k d new before answer after went = record {
     plan = map-set_same tier_plan tiers k new d went.plan ∙ stay.plan;
     ids = map-set_same tier_numbers tiers k new d went.ids ∙ stay.ids;
-    groups = All-set (HasOwnGroups own) tiers k new (record { owns = went.owns; room = went.room }) stay.groups;
+    groups = All-set (HasOwnGroups own) tiers k new (record { owns = went.own_lists; room = went.room }) stay.groups;
   }

@@ -53,14 +53,18 @@ GroupNotesAtMost most group = All (NotesAtMost most) group.entries.items
 abbrev pub TierNotesAtMost : {V S C : Type 0} → ℕ → Tier V (Work S (Nested V S C)) → Type 0
 TierNotesAtMost most tier = All (GroupNotesAtMost most) tier.groups.items
 
--- It is a batch of this controller, of which these two lists are kept, and of these tiers, and its depth is one more than the greatest that is noted in them, or one where they have no entry.
+-- The depth is one more than the greatest that is noted in the tiers, or one where they have no entry.
+pub record IsOneDeeper {V S C : Type 0} (depth : ℕ) (tiers : List (Tier V (Work S (Nested V S C)))) : Type 0 where
+  pub greatest : ℕ
+  pub noted : All (TierNotesAtMost greatest) tiers
+  pub least : (most : ℕ) → All (TierNotesAtMost most) tiers → greatest ≤ most
+  pub one_more : depth ≡ suc greatest
+
+-- It is a batch of this controller, of which these two lists are kept, and of these tiers, with the depth that they give it.
 pub record IsBatchOf {V S C : Type 0} (controller : C) (declared : Access ResourceId) (tiers : List (Tier V (Work S (Nested V S C)))) (work : Work S (Nested V S C)) : Type 0 where
   pub nested : Nested V S C
   pub is_batch : work ≡ Batch nested
   pub same_controller : (batch_of nested).control.controller ≡ controller
   pub same_access : control_access (batch_of nested).control ≡ declared
   pub same_tiers : (batch_of nested).tiers.items ≡ tiers
-  pub greatest : ℕ
-  pub noted : All (TierNotesAtMost greatest) tiers
-  pub least : (most : ℕ) → All (TierNotesAtMost most) tiers → greatest ≤ most
-  pub depth : (batch_of nested).depth ≡ suc greatest
+  pub depth : IsOneDeeper (batch_of nested).depth tiers

@@ -1,15 +1,10 @@
 -- What stands in an entry with lists that are kept of it, whichever these are.
 use Rattle.std.specs.Prelude.{◌≡◌, ℕ, List, All, map}
 use Rattle.shred_table.specs.declared.id.ResourceId.{ResourceId}
-use Rattle.shred_model.specs.Runs.{Answer}
-use Rattle.shred_world.specs.Worked.{Held}
 use Rattle.shred_group.specs.declared.dispatch.entry.Group.{Group}
-use Rattle.shred_group.specs.declared.dispatch.run.StageFault.{StageFault}
 use Rattle.shred_group.specs.Hands.{KeepsRoom}
 use Rattle.shred_group.specs.OwnLists.{IsGroupOf}
 use Rattle.shred_group.specs.PlanOf.{group_numbers, groups_plan}
-use Rattle.shred_group.specs.Setups.{GroupsSetup}
-use Rattle.shred_group.specs.Steps.{Step}
 use Rattle.shred_batch.specs.Depths.{Declared, Owns}
 use Rattle.shred_batch.specs.Works.{tier_numbers, tiers_plan}
 use Rattle.shred_batch.specs.declared.work.Nested.{Nested}
@@ -37,11 +32,3 @@ pub record StayTiers {V X : Type 0} (own : X → List ResourceId → List Resour
   pub plan : tiers_plan new ≡ tiers_plan old
   pub ids : map tier_numbers new ≡ map tier_numbers old
   pub groups : All (HasOwnGroups own) new
-
--- The groups were set up; the plan of the groups and the ids beside them are as before, and the groups have their lists and their hands.
-pub record AreGroupsSetUp {V X E : Type 0} (own : X → List ResourceId → List ResourceId → Type 0) (setup : Step V X E) (old : List (Group V X)) (before : Held V) (answer : Answer (StageFault E)) (new : List (Group V X)) (after : Held V) : Type 0 where
-  pub turns : GroupsSetup setup old before answer new after
-  pub plan : groups_plan new ≡ groups_plan old
-  pub ids : map group_numbers new ≡ map group_numbers old
-  pub owns : All (IsGroupOf own) new
-  pub room : All KeepsRoom new

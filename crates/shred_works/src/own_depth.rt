@@ -52,8 +52,8 @@ pub fn own_step_in_order<
     step_in_order(depth, work, loan, own)
 }
 
-/// The same step, the groups of a batch's inner plan beside each other on at most `workers` threads, the caller's among them.
-/// The groups of a batch in that batch run one after the other, on the thread of its own group.
+/// The same step, the groups of each inner plan, at every depth, beside each other on at most `workers` threads, the caller's
+/// among them.
 pub fn own_step_beside<
     R: Threads + Sync,
     V: ResourceValue + Drop + Send + Sync,

@@ -6,8 +6,8 @@ ghost use Rattle.shred_batch.specs.Works.{IsBatchWithin};
 ghost use Rattle.shred_group.specs.Hands.{IsSameButEntries, KeepsRoom};
 ghost use Rattle.shred_group.specs.OwnLists.{IsEntryOf, IsGroupOf};
 ghost use Rattle.shred_group.specs.PlanOf.{entry_plan, group_plan};
-ghost use Rattle.shred_group.specs.Setups.{EntriesSetup, GroupSetup};
-ghost use Rattle.shred_works.specs.Owned.{AreGroupsSetUp, HasOwnGroups, IsOwned, StaysOwned, StayTiers};
+ghost use Rattle.shred_group.specs.Setups.{AreSetUp, EntriesSetup, GroupSetup};
+ghost use Rattle.shred_works.specs.Owned.{HasOwnGroups, IsOwned, StaysOwned, StayTiers};
 ghost use Rattle.shred_works.specs.Setups.{BatchSetup, TiersSetup, WorkSetup};
 ghost use Rattle.shred_world.specs.Worlds.{world_held};
 
@@ -87,7 +87,7 @@ fn set_up_groups<V: ResourceValue, S: SetUp<V, E>, C: ControlSetUp<V, E>, E>(
 ) -> Result<(), StageFault<E>>
     requires owns { All (IsGroupOf (Owns (record { reads = S.its_reads; writes = S.its_writes; control_reads = C.its_reads; control_writes = C.its_writes }) depth)) groups.old }
     requires room { All KeepsRoom groups.old }
-    ensures { AreGroupsSetUp (Owns (record { reads = S.its_reads; writes = S.its_writes; control_reads = C.its_reads; control_writes = C.its_writes }) depth) (WorkSetup S.setup C.setup depth) groups.old (world_held V.kind_of world.old) result groups.new (world_held V.kind_of world.new) }
+    ensures { AreSetUp (WorkSetup S.setup C.setup depth) (Owns (record { reads = S.its_reads; writes = S.its_writes; control_reads = C.its_reads; control_writes = C.its_writes }) depth) groups.old (world_held V.kind_of world.old) result groups.new (world_held V.kind_of world.new) }
 {
     for group in groups.iter_mut() {
         if let Err(fault) = set_up_group(depth, group, world) {

@@ -129,8 +129,8 @@ pub fn turn_in_order<V: ResourceValue + Drop, S: SystemOf<V, E>, C: ControllerOf
     turn_by(&OwnDepth, groups, table)
 }
 
-/// The turn of the groups, beside each other on at most `workers` threads, the caller's among them, and so the groups of the
-/// inner plan of a batch in them. The groups of a batch in such a batch run one after the other.
+/// The turn of the groups, beside each other on at most `workers` threads, the caller's among them, and so the groups of inner
+/// plans, at every depth.
 pub fn turn_beside<
     R: Threads + Sync,
     V: ResourceValue + Drop + Send + Sync,

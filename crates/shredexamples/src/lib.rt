@@ -1,7 +1,8 @@
-//! Examples: a world alone, an enum of systems, systems behind a box, the text of a plan, and two dispatches that end the
-//! same.
+//! Examples: a world alone, an enum of systems, systems behind a box, a batch, the text of a plan, and two dispatches
+//! that end the same.
 #![tactic(auto)]
 
+pub mod batch;
 pub mod boxed_systems;
 pub mod enum_of_systems;
 pub mod plan_text;

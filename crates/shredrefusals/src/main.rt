@@ -1,10 +1,11 @@
-//! Calls of worlds and views, to be run with each request for memory refused in turn.
+//! Calls of worlds, views and builders, to be run with each request for memory refused in turn.
 //!
 //! Each case prints its name, and `ok` where the answer is that of ample memory, `out of memory` where that is the answer
 //! and all stands as it must, or else `wrong`. The status is 1 where a line cannot be printed, 3 where an answer is wrong,
 //! 2 where memory was wanting, and else 0.
 #![tactic(auto)]
 
+mod batches;
 mod bundles;
 mod entries;
 mod parts;
@@ -53,7 +54,7 @@ impl Ended {
     }
 }
 
-fn cases(alloc: Global) -> [(&'static str, Ended); 6] {
+fn cases(alloc: Global) -> [(&'static str, Ended); 7] {
     [
         ("exec", bundles::exec(alloc)),
         ("tuple", bundles::tuple(alloc)),
@@ -61,6 +62,7 @@ fn cases(alloc: Global) -> [(&'static str, Ended); 6] {
         ("insert", entries::insert(alloc)),
         ("entry", entries::entry(alloc)),
         ("part", parts::part(alloc)),
+        ("add_batch", batches::add_batch(alloc)),
     ]
 }
 

@@ -26,3 +26,12 @@ pub(crate) fn ended(answer: Result<(), DispatchError<u8>>) -> Ended {
         Err(DispatchError::StageMemory { stage }) => ("memory of stage", stage, NO_MEMORY),
     }
 }
+
+/// How a run of a dispatcher ended.
+pub(crate) fn run_ended(outcome: Result<(), Fault<DispatchError<u8>>>) -> Ended {
+    match outcome {
+        Ok(()) => DONE,
+        Err(Fault::Refused(error)) => ended(Err(error)),
+        Err(Fault::OutOfMemory) => ("memory of the run", 0, NO_MEMORY),
+    }
+}

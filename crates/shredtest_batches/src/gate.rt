@@ -1,11 +1,11 @@
-//! Two systems of an inner plan that wait for each other.
+//! Systems of an inner plan that wait for each other.
 ghost use Rattle.std.specs.Prelude.{[]};
 ghost use Rattle.shred_group.specs.declared.system.RunningTime.TheVariants.{Average, VeryLong};
 
-use crate::ended::{DONE, Ended, ended};
+use crate::ended::{DONE, Ended, ended, run_ended};
 use shred::{
-    BatchController, Batched, DispatcherBuilder, Fault, Now, OutOfMemory, RunningTime, System,
-    View, WithBatches, World,
+    AddError, BatchBuilder, BatchController, DispatcherBuilder, Fault, Now, OutOfMemory,
+    RunningTime, System, View, World,
 };
 use shredtest::values::Value;
 use std::alloc::Global;
@@ -111,61 +111,162 @@ impl BatchController<Value> for Once {
     }
 }
 
-type Builder<'f> = DispatcherBuilder<
-    Value,
-    WithBatches<Value, Meets<'f>, Once>,
-    Batched<Once>,
-    Now<Meets<'f>>,
->;
+type Builder<'f> = BatchBuilder<Value, Meets<'f>, Once, Now<Meets<'f>>>;
 
-/// Both stand in the plan of one batch, with so many workers of its own, and the dispatch on that many ends so.
+/// By which call a plan is run.
+#[derive(Clone, Copy)]
+enum Call {
+    Dispatch,
+    DispatchPar,
+    RunNow,
+}
+
+/// Systems that wait in a ring, each for the next, in the innermost of so many batches, and on how many workers.
+#[derive(Clone, Copy)]
+struct Ring {
+    systems: usize,
+    levels: usize,
+    workers: usize,
+    /// What the inner builder sets, which does not count.
+    inner_workers: usize,
+    /// Whether another system stands beside the outermost batch, in a group of its own.
+    beside: bool,
+    turns: u32,
+}
+
+fn ring_of(alloc: Global, flags: &[AtomicBool; 4], ring: Ring) -> Result<Builder<'_>, AddError> {
+    let mut builder: Builder = DispatcherBuilder::empty(alloc);
+    for place in 0..ring.systems.min(4) {
+        let meets = Meets {
+            own: &flags[place],
+            other: &flags[(place + 1) % ring.systems.min(4)],
+            turns: ring.turns,
+        };
+        builder.add(meets, "", &[])?;
+    }
+    Ok(builder.with_pool(ring.inner_workers))
+}
+
+fn inside<'f>(alloc: Global, inner: Builder<'f>) -> Result<Builder<'f>, AddError> {
+    let builder: Builder = DispatcherBuilder::empty(alloc);
+    builder.with_batch(Once, inner, "", &[])
+}
+
+// What meets itself, and the batch, and on how many workers both run.
+fn outermost<'f>(
+    alloc: Global,
+    alone: &'f AtomicBool,
+    batch: Builder<'f>,
+    ring: Ring,
+) -> Result<Builder<'f>, AddError> {
+    let mut builder: Builder = DispatcherBuilder::empty(alloc);
+    if ring.beside {
+        let meets = Meets {
+            own: alone,
+            other: alone,
+            turns: 1,
+        };
+        builder.add(meets, "", &[])?;
+    }
+    builder.add_batch(Once, batch, "", &[])?;
+    Ok(builder.with_pool(ring.workers))
+}
+
+/// The plan with this ring, run by this call, ends so.
 fn expect_meeting(
     rt: &(impl Abort + AllocGlobal + Threads + Sync),
-    outer_workers: usize,
-    inner_workers: usize,
-    turns: u32,
+    ring: Ring,
+    call: Call,
     end: Ended,
 ) -> Result<(), Fail> {
-    let left = AtomicBool::new(false);
-    let right = AtomicBool::new(false);
-    let inner: Builder = DispatcherBuilder::empty(rt.alloc());
-    let inner = inner
-        .with_pool(inner_workers)
-        .with(
-            Meets {
-                own: &left,
-                other: &right,
-                turns,
+    let flags = [
+        AtomicBool::new(false),
+        AtomicBool::new(false),
+        AtomicBool::new(false),
+        AtomicBool::new(false),
+    ];
+    let alone = AtomicBool::new(false);
+    let alloc = rt.alloc();
+    let mut builder = ring_of(alloc, &flags, ring)?;
+    for _ in 1..ring.levels {
+        builder = inside(alloc, builder)?;
+    }
+    let mut dispatcher = outermost(alloc, &alone, builder, ring)?.build();
+    let mut world: World<Value> = World::empty(alloc);
+    let answer = match call {
+        Call::Dispatch => ended(dispatcher.dispatch(rt, &mut world)),
+        Call::DispatchPar => ended(dispatcher.dispatch_par(rt, &mut world)),
+        Call::RunNow => run_ended(dispatcher.run_now(rt, world.local())),
+    };
+    assert_eq!(rt; answer, end);
+    Ok(())
+}
+
+const CALLS: [Call; 3] = [Call::Dispatch, Call::DispatchPar, Call::RunNow];
+
+/// Two in the plan of one batch, whose own builder sets one worker.
+const TWO: Ring = Ring {
+    systems: 2,
+    levels: 1,
+    workers: 2,
+    inner_workers: 1,
+    beside: false,
+    turns: 100_000_000,
+};
+
+#[test]
+fn gate_batch(rt: HostRuntime) -> Result<(), Fail> {
+    for call in CALLS {
+        expect_meeting(&rt, TWO, call, DONE)?;
+        expect_meeting(
+            &rt,
+            Ring {
+                beside: true,
+                ..TWO
             },
-            "",
-            &[],
-        )?
-        .with(
-            Meets {
-                own: &right,
-                other: &left,
-                turns,
-            },
-            "",
-            &[],
+            call,
+            DONE,
         )?;
-    let outer: Builder = DispatcherBuilder::empty(rt.alloc());
-    let mut dispatcher = outer
-        .with_pool(outer_workers)
-        .with_batch(Once, inner, "", &[])?
-        .build();
-    let mut world: World<Value> = World::empty(rt.alloc());
-    assert_eq!(rt; ended(dispatcher.dispatch(rt, &mut world)), end);
+    }
     Ok(())
 }
 
 #[test]
-fn gate_batch(rt: HostRuntime) -> Result<(), Fail> {
-    expect_meeting(&rt, 2, 1, 100_000_000, DONE)
+fn gate_batch_in_two_batches(rt: HostRuntime) -> Result<(), Fail> {
+    let ring = Ring {
+        systems: 4,
+        levels: 3,
+        workers: 4,
+        ..TWO
+    };
+    for call in CALLS {
+        expect_meeting(&rt, ring, call, DONE)?;
+    }
+    Ok(())
 }
 
 #[test]
-fn gate_batch_on_one_worker(rt: HostRuntime) -> Result<(), Fail> {
-    // No number of looks would do: the other one has not begun.
-    expect_meeting(&rt, 1, 2, 1_000, ("system", 0, 1))
+fn gate_batch_on_too_few_workers(rt: HostRuntime) -> Result<(), Fail> {
+    // No number of looks would do: the next one has not begun.
+    let one = Ring {
+        workers: 1,
+        inner_workers: 2,
+        turns: 1_000,
+        ..TWO
+    };
+    let two = Ring {
+        systems: 4,
+        workers: 2,
+        inner_workers: 4,
+        ..one
+    };
+    for ring in [
+        one,
+        Ring { levels: 3, ..one },
+        two,
+        Ring { levels: 3, ..two },
+    ] {
+        expect_meeting(&rt, ring, Call::Dispatch, ("system", 0, 1))?;
+    }
+    Ok(())
 }

@@ -12,6 +12,8 @@ mod ended;
 #[cfg(test)]
 mod gate;
 #[cfg(test)]
+mod lists;
+#[cfg(test)]
 mod multi;
 #[cfg(test)]
 mod plans;
@@ -19,3 +21,5 @@ mod plans;
 mod rounds;
 #[cfg(test)]
 mod settled;
+#[cfg(test)]
+mod stages;

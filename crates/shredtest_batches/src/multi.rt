@@ -6,8 +6,8 @@ ghost use Rattle.shredtest.specs.Values.{count_kind};
 use crate::adds::{Adds, adds_to, count_id, expect_counts, world_of};
 use crate::ended::{DONE, ended};
 use shred::{
-    BatchAccessor, Batched, DispatcherBuilder, Fault, MultiDispatchController, MultiDispatcher,
-    Now, OutOfMemory, View, WithBatches, World,
+    BatchAccessor, BatchBuilder, DispatcherBuilder, Fault, MultiDispatchController,
+    MultiDispatcher, Now, OutOfMemory, View, World,
 };
 use shredtest::values::{Count, Value};
 use std::alloc::Global;
@@ -51,12 +51,7 @@ impl MultiDispatchController<Value> for AsCounted {
 
 type Controller = MultiDispatcher<AsCounted>;
 
-type Builder = DispatcherBuilder<
-    Value,
-    WithBatches<Value, Adds, Controller>,
-    Batched<Controller>,
-    Now<Adds>,
->;
+type Builder = BatchBuilder<Value, Adds, Controller, Now<Adds>>;
 
 #[test]
 fn a_plan_runs_as_often_as_a_count_says(rt: HostRuntime) -> Result<(), Fail> {

@@ -3,16 +3,17 @@
 use crate::adds::{Adds, expect_counts, world_of};
 use crate::bounds::Bounds;
 use crate::ended::{Ended, ended};
-use shred::{AddError, Batched, DispatcherBuilder, Now, WithBatches, World};
+use shred::{AddError, BatchBuilder, DispatcherBuilder, Now, WithBatches, World};
+use shred_orders::dispatch_batches_interleaved;
 use shredtest::values::Value;
 use std::alloc::Global;
 use std::process::Abort;
 use std::test::Fail;
 use std::thread::Threads;
 
-type Entry = WithBatches<Value, Adds, Bounds>;
+pub(crate) type Entry = WithBatches<Value, Adds, Bounds>;
 
-pub(crate) type Builder = DispatcherBuilder<Value, Entry, Batched<Bounds>, Now<Adds>>;
+pub(crate) type Builder = BatchBuilder<Value, Adds, Bounds, Now<Adds>>;
 
 /// A builder with one batch of this controller over these systems, which depend on nothing.
 pub(crate) fn batch_of(
@@ -45,15 +46,17 @@ pub(crate) enum Call {
     Seq,
     Par(usize),
     Both(usize),
+    Interleaved(usize),
 }
 
-pub(crate) const CALLS: [Call; 6] = [
+pub(crate) const CALLS: [Call; 7] = [
     Call::Seq,
     Call::Par(0),
     Call::Par(1),
     Call::Par(2),
     Call::Par(8),
     Call::Both(4),
+    Call::Interleaved(4),
 ];
 
 fn run(
@@ -66,6 +69,10 @@ fn run(
         Call::Seq => ended(builder.build().dispatch_seq(world)),
         Call::Par(workers) => ended(builder.with_pool(workers).build().dispatch_par(rt, world)),
         Call::Both(workers) => ended(builder.with_pool(workers).build().dispatch(rt, world)),
+        Call::Interleaved(workers) => {
+            let mut dispatcher = builder.with_pool(workers).build();
+            ended(dispatch_batches_interleaved(rt, &mut dispatcher, world))
+        }
     }
 }
 

@@ -42,6 +42,15 @@ fn a_no_ends_the_batch(rt: HostRuntime) -> Result<(), Fail> {
 }
 
 #[test]
+fn a_controller_writes_what_its_plan_writes(rt: HostRuntime) -> Result<(), Fail> {
+    for call in CALLS {
+        let builder = batch_of(rt.alloc(), times(0, 3), &[adds_to(0, 10)])?;
+        expect_run(&rt, builder, call, &[0], DONE, &[33])?;
+    }
+    Ok(())
+}
+
+#[test]
 fn a_refusal_to_begin_runs_nothing(rt: HostRuntime) -> Result<(), Fail> {
     for call in CALLS {
         let controller = Bounds {

@@ -2,6 +2,7 @@
 use shred::{AddError, Dispatcher, DispatcherBuilder, Only, Plain, World, WorldError, only_id};
 use shred_orders::dispatch_interleaved;
 use shredexample::count_after_dispatch;
+use shredexamples::batch::added_in_rounds;
 use shredexamples::boxed_systems::copied_by_boxes;
 use shredexamples::enum_of_systems::{Add, copied_by_jobs};
 use shredexamples::plan_text::text_of_three;
@@ -35,6 +36,13 @@ fn variants_of_an_enum_are_dispatched(rt: HostRuntime) {
 #[test]
 fn what_is_behind_a_box_is_dispatched(rt: HostRuntime) {
     assert_eq!(rt; copied_by_boxes(rt.alloc()), Some(8));
+}
+
+#[test]
+fn a_plan_runs_as_often_as_a_number_says(rt: HostRuntime) {
+    assert_eq!(rt; added_in_rounds(rt.alloc(), -1), Some(5));
+    assert_eq!(rt; added_in_rounds(rt.alloc(), 0), Some(5));
+    assert_eq!(rt; added_in_rounds(rt.alloc(), 4), Some(17));
 }
 
 const THREE: &str =

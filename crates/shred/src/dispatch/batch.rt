@@ -28,6 +28,12 @@ use shred_works::kept::batch_entry;
 use shred_world::{LocalWorld, ResourceValue, World};
 use std::thread::Threads;
 
+/// A builder of plans over systems `S`, batches with controllers `C`, and thread-local systems `L`.
+pub type BatchBuilder<V, S, C, L> = DispatcherBuilder<V, Work<S, Nested<V, S, C>>, Batched<C>, L>;
+
+/// The dispatcher of such a plan.
+pub type BatchDispatcher<V, S, C, L> = Dispatcher<V, Work<S, Nested<V, S, C>>, Batched<C>, L>;
+
 impl<
     V: ResourceValue + Drop,
     S: System<V, Error = E> + Drop,

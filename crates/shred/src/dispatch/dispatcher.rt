@@ -8,7 +8,7 @@ ghost use Rattle.shred_model.specs.Record.{Agent};
 ghost use Rattle.shred_model.specs.Runs.{first_fault};
 ghost use Rattle.shred_stage.specs.Dispatched.{Dispatched, stages_with};
 ghost use Rattle.shred.specs.Dispatchers.{dispatcher_locals, dispatcher_over, dispatcher_plan, dispatcher_states, dispatcher_with, dispatcher_workers};
-ghost use Rattle.shred.specs.FullRuns.{FullyDispatched, IsRefusedBy, RunsNow, whole_over, whole_with};
+ghost use Rattle.shred.specs.FullRuns.{FullyDispatched, IsRefusedBy, RunsNow, RunsTold, whole_over, whole_with};
 ghost use Rattle.shred.specs.Setups.{DisposesNow, IsDisposedOf, IsSetUp, SetsUpNow, StageDisposalAt, StagesDisposal, StagesSetup};
 ghost use Rattle.shred.specs.SystemNames.{names_known, names_pairs};
 ghost use Rattle.shred_stage.specs.Names.{AreNames, first_unnamed};
@@ -20,6 +20,7 @@ ghost use Rattle.shred_stage.specs.StagePlan.{plan_of, widest};
 ghost use Rattle.shred_world.specs.Worlds.{local_held, world_held};
 
 use crate::dispatch::names::SystemNames;
+use crate::dispatch::nests::Nests;
 use shred_local::{DispatchError, Now, RunNow, ThreadLocal};
 use shred_stage::dispatch::printing::print;
 use shred_stage::{
@@ -307,14 +308,14 @@ impl<
 
 impl<
     V: ResourceValue + Drop,
-    X: RunsInOrder<C, V, Error = E> + Settles<C, V, Error = E> + Drop,
+    X: Nests<C, V, Error = E> + Settles<C, V, Error = E> + Drop,
     C,
     L: RunNow<V, Error = E> + Drop,
     E: Drop,
 > RunNow<V> for Dispatcher<V, X, C, L> {
     type Error = DispatchError<E>;
 
-    ghost runs = { λ old before outcome new after. RunsNow V.kind_of (PlanRun V.kind_of X.step) L.runs (whole_with old before) outcome (whole_with new after) };
+    ghost runs = { λ old before outcome new after. RunsTold V.kind_of (PlanRun V.kind_of X.step) X.leaves L.runs (whole_with old before) outcome (whole_with new after) };
 
     ghost sets_up = { λ old before outcome new after. SetsUpNow X.sets_up L.sets_up old before outcome new after };
 

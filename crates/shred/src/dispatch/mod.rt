@@ -4,3 +4,4 @@ pub mod batch;
 pub mod builder;
 pub mod dispatcher;
 pub mod names;
+pub mod nests;

@@ -356,8 +356,8 @@ where
     ghost use Rattle.shred_works.specs.OwnDepth.{OwnStep};
     ghost use Rattle.shred_batch.specs.Depths.{Related};
 
-    /// As of a stage of systems alone. A batch hands the number of threads on to its inner plan: the groups of that run beside
-    /// each other too, and those of a batch in it one after the other.
+    /// Takes the stage's turn, as of a stage of systems alone. A batch hands the number of threads on: each stage of an inner
+    /// plan, at every depth, runs on at most so many again, that of its own group among them.
     pub fn execute<R: Threads + Sync>(
         &mut self,
         rt: &R,

@@ -27,10 +27,12 @@ returns-clause-batch g c = record {
   same_controller = ap (λ level. level.batch.control.controller) (out-roll-Nested _ _ _ _) ∙ c.in_ok-control.ensures.controller;
   same_access = ap (λ level. control_access level.batch.control) (out-roll-Nested _ _ _ _) ∙ c.in_ok-control.ensures.access;
   same_tiers = ap (λ level. level.batch.tiers.items) (out-roll-Nested _ _ _ _);
-  greatest = c.deepest.result;
-  noted = c.deepest.ensures.noted;
-  least = c.deepest.ensures.least;
-  depth = ap (λ level. level.batch.depth) (out-roll-Nested _ _ _ _) ∙ (let next : c.in-Some.depth ≡ c.deepest.result + 1 = search rules in omega (arith, next));
+  depth = record {
+    greatest = c.deepest.result;
+    noted = c.deepest.ensures.noted;
+    least = c.deepest.ensures.least;
+    one_more = ap (λ level. level.batch.depth) (out-roll-Nested _ _ _ _) ∙ (let next : c.in-Some.depth ≡ c.deepest.result + 1 = search rules in omega (arith, next));
+  };
 }
 
 pub returns-clause-own_lists : goal.returns-clause-own_lists

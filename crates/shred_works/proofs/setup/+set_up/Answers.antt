@@ -148,7 +148,7 @@ set_up_groups-returns-in-Err g c = λ x.
     record {
       plan = map-set_same group_plan x.loop-group.groups i new old is.plan ∙ x.loop-group.invariant.plan;
       ids = map-set_same group_numbers x.loop-group.groups i new old (ap (λ ids. numbers_of ids.items) is.same.ids) ∙ x.loop-group.invariant.ids;
-      owns = All-set (IsGroupOf (Owns (record { reads = g.S.SetUp.its_reads; writes = g.S.SetUp.its_writes; control_reads = g.C.ControlSetUp.its_reads; control_writes = g.C.ControlSetUp.its_writes }) x.args.depth)) x.loop-group.groups i new is.owns x.loop-group.invariant.owns;
+      own_lists = All-set (IsGroupOf (Owns (record { reads = g.S.SetUp.its_reads; writes = g.S.SetUp.its_writes; control_reads = g.C.ControlSetUp.its_reads; control_writes = g.C.ControlSetUp.its_writes }) x.args.depth)) x.loop-group.groups i new is.owns x.loop-group.invariant.owns;
       room = All-set KeepsRoom x.loop-group.groups i new (room-kept _ new is.plan is.same.written is.same.hand (x.loop-group.invariant.room i old (omega arith))) x.loop-group.invariant.room;
       turns = Turns-fault (λ place. GroupSetup (WorkSetup g.S.SetUp.setup g.C.ControlSetUp.setup x.args.depth)) x.loop-group.invariant.turns old new (omega arith) x.in-Err.fault (world_held g.V.ResourceValue.kind_of x.set_up_group.new.world) is.set_up;
     }
@@ -156,7 +156,7 @@ set_up_groups-returns-in-Err g c = λ x.
 pub set_up_groups-returns : goal.set_up_groups-returns
 set_up_groups-returns g c = λ x.
     let was = x.loop-group.invariant in
-    record { turns = Turns-end (λ place. GroupSetup (WorkSetup g.S.SetUp.setup g.C.ControlSetUp.setup x.args.depth)) was.turns (omega arith); plan = was.plan; owns = was.owns; ids = was.ids; room = was.room }
+    record { turns = Turns-end (λ place. GroupSetup (WorkSetup g.S.SetUp.setup g.C.ControlSetUp.setup x.args.depth)) was.turns (omega arith); plan = was.plan; own_lists = was.owns; ids = was.ids; room = was.room }
 
 pub set_up_entries-loop-entry-preserved : goal.set_up_entries-loop-entry-preserved
 set_up_entries-loop-entry-preserved g c = λ x.

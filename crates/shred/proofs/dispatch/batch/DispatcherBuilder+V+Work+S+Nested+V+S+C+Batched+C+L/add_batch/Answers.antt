@@ -1,12 +1,13 @@
-use Rattle.std.proofs.Common.{◌∙◌, ap, subst, arith}
+use Rattle.std.proofs.Common.{◌∙◌, ap, sym, subst, arith}
 use Rattle.std.proofs.lemmas.List.{nil_from_length}
+use Rattle.shred_batch.specs.Depths.{batch_of}
 use Rattle.shred_batch.specs.Works.{tiers_plan}
 use Rattle.shred_group.specs.PlanOf.{entry_plan}
 use Rattle.shred_local.specs.ThreadLocals.{systems_of}
 use Rattle.shred_model.specs.Access.{Access}
 use Rattle.shred_stage.specs.Inner.{tiers_states}
 use Rattle.shred_table.specs.declared.id.ResourceId.{ResourceId}
-use Rattle.shred_works.specs.Batches.{IsKeptBatch, joined_access}
+use Rattle.shred_works.specs.Batches.{IsKeptBatch, IsOneDeeper, joined_access}
 use Rattle.shred.proofs.dispatch.batch.DispatcherBuilder+V+Work+S+Nested+V+S+C+Batched+C+L.add_batch.Goals as goal
 
 pub returns-in-Ok-accept-clause-added : goal.returns-in-Ok-accept-clause-added
@@ -27,6 +28,7 @@ returns-in-Ok-accept-clause-added g c =
         same_access = is.same_access;
         same_plan = ap tiers_plan is.same_tiers ∙ plan;
         same_states = λ path. ap (λ tiers. tiers_states tiers path) is.same_tiers ∙ c.in-Ok.ensures.states path ∙ c.build.ensures.states path;
+        depth = subst (IsOneDeeper (batch_of is.nested).depth) (sym is.same_tiers) is.depth;
       };
       entry_added = c.in-Ok-accept.ensures.added;
     }

@@ -2,11 +2,9 @@ pub mod BatchRuns
 pub mod Controls
 pub mod KeptControllers
 pub mod Depths
-pub mod Loans
 pub mod Multi
 pub mod Parts
 pub mod Rounds
-pub mod Steppers
 pub mod TierTurns
 pub mod Turners
 pub mod Works

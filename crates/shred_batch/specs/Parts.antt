@@ -1,14 +1,16 @@
 -- The controller and the tiers of a batch while it runs: within which lists they are, and what stays of them.
-use Rattle.std.specs.Prelude.{◌≡◌, true, List, All}
+use Rattle.std.specs.Prelude.{◌≡◌, true, false, List, All}
+use Rattle.std.specs.Option.{option_map}
 use Rattle.shred_table.specs.declared.id.Kind.{Kind}
 use Rattle.shred_table.specs.declared.id.ResourceId.{ResourceId}
 use Rattle.shred_table.specs.declared.table.Table.{Table}
+use Rattle.shred_table.specs.Shown.{shown, IsSameSlots}
 use Rattle.shred_table.specs.Slots.{among}
+use Rattle.shred_world.specs.Views.{lent_slot}
 use Rattle.shred_batch.specs.KeptControllers.{control_access, IsOwnControl}
-use Rattle.shred_batch.specs.Loans.{KeepsLoan}
 use Rattle.shred_batch.specs.Works.{IsTierWithin, tiers_plan}
 use Rattle.shred_batch.specs.declared.control.KeptController.{KeptController}
-use Rattle.shred_batch.specs.declared.loan.Loan.{Loan}
+use Rattle.shred_group.specs.declared.dispatch.stepper.Loan.{Loan}
 use Rattle.shred_batch.specs.declared.work.Tier.{Tier}
 
 module _ {V C X : Type 0} (own : X → List ResourceId → List ResourceId → Type 0) (loan : Loan V) (control_reads control_writes : C → List ResourceId) where
@@ -17,6 +19,12 @@ module _ {V C X : Type 0} (own : X → List ResourceId → List ResourceId → T
     pub own_lists : IsOwnControl control_reads control_writes control
     pub writes_within : (id : ResourceId) → among control.writes.items id ≡ true → among loan.writes.now id ≡ true
     pub within : All (IsTierWithin own loan.reads.now loan.writes.now) tiers
+
+-- The kinds of what the table shows stay, and its slots, and each value that is not written.
+pub record KeepsLoan {V : Type 0} (kind : V → Kind) (loan : Loan V) (before after : Table V) : Type 0 where
+  pub kinds : (id : ResourceId) → option_map kind (shown kind (lent_slot loan.shelf.now) after id) ≡ option_map kind (shown kind (lent_slot loan.shelf.now) before id)
+  pub slots : IsSameSlots before after
+  pub frame : (id : ResourceId) → among loan.writes.now id ≡ false → shown kind (lent_slot loan.shelf.now) after id ≡ shown kind (lent_slot loan.shelf.now) before id
 
 module _ {V X : Type 0} (kind : V → Kind) (own : X → List ResourceId → List ResourceId → Type 0) (loan : Loan V) where
   -- The plan of the tiers stays, and they are within the loan's lists still; the table keeps what `KeepsLoan` says.

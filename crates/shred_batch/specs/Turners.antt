@@ -8,10 +8,10 @@ use Rattle.shred_table.specs.declared.id.Kind.{Kind}
 use Rattle.shred_table.specs.declared.id.ResourceId.{ResourceId}
 use Rattle.shred_table.specs.declared.table.Table.{Table}
 use Rattle.shred_world.specs.Views.{lent_slot}
-use Rattle.shred_batch.specs.Loans.{HasLoanSlots}
+use Rattle.shred_group.specs.Steppers.{HasLoanSlots}
 use Rattle.shred_batch.specs.TierTurns.{TookTierTurn}
 use Rattle.shred_batch.specs.Works.{IsTierWithin}
-use Rattle.shred_batch.specs.declared.loan.Loan.{Loan}
+use Rattle.shred_group.specs.declared.dispatch.stepper.Loan.{Loan}
 use Rattle.shred_batch.specs.declared.work.Tier.{Tier}
 
 module _ (V X E : Type 0) (kind : V → Kind) (own : X → List ResourceId → List ResourceId → Type 0) (step : Step V X E) where

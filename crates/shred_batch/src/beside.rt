@@ -1,18 +1,17 @@
 //! Runs of a batch, as in `rounds`, with the groups of its tiers beside each other on threads.
 ghost use Rattle.std.specs.Thread.{IsSync};
 ghost use Rattle.shred_batch.specs.BatchRuns.{RanAsBatch};
-ghost use Rattle.shred_batch.specs.Loans.{HasLoanSlots};
+ghost use Rattle.shred_group.specs.Steppers.{HasLoanSlots};
 ghost use Rattle.shred_batch.specs.TierTurns.{TookTierTurn};
 ghost use Rattle.shred_batch.specs.Turners.{IsTurner};
 ghost use Rattle.shred_batch.specs.Works.{IsBatchWithin, IsTierWithin};
 ghost use Rattle.shred_world.specs.Views.{lent_slot};
 
 use crate::by_error::ControllerOf;
-use crate::loan::Loan;
 use crate::rounds::run_batch;
-use crate::stepper::Stepper;
 use crate::tiers::{ByTurn, tier_beside};
 use crate::work::{Batch, Tier};
+use shred_group::dispatch::stepper::{Loan, Stepper};
 use shred_group::{Fault, StageFault};
 use shred_world::{ResourceValue, Table};
 use std::thread::Threads;

@@ -1,7 +1,7 @@
 //! Calls over a view: a system's step, and the two calls of a controller.
 ghost use Rattle.std.specs.Prelude.{◌≡◌, List, false, is_some};
 ghost use Rattle.std.specs.Option.{option_map};
-ghost use Rattle.shred_batch.specs.Loans.{HasLoanSlots};
+ghost use Rattle.shred_group.specs.Steppers.{HasLoanSlots};
 ghost use Rattle.shred_group.specs.Kept.{AreOwnLists};
 ghost use Rattle.shred_group.specs.Steps.{declared_of};
 ghost use Rattle.shred_table.specs.declared.id.ResourceId.{ResourceId};
@@ -10,8 +10,8 @@ ghost use Rattle.shred_table.specs.Slots.{among};
 ghost use Rattle.shred_world.specs.Views.{lent_slot};
 
 use crate::by_error::{ControllerOf, SystemOf};
-use crate::loan::Loan;
 use shred_group::Fault;
+use shred_group::dispatch::stepper::Loan;
 use shred_world::{ResourceValue, Table, View};
 
 /// One call of a `C` over a view of the ids that it declares, which answers an `A`.

@@ -2,7 +2,7 @@
 ghost use Rattle.std.specs.Prelude.{◌≡◌, true, false};
 ghost use Rattle.std.specs.Option.{option_map};
 ghost use Rattle.shred_batch.specs.KeptControllers.{control_access, IsOwnControl};
-ghost use Rattle.shred_batch.specs.Loans.{HasLoanSlots};
+ghost use Rattle.shred_group.specs.Steppers.{HasLoanSlots};
 ghost use Rattle.shred_batch.specs.Rounds.{IsControlOver};
 ghost use Rattle.shred_group.specs.Kept.{AreOwnLists};
 ghost use Rattle.shred_group.specs.OwnSlots.{lent_before, HasOnlySlots};
@@ -13,9 +13,9 @@ ghost use Rattle.shred_table.specs.Slots.{among};
 ghost use Rattle.shred_world.specs.Views.{lent_slot};
 
 use crate::calls::{Call, call_over};
-use crate::loan::Loan;
 use crate::turn::behind;
 use shred_group::Fault;
+use shred_group::dispatch::stepper::Loan;
 use shred_world::parting::move_each;
 use shred_world::{ResourceId, ResourceValue, Table};
 

@@ -7,15 +7,13 @@ pub mod by_error;
 mod calls;
 pub mod control;
 pub mod controller;
-pub mod loan;
 pub mod multi;
 pub mod rounds;
 pub mod run;
 pub mod run_beside;
-mod step;
-pub mod stepper;
 mod tiers;
-pub mod turn;
+mod turn;
+mod turner;
 pub mod work;
 
 pub use controller::BatchController;

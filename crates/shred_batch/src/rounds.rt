@@ -2,7 +2,7 @@
 ghost use Rattle.std.specs.Prelude.{◌≡◌};
 ghost use Rattle.shred_batch.specs.BatchRuns.{RanAsBatch};
 ghost use Rattle.shred_batch.specs.KeptControllers.{control_access};
-ghost use Rattle.shred_batch.specs.Loans.{HasLoanSlots};
+ghost use Rattle.shred_group.specs.Steppers.{HasLoanSlots};
 ghost use Rattle.shred_batch.specs.Parts.{ArePartsWithin, KeepsParts};
 ghost use Rattle.shred_batch.specs.Rounds.{BatchRun, Rounds, fault_within};
 ghost use Rattle.shred_batch.specs.Works.{InnerRun, IsBatchWithin};
@@ -12,10 +12,10 @@ ghost use Rattle.shred_world.specs.Views.{lent_slot};
 use crate::by_error::ControllerOf;
 use crate::calls::{Ask, Begin};
 use crate::control::KeptController;
-use crate::loan::Loan;
-use crate::stepper::{Stepper, Turner};
 use crate::tiers::{InOrder, run_tiers};
+use crate::turner::Turner;
 use crate::work::{Batch, Tier};
+use shred_group::dispatch::stepper::{Loan, Stepper};
 use shred_group::{Fault, StageFault};
 use shred_world::{ResourceValue, Table};
 

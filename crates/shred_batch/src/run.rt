@@ -2,8 +2,7 @@
 ghost use Rattle.std.specs.Prelude.{◌-◌, List};
 ghost use Rattle.shred_batch.specs.Depths.{Declared, Owns, Related, WorkStep};
 ghost use Rattle.shred_batch.specs.BatchRuns.{RanAsBatch};
-ghost use Rattle.shred_batch.specs.Loans.{HasLoanSlots};
-ghost use Rattle.shred_batch.specs.Steppers.{IsStepBy, IsStepper};
+ghost use Rattle.shred_group.specs.Steppers.{HasLoanSlots, IsStepBy, IsStepper};
 ghost use Rattle.shred_batch.specs.Works.{IsBatchWithin};
 ghost use Rattle.shred_batch.specs.declared.work.Nested.{Nested};
 ghost use Rattle.shred_batch.specs.declared.work.Work.{Work};
@@ -12,11 +11,10 @@ ghost use Rattle.shred_world.specs.Views.{lent_slot};
 
 use crate::by_error::{ControllerOf, SystemOf};
 use crate::calls::{RunSystem, call_over};
-use crate::loan::Loan;
 use crate::rounds::batch_in_order;
-use crate::stepper::Stepper;
 use crate::work::{Batch, Nested, Work};
 use shred_group::Fault;
+use shred_group::dispatch::stepper::{Loan, Stepper};
 use shred_world::{ResourceValue, Table};
 
 /// Which two lists each system and each batch may be kept with, and the relation in which their steps lie.

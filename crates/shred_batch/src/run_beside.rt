@@ -2,8 +2,7 @@
 ghost use Rattle.std.specs.Thread.{IsSync};
 ghost use Rattle.shred_batch.specs.BatchRuns.{RanAsBatch};
 ghost use Rattle.shred_batch.specs.Depths.{Declared, Owns, Related, WorkStep};
-ghost use Rattle.shred_batch.specs.Loans.{HasLoanSlots};
-ghost use Rattle.shred_batch.specs.Steppers.{IsStepBy, IsStepper};
+ghost use Rattle.shred_group.specs.Steppers.{HasLoanSlots, IsStepBy, IsStepper};
 ghost use Rattle.shred_batch.specs.Works.{IsBatchWithin};
 ghost use Rattle.shred_batch.specs.declared.work.Nested.{Nested};
 ghost use Rattle.shred_batch.specs.declared.work.Work.{Work};
@@ -12,10 +11,10 @@ ghost use Rattle.shred_world.specs.Views.{lent_slot};
 use crate::beside::batch_beside;
 use crate::by_error::{ControllerOf, SystemOf};
 use crate::calls::{RunSystem, call_over};
-use crate::loan::Loan;
 use crate::run::{ByRules, Depth, Rules};
 use crate::work::{Batch, Nested, Work};
 use shred_group::Fault;
+use shred_group::dispatch::stepper::Loan;
 use shred_world::{ResourceValue, Table};
 use std::thread::Threads;
 

@@ -1,6 +1,6 @@
 //! The tiers of an inner plan, one after the other; the groups of each on the caller's thread alone, or beside each other.
 ghost use Rattle.std.specs.Prelude.{All};
-ghost use Rattle.shred_batch.specs.Loans.{HasLoanSlots};
+ghost use Rattle.shred_group.specs.Steppers.{HasLoanSlots};
 ghost use Rattle.shred_batch.specs.Parts.{KeepsTiers};
 ghost use Rattle.shred_batch.specs.TierTurns.{TookTierTurn};
 ghost use Rattle.shred_batch.specs.Turners.{IsTurner};
@@ -8,11 +8,11 @@ ghost use Rattle.shred_batch.specs.Works.{InnerRun, IsTierWithin};
 ghost use Rattle.shred_table.specs.Shown.{shown};
 ghost use Rattle.shred_world.specs.Views.{lent_slot};
 
-use crate::loan::Loan;
-use crate::stepper::{Stepper, Turner};
 use crate::turn::{turn_beside, turn_in_order};
+use crate::turner::Turner;
 use crate::work::Tier;
 use shred_group::StageFault;
+use shred_group::dispatch::stepper::{Loan, Stepper};
 use shred_world::{ResourceValue, Table};
 use std::thread::Threads;
 

@@ -1,7 +1,7 @@
 //! Turns of a plan's groups over a table that has what they may write, with what is only read lent shared behind it: what each
 //! group writes is moved into its hand, the groups run, and all goes back.
 ghost use Rattle.std.specs.Prelude.{◌≡◌, All};
-ghost use Rattle.shred_batch.specs.Loans.{HasLoanSlots};
+ghost use Rattle.shred_group.specs.Steppers.{HasLoanSlots};
 ghost use Rattle.shred_batch.specs.TierTurns.{AreGroupsWithin, TookTierTurn};
 ghost use Rattle.shred_model.specs.Beside.{AllWent};
 ghost use Rattle.shred_group.specs.Lanes.{IsReady, GroupWent};
@@ -10,36 +10,13 @@ ghost use Rattle.shred_table.specs.declared.id.ResourceId.{ResourceId};
 ghost use Rattle.shred_table.specs.Shown.{HasOwnSlots};
 ghost use Rattle.shred_world.specs.Views.{lent_slot};
 
-use crate::loan::Loan;
-use crate::step::run_entries;
-use crate::stepper::Stepper;
 use shred_group::StageFault;
+use shred_group::dispatch::beside;
 use shred_group::dispatch::entry::Group;
-use shred_group::dispatch::fork::{run_each, run_lanes};
 use shred_group::dispatch::hands::{move_all_back, move_all_out};
+use shred_group::dispatch::stepper::{Loan, Stepper};
 use shred_world::{ResourceId, ResourceValue, Shelf, Table};
 use std::thread::Threads;
-
-/// A group's run, over its hand and what is lent shared.
-pub fn run_group<V: ResourceValue + Drop, X, E, T: Stepper<V, X, E>>(
-    by: &T,
-    group: &mut Group<V, X>,
-    shelf: &[Shelf<V>; 1],
-) -> Result<(), StageFault<E>>
-    requires works { T.works by.now }
-    requires ready { IsReady (T.may_keep by.now) (lent_slot shelf.now) group.old }
-    ensures { GroupWent V.kind_of (T.step by.now) (T.may_keep by.now) (lent_slot shelf.now) group.old result group.new }
-{
-    let single = group.entries.len() == 1;
-    run_entries(
-        by,
-        group.entries.as_mut_slice(),
-        single,
-        group.written.as_slice(),
-        shelf,
-        &mut group.hand,
-    )
-}
 
 // The table before what is lent shared; it has slots of the listed ids alone, and of each for which a slot is lent.
 pub(crate) fn behind<'s, V>(
@@ -66,14 +43,8 @@ fn run_in_order<V: ResourceValue + Drop, X, E: Drop, T: Stepper<V, X, E>>(
     requires ready { All (IsReady (T.may_keep by.now) (lent_before own.now (lent_slot loan.now.shelf.now))) groups.old }
     ensures { AllWent (GroupWent V.kind_of (T.step by.now) (T.may_keep by.now) (lent_before own.now (lent_slot loan.now.shelf.now))) groups.old result groups.new }
 {
-    let writes = loan.writes;
-    let shelf = loan.shelf;
-    let nearest = &behind(own, writes, shelf);
-    let lane = |group: &mut Group<V, X>| -> Result<(), StageFault<E>>
-        requires { T.works by.now × IsReady (T.may_keep by.now) (lent_slot nearest.now) group.old }
-        ensures { GroupWent V.kind_of (T.step by.entry.now) (T.may_keep by.entry.now) (lent_slot nearest.entry.now) group.old result group.new }
-    { run_group(by, group, nearest) };
-    run_each(&lane, groups)
+    let nearest = behind(own, loan.writes, loan.shelf);
+    beside::run_in_order(by, &nearest, groups)
 }
 
 // The groups, beside each other over the table, which nobody writes.
@@ -96,14 +67,8 @@ fn run_beside<
     requires ready { All (IsReady (T.may_keep by.now) (lent_before own.now (lent_slot loan.now.shelf.now))) groups.old }
     ensures { AllWent (GroupWent V.kind_of (T.step by.now) (T.may_keep by.now) (lent_before own.now (lent_slot loan.now.shelf.now))) groups.old result groups.new }
 {
-    let writes = loan.writes;
-    let shelf = loan.shelf;
-    let nearest = &behind(own, writes, shelf);
-    let lane = |group: &mut Group<V, X>| -> Result<(), StageFault<E>>
-        requires { T.works by.now × IsReady (T.may_keep by.now) (lent_slot nearest.now) group.old }
-        ensures { GroupWent V.kind_of (T.step by.entry.now) (T.may_keep by.entry.now) (lent_slot nearest.entry.now) group.old result group.new }
-    { run_group(by, group, nearest) };
-    run_lanes(rt, &lane, groups, workers)
+    let nearest = behind(own, loan.writes, loan.shelf);
+    beside::run_beside(rt, by, &nearest, groups, workers)
 }
 
 // The turn of the groups, one after the other on the caller's thread.

@@ -10,6 +10,7 @@ pub mod Calls
 pub mod Lanes
 pub mod Sides
 pub mod Steps
+pub mod Steppers
 pub mod Entries
 pub mod Left
 pub mod Touching

@@ -7,7 +7,7 @@ use Rattle.shred_table.specs.Shown.{Lent}
 use Rattle.shred_world.specs.Worked.{Held}
 use Rattle.shred_group.specs.Steps.{Outcome}
 use Rattle.shred_batch.specs.Depths.{Declared, Related, Owns, WorkStep}
-use Rattle.shred_batch.specs.Steppers.{IsStepBy}
+use Rattle.shred_group.specs.Steppers.{IsStepBy}
 use Rattle.shred_batch.specs.declared.work.Nested.{Nested}
 use Rattle.shred_batch.specs.declared.work.Work.{Work}
 use Rattle.shred_batch.specs.declared.work.Work.TheVariants.{System, Batch}

@@ -1,18 +1,16 @@
 //! One step of what stands in an entry, to the depth to which batches nest in it.
 ghost use Rattle.std.specs.Prelude.{◌≡◌};
 ghost use Rattle.shred_batch.specs.Depths.{Declared, Related};
-ghost use Rattle.shred_batch.specs.Loans.{HasLoanSlots};
-ghost use Rattle.shred_batch.specs.Steppers.{IsStepBy};
+ghost use Rattle.shred_group.specs.Steppers.{HasLoanSlots, IsStepBy};
 ghost use Rattle.shred_works.specs.OwnDepth.{OwnStep, OwnsItself, depth_of};
 ghost use Rattle.shred_world.specs.Views.{lent_slot};
 
 use shred_batch::by_error::{ControllerOf, SystemOf};
-use shred_batch::loan::Loan;
 use shred_batch::run::{Rules, step_in_order};
 use shred_batch::run_beside::step_beside;
-use shred_batch::stepper::Stepper;
 use shred_batch::{Nested, Work};
 use shred_group::Fault;
+use shred_group::dispatch::stepper::{Loan, Stepper};
 use shred_world::{ResourceValue, Table};
 use std::thread::Threads;
 

@@ -15,7 +15,7 @@ use Rattle.shred_group.specs.Steps.{Outcome}
 use Rattle.shred_batch.specs.BatchRuns.{RanAsBatch}
 use Rattle.shred_batch.specs.KeptControllers.{control_access}
 use Rattle.shred_batch.specs.Depths.{Declared, Related, Owns, WorkStep, batch_of}
-use Rattle.shred_batch.specs.Steppers.{IsStepBy}
+use Rattle.shred_group.specs.Steppers.{IsStepBy}
 use Rattle.shred_batch.specs.Works.{InnerRun, IsTierWithin, IsBatchWithin, tier_numbers, tier_plan, tiers_plan}
 use Rattle.shred_batch.specs.declared.work.Batch.{Batch as OneBatch}
 use Rattle.shred_batch.specs.declared.work.Nested.{Nested}

@@ -13,8 +13,8 @@ use Rattle.shred_group.specs.declared.dispatch.entry.Group.{Group}
 use Rattle.shred_group.specs.Hands.{IsMovedOut, IsBack, carried, some_writes}
 use Rattle.shred_group.specs.OwnSlots.{lent_before, HasOnlySlots}
 use Rattle.shred_world.specs.Views.{lent_slot}
-use Rattle.shred_batch.specs.Loans.{HasLoanSlots}
-use Rattle.shred_batch.specs.declared.loan.Loan.{Loan}
+use Rattle.shred_group.specs.Steppers.{HasLoanSlots}
+use Rattle.shred_group.specs.declared.dispatch.stepper.Loan.{Loan}
 use Rattle.shred_group.proofs.Runs.Forked.{same-written}
 use Rattle.shred_group.proofs.Runs.Viewed.{still_has_slots}
 use Rattle.shred_group.proofs.Runs.Zips.{zip-both}

@@ -15,10 +15,10 @@ use Rattle.shred_table.specs.Slots.{among}
 use Rattle.shred_world.specs.Views.{lent_slot}
 use Rattle.shred_batch.specs.Controls.{Control}
 use Rattle.shred_batch.specs.KeptControllers.{control_access, IsOwnControl}
-use Rattle.shred_batch.specs.Loans.{KeepsLoan}
+use Rattle.shred_batch.specs.Parts.{KeepsLoan}
 use Rattle.shred_batch.specs.Parts.{KeepsParts, KeepsTiers}
 use Rattle.shred_batch.specs.declared.control.KeptController.{KeptController}
-use Rattle.shred_batch.specs.declared.loan.Loan.{Loan}
+use Rattle.shred_group.specs.declared.dispatch.stepper.Loan.{Loan}
 use Rattle.shred_batch.specs.declared.work.Tier.{Tier}
 use Rattle.shred_batch.proofs.Turns.Tiers.{keeps-more}
 use Rattle.shred_batch.specs.Rounds.{IsControlOver, Rounds, BatchRun, fault_within}

@@ -22,11 +22,12 @@ use Rattle.shred_group.specs.declared.dispatch.entry.Side.TheVariants.{Reads}
 use Rattle.shred_group.specs.Steps.{Step}
 use Rattle.shred_group.proofs.Runs.Viewed.{still_has_slots, still_only_slots}
 use Rattle.shred_world.specs.Views.{lent_slot}
-use Rattle.shred_batch.specs.Loans.{HasLoanSlots, KeepsLoan}
+use Rattle.shred_group.specs.Steppers.{HasLoanSlots}
+use Rattle.shred_batch.specs.Parts.{KeepsLoan}
 use Rattle.shred_batch.specs.Parts.{KeepsTiers}
 use Rattle.shred_batch.specs.TierTurns.{TookTierTurn}
 use Rattle.shred_batch.specs.Works.{IsTierWithin, tier_plan}
-use Rattle.shred_batch.specs.declared.loan.Loan.{Loan}
+use Rattle.shred_group.specs.declared.dispatch.stepper.Loan.{Loan}
 use Rattle.shred_batch.specs.declared.work.Tier.{Tier}
 
 -- what groups with their hands write is what their plan writes

@@ -12,7 +12,7 @@ ghost use Rattle.shred_group.specs.OwnSlots.{HasOnlySlots};
 ghost use Rattle.shred_group.specs.Steps.{declared_of};
 ghost use Rattle.shred_table.specs.Shown.{HasOwnSlots};
 
-use crate::dispatch::run::step_over;
+use crate::dispatch::stepper::{Loan, run_system};
 use crate::system::{Fault, System};
 use shred_world::parting::{empty_hand, move_each};
 use shred_world::{Accessor, OutOfMemory, ResourceId, ResourceValue, Shelf, Table};
@@ -63,8 +63,13 @@ fn step_before<V: ResourceValue, S: System<V>>(
     ensures frame { (id : ResourceId) → among writes.now id ≡ false → shown V.kind_of (slot_at table.now) hand.new id ≡ shown V.kind_of (slot_at table.now) hand.old id }
     ensures lists { KeepsLists S.reads S.writes system.old system.new }
 {
-    let shelf = [Shelf::Last(table)];
-    step_over(reads, writes, &shelf, system, hand)
+    let shelf = &[Shelf::Last(table)];
+    let loan = Loan {
+        reads,
+        writes,
+        shelf,
+    };
+    run_system(&loan, system, hand)
 }
 
 // The step, with what it writes moved into the hand before, and back after.

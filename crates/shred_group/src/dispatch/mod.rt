@@ -9,4 +9,5 @@ pub mod run;
 pub mod settles;
 pub mod setup;
 pub mod sorted;
+pub mod stepper;
 pub mod turns;

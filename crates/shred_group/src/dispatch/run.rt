@@ -1,25 +1,25 @@
-//! Runs of entries, over a table and what is lent shared beside it.
+//! Runs of entries, over a table and what is lent shared beside it. What makes one step is passed in, since a batch's step leads
+//! back to the steps of its inner plan.
 ghost use Rattle.std.specs.Prelude.{◌≡◌, false, map, All};
 ghost use Rattle.std.specs.Option.{option_map};
 ghost use Rattle.shred_model.specs.Runs.{Ran, first_fault};
 ghost use Rattle.shred_model.specs.States.{configuration_of, listed_states};
-ghost use Rattle.shred_group.specs.Alone.{KeepsLists};
 ghost use Rattle.shred_group.specs.Entries.{EntryRun, GroupRun, entry_states};
-ghost use Rattle.shred_group.specs.Kept.{AreOwnLists};
 ghost use Rattle.shred_group.specs.Hands.{HasEntryRoom, HasPlace};
-ghost use Rattle.shred_group.specs.OwnLists.{IsOwnEntry};
+ghost use Rattle.shred_group.specs.OwnLists.{IsEntryOf};
 ghost use Rattle.shred_group.specs.OwnSlots.{lent_before, HasJustSlots, HasOnlySlots, HasGroupSlots};
 ghost use Rattle.shred_group.specs.PlanOf.{access_of, entry_plan};
 ghost use Rattle.shred_group.specs.Steps.{declared_of};
 ghost use Rattle.shred_table.specs.declared.id.ResourceId.{ResourceId};
 ghost use Rattle.shred_table.specs.Shown.{shown, HasOwnSlots, IsSameSlots};
 ghost use Rattle.shred_table.specs.Slots.{among};
-ghost use Rattle.shred_world.specs.Views.{lent_slot, shelf_slot};
+ghost use Rattle.shred_world.specs.Views.{lent_slot};
 
 use crate::dispatch::entry::{SystemEntry, SystemId};
-use crate::system::{Fault, System};
+use crate::dispatch::stepper::{Loan, Stepper};
+use crate::system::Fault;
 use shred_world::parting::{move_back, move_out};
-use shred_world::{ResourceId, ResourceValue, Shelf, Table, View};
+use shred_world::{ResourceId, ResourceValue, Shelf, Table};
 use std::fmt::Display;
 use thiserror::Error;
 
@@ -35,28 +35,6 @@ pub enum StageFault<E> {
     Memory,
 }
 
-// One step of a system, over a table that has what it writes and nothing else.
-pub(crate) fn step_over<'s, V: ResourceValue, S: System<V>>(
-    reads: &'s [ResourceId],
-    writes: &'s [ResourceId],
-    shelf: &'s [Shelf<'s, V>; 1],
-    system: &mut S,
-    own: &mut Table<V>,
-) -> Result<(), Fault<S::Error>>
-    requires own_lists { AreOwnLists (S.reads system.old) (S.writes system.old) reads.now writes.now }
-    requires own_slots { HasOwnSlots writes.now (lent_slot shelf.now) own.old }
-    requires only_own { HasOnlySlots writes.now own.old }
-    ensures step { S.step system.old (declared_of (record { reads = reads.now; writes = writes.now }) (shown V.kind_of (lent_slot shelf.now) own.old)) result system.new (declared_of (record { reads = reads.now; writes = writes.now }) (shown V.kind_of (lent_slot shelf.now) own.new)) }
-    ensures kinds { (id : ResourceId) → option_map V.kind_of (shown V.kind_of (lent_slot shelf.now) own.new id) ≡ option_map V.kind_of (shown V.kind_of (lent_slot shelf.now) own.old id) }
-    ensures slots { IsSameSlots own.old own.new }
-    ensures frame { (id : ResourceId) → among writes.now id ≡ false → shown V.kind_of (lent_slot shelf.now) own.new id ≡ shown V.kind_of (lent_slot shelf.now) own.old id }
-    ensures own_lists { AreOwnLists (S.reads system.new) (S.writes system.new) reads.now writes.now }
-    ensures lists { KeepsLists S.reads S.writes system.old system.new }
-{
-    let mut view = View::over(reads, writes, shelf, own);
-    system.run(&mut view)
-}
-
 // The table before what is lent shared. It has a slot for each id of the list, and no other slot.
 pub fn before<'s, V>(
     own: &'s Table<V>,
@@ -69,79 +47,114 @@ pub fn before<'s, V>(
     [Shelf::before(own, written, shelf)]
 }
 
-// One step of the entry's system, over the entry's hand, while the table is lent shared.
-fn step_in_hand<V: ResourceValue, S: System<V>>(
-    entry: &mut SystemEntry<V, S>,
+// One step, over a table that has what may be written and nothing else.
+fn step_over<'s, V: ResourceValue, X, E, T: Stepper<V, X, E>>(
+    by: &T,
+    reads: &'s [ResourceId],
+    writes: &'s [ResourceId],
+    shelf: &'s [Shelf<'s, V>; 1],
+    work: &mut X,
+    own: &mut Table<V>,
+) -> Result<(), Fault<E>>
+    requires works { T.works by.now }
+    requires own_lists { T.may_keep by.now work.old reads.now writes.now }
+    requires own_slots { HasOwnSlots writes.now (lent_slot shelf.now) own.old }
+    requires only_own { HasOnlySlots writes.now own.old }
+    ensures step { T.step by.now work.old (declared_of (record { reads = reads.now; writes = writes.now }) (shown V.kind_of (lent_slot shelf.now) own.old)) result work.new (declared_of (record { reads = reads.now; writes = writes.now }) (shown V.kind_of (lent_slot shelf.now) own.new)) }
+    ensures kinds { (id : ResourceId) → option_map V.kind_of (shown V.kind_of (lent_slot shelf.now) own.new id) ≡ option_map V.kind_of (shown V.kind_of (lent_slot shelf.now) own.old id) }
+    ensures slots { IsSameSlots own.old own.new }
+    ensures frame { (id : ResourceId) → among writes.now id ≡ false → shown V.kind_of (lent_slot shelf.now) own.new id ≡ shown V.kind_of (lent_slot shelf.now) own.old id }
+    ensures own_lists { T.may_keep by.now work.new reads.now writes.now }
+{
+    let loan = Loan {
+        reads,
+        writes,
+        shelf,
+    };
+    by.make(work, &loan, own)
+}
+
+// One step of what stands in the entry, over the entry's hand, while the table is lent shared.
+fn step_in_hand<V: ResourceValue, X, E, T: Stepper<V, X, E>>(
+    by: &T,
+    entry: &mut SystemEntry<V, X>,
     written: &[ResourceId],
     shelf: &[Shelf<V>; 1],
     own: &Table<V>,
-) -> Result<(), Fault<S::Error>>
-    requires own_lists { AreOwnLists (S.reads entry.old.system) (S.writes entry.old.system) entry.old.reads.items entry.old.writes.items }
+) -> Result<(), Fault<E>>
+    requires works { T.works by.now }
+    requires own_lists { T.may_keep by.now entry.old.system entry.old.reads.items entry.old.writes.items }
     requires own_slots { HasOwnSlots entry.old.writes.items (lent_before own.now (lent_slot shelf.now)) entry.old.hand }
     requires only_own { HasOnlySlots entry.old.writes.items entry.old.hand }
     requires just_slots { HasJustSlots written.now own.now }
-    ensures step { S.step entry.old.system (declared_of (access_of entry.old) (shown V.kind_of (lent_before own.now (lent_slot shelf.now)) entry.old.hand)) result entry.new.system (declared_of (access_of entry.old) (shown V.kind_of (lent_before own.now (lent_slot shelf.now)) entry.new.hand)) }
+    ensures step { T.step by.now entry.old.system (declared_of (access_of entry.old) (shown V.kind_of (lent_before own.now (lent_slot shelf.now)) entry.old.hand)) result entry.new.system (declared_of (access_of entry.old) (shown V.kind_of (lent_before own.now (lent_slot shelf.now)) entry.new.hand)) }
     ensures kinds { (id : ResourceId) → option_map V.kind_of (shown V.kind_of (lent_before own.now (lent_slot shelf.now)) entry.new.hand id) ≡ option_map V.kind_of (shown V.kind_of (lent_before own.now (lent_slot shelf.now)) entry.old.hand id) }
     ensures slots { IsSameSlots entry.old.hand entry.new.hand }
     ensures frame { (id : ResourceId) → among entry.old.writes.items id ≡ false → shown V.kind_of (lent_before own.now (lent_slot shelf.now)) entry.new.hand id ≡ shown V.kind_of (lent_before own.now (lent_slot shelf.now)) entry.old.hand id }
     ensures plan { entry_plan entry.new ≡ entry_plan entry.old }
     ensures writes { entry.new.writes ≡ entry.old.writes }
-    ensures own_lists { AreOwnLists (S.reads entry.new.system) (S.writes entry.new.system) entry.new.reads.items entry.new.writes.items }
+    ensures own_lists { T.may_keep by.now entry.new.system entry.new.reads.items entry.new.writes.items }
 {
-    let behind = before(own, written, shelf);
+    let nearest = before(own, written, shelf);
     step_over(
+        by,
         entry.reads.as_slice(),
         entry.writes.as_slice(),
-        &behind,
+        &nearest,
         &mut entry.system,
         &mut entry.hand,
     )
 }
 
-// One step of the entry's system. What it writes is moved into the entry's hand before, and back after, so all else can
+// One step of what stands in the entry. What it writes is moved into the entry's hand before, and back after, so all else can
 // be lent shared.
-fn step<V: ResourceValue + Drop, S: System<V>>(
-    entry: &mut SystemEntry<V, S>,
+fn step<V: ResourceValue + Drop, X, E, T: Stepper<V, X, E>>(
+    by: &T,
+    entry: &mut SystemEntry<V, X>,
     written: &[ResourceId],
     shelf: &[Shelf<V>; 1],
     own: &mut Table<V>,
-) -> Result<(), Fault<S::Error>>
-    requires own_lists { IsOwnEntry S.reads S.writes entry.old }
+) -> Result<(), Fault<E>>
+    requires works { T.works by.now }
+    requires own_lists { IsEntryOf (T.may_keep by.now) entry.old }
     requires own_slots { HasOwnSlots entry.old.writes.items (lent_slot shelf.now) own.old }
     requires just_slots { HasJustSlots written.now own.old }
     requires room { HasEntryRoom own.old entry.old }
-    ensures step { S.step entry.old.system (declared_of (access_of entry.old) (shown V.kind_of (lent_slot shelf.now) own.old)) result entry.new.system (declared_of (access_of entry.old) (shown V.kind_of (lent_slot shelf.now) own.new)) }
+    ensures step { T.step by.now entry.old.system (declared_of (access_of entry.old) (shown V.kind_of (lent_slot shelf.now) own.old)) result entry.new.system (declared_of (access_of entry.old) (shown V.kind_of (lent_slot shelf.now) own.new)) }
     ensures kinds { (id : ResourceId) → option_map V.kind_of (shown V.kind_of (lent_slot shelf.now) own.new id) ≡ option_map V.kind_of (shown V.kind_of (lent_slot shelf.now) own.old id) }
     ensures slots { IsSameSlots own.old own.new }
     ensures frame { (id : ResourceId) → among entry.old.writes.items id ≡ false → shown V.kind_of (lent_slot shelf.now) own.new id ≡ shown V.kind_of (lent_slot shelf.now) own.old id }
     ensures plan { entry_plan entry.new ≡ entry_plan entry.old }
-    ensures own_lists { IsOwnEntry S.reads S.writes entry.new }
+    ensures own_lists { IsEntryOf (T.may_keep by.now) entry.new }
     ensures room { HasEntryRoom own.new entry.new }
 {
     move_out(own, entry.writes.as_slice(), &mut entry.hand);
-    let outcome = step_in_hand(entry, written, shelf, own);
+    let outcome = step_in_hand(by, entry, written, shelf, own);
     move_back(own, entry.writes.as_slice(), &mut entry.hand);
     outcome
 }
 
 // The same, over a table that has the slots that the entry writes, and no others.
-fn step_single<V: ResourceValue, S: System<V>>(
-    entry: &mut SystemEntry<V, S>,
+fn step_single<V: ResourceValue, X, E, T: Stepper<V, X, E>>(
+    by: &T,
+    entry: &mut SystemEntry<V, X>,
     shelf: &[Shelf<V>; 1],
     own: &mut Table<V>,
-) -> Result<(), Fault<S::Error>>
-    requires own_lists { IsOwnEntry S.reads S.writes entry.old }
+) -> Result<(), Fault<E>>
+    requires works { T.works by.now }
+    requires own_lists { IsEntryOf (T.may_keep by.now) entry.old }
     requires own_slots { HasOwnSlots entry.old.writes.items (lent_slot shelf.now) own.old }
     requires only_own { HasOnlySlots entry.old.writes.items own.old }
-    ensures step { S.step entry.old.system (declared_of (access_of entry.old) (shown V.kind_of (lent_slot shelf.now) own.old)) result entry.new.system (declared_of (access_of entry.old) (shown V.kind_of (lent_slot shelf.now) own.new)) }
+    ensures step { T.step by.now entry.old.system (declared_of (access_of entry.old) (shown V.kind_of (lent_slot shelf.now) own.old)) result entry.new.system (declared_of (access_of entry.old) (shown V.kind_of (lent_slot shelf.now) own.new)) }
     ensures kinds { (id : ResourceId) → option_map V.kind_of (shown V.kind_of (lent_slot shelf.now) own.new id) ≡ option_map V.kind_of (shown V.kind_of (lent_slot shelf.now) own.old id) }
     ensures slots { IsSameSlots own.old own.new }
     ensures frame { (id : ResourceId) → among entry.old.writes.items id ≡ false → shown V.kind_of (lent_slot shelf.now) own.new id ≡ shown V.kind_of (lent_slot shelf.now) own.old id }
     ensures plan { entry_plan entry.new ≡ entry_plan entry.old }
     ensures writes { entry.new.writes ≡ entry.old.writes }
-    ensures own_lists { IsOwnEntry S.reads S.writes entry.new }
+    ensures own_lists { IsEntryOf (T.may_keep by.now) entry.new }
 {
     step_over(
+        by,
         entry.reads.as_slice(),
         entry.writes.as_slice(),
         shelf,
@@ -150,52 +163,56 @@ fn step_single<V: ResourceValue, S: System<V>>(
     )
 }
 
-// One step of the entry's system, with its hand where it is not the only one of its group.
-fn step_of<V: ResourceValue + Drop, S: System<V>>(
-    entry: &mut SystemEntry<V, S>,
+// One step of what stands in the entry, with its hand where it is not the only one of its group.
+fn step_of<V: ResourceValue + Drop, X, E, T: Stepper<V, X, E>>(
+    by: &T,
+    entry: &mut SystemEntry<V, X>,
     single: bool,
     written: &[ResourceId],
     shelf: &[Shelf<V>; 1],
     own: &mut Table<V>,
-) -> Result<(), Fault<S::Error>>
-    requires own_lists { IsOwnEntry S.reads S.writes entry.old }
+) -> Result<(), Fault<E>>
+    requires works { T.works by.now }
+    requires own_lists { IsEntryOf (T.may_keep by.now) entry.old }
     requires own_slots { HasOwnSlots entry.old.writes.items (lent_slot shelf.now) own.old }
     requires just_slots { HasJustSlots written.now own.old }
     requires place { HasPlace single own.old entry.old }
-    ensures step { S.step entry.old.system (declared_of (access_of entry.old) (shown V.kind_of (lent_slot shelf.now) own.old)) result entry.new.system (declared_of (access_of entry.old) (shown V.kind_of (lent_slot shelf.now) own.new)) }
+    ensures step { T.step by.now entry.old.system (declared_of (access_of entry.old) (shown V.kind_of (lent_slot shelf.now) own.old)) result entry.new.system (declared_of (access_of entry.old) (shown V.kind_of (lent_slot shelf.now) own.new)) }
     ensures kinds { (id : ResourceId) → option_map V.kind_of (shown V.kind_of (lent_slot shelf.now) own.new id) ≡ option_map V.kind_of (shown V.kind_of (lent_slot shelf.now) own.old id) }
     ensures slots { IsSameSlots own.old own.new }
     ensures frame { (id : ResourceId) → among entry.old.writes.items id ≡ false → shown V.kind_of (lent_slot shelf.now) own.new id ≡ shown V.kind_of (lent_slot shelf.now) own.old id }
     ensures plan { entry_plan entry.new ≡ entry_plan entry.old }
-    ensures own_lists { IsOwnEntry S.reads S.writes entry.new }
+    ensures own_lists { IsEntryOf (T.may_keep by.now) entry.new }
     ensures place { HasPlace single own.new entry.new }
 {
     if single {
-        return step_single(entry, shelf, own);
+        return step_single(by, entry, shelf, own);
     }
-    step(entry, written, shelf, own)
+    step(by, entry, written, shelf, own)
 }
 
-// The entry's run: one step of its system.
-fn run_entry<V: ResourceValue + Drop, S: System<V>>(
-    entry: &mut SystemEntry<V, S>,
+// The entry's run: one step of what stands in it.
+fn run_entry<V: ResourceValue + Drop, X, E, T: Stepper<V, X, E>>(
+    by: &T,
+    entry: &mut SystemEntry<V, X>,
     single: bool,
     written: &[ResourceId],
     shelf: &[Shelf<V>; 1],
     own: &mut Table<V>,
-) -> Result<(), StageFault<S::Error>>
-    requires own_lists { IsOwnEntry S.reads S.writes entry.old }
+) -> Result<(), StageFault<E>>
+    requires works { T.works by.now }
+    requires own_lists { IsEntryOf (T.may_keep by.now) entry.old }
     requires own_slots { HasOwnSlots entry.old.writes.items (lent_slot shelf.now) own.old }
     requires just_slots { HasJustSlots written.now own.old }
     requires place { HasPlace single own.old entry.old }
-    ensures ran { Ran (EntryRun V.kind_of S.step 0 (entry_plan entry.old)) (configuration_of (entry_states entry.old) (shown V.kind_of (lent_slot shelf.now) own.old)) result (configuration_of (entry_states entry.new) (shown V.kind_of (lent_slot shelf.now) own.new)) }
+    ensures ran { Ran (EntryRun V.kind_of (T.step by.now) 0 (entry_plan entry.old)) (configuration_of (entry_states entry.old) (shown V.kind_of (lent_slot shelf.now) own.old)) result (configuration_of (entry_states entry.new) (shown V.kind_of (lent_slot shelf.now) own.new)) }
     ensures plan { entry_plan entry.new ≡ entry_plan entry.old }
-    ensures own_lists { IsOwnEntry S.reads S.writes entry.new }
+    ensures own_lists { IsEntryOf (T.may_keep by.now) entry.new }
     ensures place { HasPlace single own.new entry.new }
     ensures kinds { (id : ResourceId) → option_map V.kind_of (shown V.kind_of (lent_slot shelf.now) own.new id) ≡ option_map V.kind_of (shown V.kind_of (lent_slot shelf.now) own.old id) }
     ensures slots { IsSameSlots own.old own.new }
 {
-    match step_of(entry, single, written, shelf, own) {
+    match step_of(by, entry, single, written, shelf, own) {
         Ok(()) => Ok(()),
         Err(fault) => Err(StageFault::System {
             id: entry.id,
@@ -205,25 +222,27 @@ fn run_entry<V: ResourceValue + Drop, S: System<V>>(
 }
 
 // The entries' steps, in order, up to the first that is not Done.
-pub(crate) fn run_entries<V: ResourceValue + Drop, S: System<V>>(
-    entries: &mut [SystemEntry<V, S>],
+pub(crate) fn run_entries<V: ResourceValue + Drop, X, E, T: Stepper<V, X, E>>(
+    by: &T,
+    entries: &mut [SystemEntry<V, X>],
     single: bool,
     written: &[ResourceId],
     shelf: &[Shelf<V>; 1],
     own: &mut Table<V>,
-) -> Result<(), StageFault<S::Error>>
-    requires own_lists { All (IsOwnEntry S.reads S.writes) entries.old }
+) -> Result<(), StageFault<E>>
+    requires works { T.works by.now }
+    requires own_lists { All (IsEntryOf (T.may_keep by.now)) entries.old }
     requires own_slots { HasGroupSlots (lent_slot shelf.now) own.old (map entry_plan entries.old) }
     requires just_slots { HasJustSlots written.now own.old }
     requires places { All (HasPlace single own.old) entries.old }
-    ensures ran { Ran (GroupRun V.kind_of S.step 0 (map entry_plan entries.old)) (configuration_of (listed_states entry_states entries.old) (shown V.kind_of (lent_slot shelf.now) own.old)) result (configuration_of (listed_states entry_states entries.new) (shown V.kind_of (lent_slot shelf.now) own.new)) }
+    ensures ran { Ran (GroupRun V.kind_of (T.step by.now) 0 (map entry_plan entries.old)) (configuration_of (listed_states entry_states entries.old) (shown V.kind_of (lent_slot shelf.now) own.old)) result (configuration_of (listed_states entry_states entries.new) (shown V.kind_of (lent_slot shelf.now) own.new)) }
     ensures plan { map entry_plan entries.new ≡ map entry_plan entries.old }
-    ensures own_lists { All (IsOwnEntry S.reads S.writes) entries.new }
+    ensures own_lists { All (IsEntryOf (T.may_keep by.now)) entries.new }
     ensures kinds { (id : ResourceId) → option_map V.kind_of (shown V.kind_of (lent_slot shelf.now) own.new id) ≡ option_map V.kind_of (shown V.kind_of (lent_slot shelf.now) own.old id) }
     ensures slots { IsSameSlots own.old own.new }
 {
     for entry in entries.iter_mut() {
-        if let Err(fault) = run_entry(entry, single, written, shelf, own) {
+        if let Err(fault) = run_entry(by, entry, single, written, shelf, own) {
             return Err(fault);
         }
     }

@@ -11,6 +11,7 @@ ghost use Rattle.shred_group.specs.Turns.{TookTurn};
 use crate::dispatch::beside;
 use crate::dispatch::entry::Group;
 use crate::dispatch::run::StageFault;
+use crate::dispatch::stepper::BySystem;
 use crate::occupant::{NoBatch, Occupant};
 use crate::system::System;
 use shred_world::{ResourceValue, Table};
@@ -39,6 +40,6 @@ impl<V: ResourceValue + Drop, S: System<V, Error = E>, E: Drop> RunsInOrder<NoBa
         groups: &mut [Group<V, S>],
         table: &mut Table<V>,
     ) -> Result<(), StageFault<E>> {
-        beside::turn_in_order(groups, table)
+        beside::turn_in_order(&BySystem, groups, table)
     }
 }

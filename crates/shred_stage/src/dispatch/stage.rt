@@ -20,6 +20,7 @@ use shred_group::dispatch::beside;
 use shred_group::dispatch::entry::{Group, Side, SystemEntry, SystemId};
 use shred_group::dispatch::run::StageFault;
 use shred_group::dispatch::setup::{dispose_of_groups, set_up_groups};
+use shred_group::dispatch::stepper::BySystem;
 use shred_group::occupant::{NoBatch, Occupant};
 use shred_group::system::System;
 use shred_group::{RunsInOrder, Settles};
@@ -333,6 +334,7 @@ where
         }
         beside::turn_beside(
             rt,
+            &BySystem,
             self.groups.as_mut_slice(),
             table_of_local(world),
             workers,

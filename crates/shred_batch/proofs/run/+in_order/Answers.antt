@@ -1,7 +1,7 @@
 use Rattle.std.proofs.Common.{◌≡◌, suc, ◌-◌, arith, sym, ap, subst}
 use Rattle.shred_world.specs.Views.{lent_slot}
 use Rattle.shred_batch.specs.Depths.{Owns, WorkStep}
-use Rattle.shred_batch.specs.Steppers.{IsStepBy}
+use Rattle.shred_group.specs.Steppers.{IsStepBy}
 use Rattle.shred_batch.specs.declared.work.Nested.{Nested}
 use Rattle.shred_batch.specs.declared.work.Nested.TheViews.{roll-Nested, out-roll-Nested}
 use Rattle.shred_batch.specs.declared.work.Work.{Work}

@@ -1,18 +1,18 @@
 use Rattle.std.proofs.Common.{◌≡◌, sym, subst, arith}
+use Rattle.std.specs.List.{All}
+use Rattle.shred_model.specs.Beside.{AllWent}
 use Rattle.shred_group.specs.Lanes.{GroupWent, IsReady}
 use Rattle.shred_group.specs.OwnSlots.{lent_before}
-use Rattle.shred_group.proofs.Runs.Called.{AllWent-called}
 use Rattle.shred_table.specs.Shown.{Lent}
 use Rattle.shred_world.specs.Views.{lent_slot}
 use Rattle.shred_batch.proofs.turn.run_beside.Goals as goal
 
-pub run_lanes-requires-after_bounds : goal.run_lanes-requires-after_bounds
-run_lanes-requires-after_bounds g c κs within =
-    let same : lent_before c.args.own.now (lent_slot c.args.loan.now.shelf.now) ≡ lent_slot c.behind.result = λ i q. sym (c.behind.ensures q) i in
-    λ k d below lane at. (omega arith, (c.requires.works, subst (λ (lent : Lent g.row.V.Denot). IsReady (g.T.Stepper.may_keep c.args.by.now) lent lane.now) same (subst (IsReady (g.T.Stepper.may_keep c.args.by.now) (lent_before c.args.own.now (lent_slot c.args.loan.now.shelf.now))) (sym at) (c.requires.ready k d below))))
+pub run_beside-requires-after_bounds : goal.run_beside-requires-after_bounds
+run_beside-requires-after_bounds g c κs within =
+    let same : lent_before c.args.own.now (lent_slot c.args.loan.now.shelf.now) ≡ lent_slot c.behind-nearest.result = λ i q. sym (c.behind-nearest.ensures q) i in
+    (omega arith, (c.requires.works, subst (λ (lent : Lent g.row.V.Denot). All (IsReady (g.T.Stepper.may_keep c.args.by.now) lent) c.args.groups.now) same c.requires.ready))
 
 pub returns : goal.returns
 returns g c =
-    let same : lent_slot c.behind.result ≡ lent_before c.args.own.now (lent_slot c.args.loan.now.shelf.now) = λ i q. c.behind.ensures q i in
-    AllWent-called _ _ (GroupWent g.V.ResourceValue.kind_of (g.T.Stepper.step c.args.by.now) (g.T.Stepper.may_keep c.args.by.now) (lent_before c.args.own.now (lent_slot c.args.loan.now.shelf.now)))
-    (λ lane after a went. subst (λ (lent : Lent g.row.V.Denot). GroupWent g.V.ResourceValue.kind_of (g.T.Stepper.step c.args.by.now) (g.T.Stepper.may_keep c.args.by.now) lent lane.now a after.now) same went) c.args.groups.now c.run_lanes.result c.run_lanes.new.lanes c.run_lanes.ensures
+    let same : lent_slot c.behind-nearest.result ≡ lent_before c.args.own.now (lent_slot c.args.loan.now.shelf.now) = λ i q. c.behind-nearest.ensures q i in
+    subst (λ (lent : Lent g.row.V.Denot). AllWent (GroupWent g.V.ResourceValue.kind_of (g.T.Stepper.step c.args.by.now) (g.T.Stepper.may_keep c.args.by.now) lent) c.args.groups.now c.run_beside.result c.run_beside.new.groups) same c.run_beside.ensures

@@ -1,13 +1,12 @@
 use Rattle.std.proofs.Common.{sym, subst, arith}
-use Rattle.shred_table.specs.Slots.{slot_at}
+use Rattle.shred_world.specs.Views.{lent_slot}
 use Rattle.shred_group.specs.Lanes.{GroupWent, IsReady}
-use Rattle.shred_group.specs.OwnLists.{declared_lists}
 use Rattle.shred_group.proofs.Runs.Called.{AllWent-called}
 use Rattle.shred_group.proofs.dispatch.beside.run_beside.Goals as goal
 
 pub run_lanes-requires-after_bounds : goal.run_lanes-requires-after_bounds
-run_lanes-requires-after_bounds g c κs within = λ k d below lane at. (omega arith, subst (IsReady (declared_lists g.S.System.reads g.S.System.writes) (slot_at c.args.table.now)) (sym at) (c.requires k d below))
+run_lanes-requires-after_bounds g c κs within = λ k d below lane at. (omega arith, (c.requires.works, subst (IsReady (g.T.Stepper.may_keep c.args.by.now) (lent_slot c.args.shelf.now)) (sym at) (c.requires.ready k d below)))
 
 pub returns : goal.returns
 returns g c =
-    AllWent-called _ _ (GroupWent g.V.ResourceValue.kind_of g.S.System.step (declared_lists g.S.System.reads g.S.System.writes) (slot_at c.args.table.now)) (λ lane after a went. went) c.args.groups.now c.run_lanes.result c.run_lanes.new.lanes c.run_lanes.ensures
+    AllWent-called _ _ (GroupWent g.V.ResourceValue.kind_of (g.T.Stepper.step c.args.by.now) (g.T.Stepper.may_keep c.args.by.now) (lent_slot c.args.shelf.now)) (λ lane after a went. went) c.args.groups.now c.run_lanes.result c.run_lanes.new.lanes c.run_lanes.ensures

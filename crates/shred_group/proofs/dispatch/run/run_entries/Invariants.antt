@@ -8,7 +8,7 @@ use Rattle.shred_table.specs.Shown.{shown, IsSameSlots}
 use Rattle.shred_world.specs.Views.{lent_slot}
 use Rattle.shred_group.specs.Entries.{EntryRun, entry_states}
 use Rattle.shred_group.specs.Hands.{HasPlace}
-use Rattle.shred_group.specs.OwnLists.{IsOwnEntry}
+use Rattle.shred_group.specs.OwnLists.{IsEntryOf}
 use Rattle.shred_group.specs.PlanOf.{entry_plan}
 use Rattle.shred_group.proofs.dispatch.run.run_entries.Given as goal
 
@@ -17,8 +17,8 @@ invariant-loop-entry g l = record {
   plan : map entry_plan l.entries ≡ map entry_plan l.initial.entries;
   kinds : (id : ResourceId) → option_map g.V.ResourceValue.kind_of (shown g.V.ResourceValue.kind_of (lent_slot l.shelf) l.own id) ≡ option_map g.V.ResourceValue.kind_of (shown g.V.ResourceValue.kind_of (lent_slot l.shelf) l.initial.own id);
   slots : IsSameSlots l.initial.own l.own;
-  own_lists : All (IsOwnEntry g.S.System.reads g.S.System.writes) l.entries;
+  own_lists : All (IsEntryOf (g.T.Stepper.may_keep l.by)) l.entries;
   places : All (HasPlace l.single l.own) l.entries;
-  ran : SoFar (EntryRun g.V.ResourceValue.kind_of g.S.System.step) l.entry-index (map entry_plan l.initial.entries)
+  ran : SoFar (EntryRun g.V.ResourceValue.kind_of (g.T.Stepper.step l.by)) l.entry-index (map entry_plan l.initial.entries)
       (configuration_of (listed_states entry_states l.initial.entries) (shown g.V.ResourceValue.kind_of (lent_slot l.shelf) l.initial.own)) (configuration_of (listed_states entry_states l.entries) (shown g.V.ResourceValue.kind_of (lent_slot l.shelf) l.own));
 }

@@ -7,9 +7,9 @@ use Rattle.shred_group.proofs.Runs.StepRecord.{step-ran}
 use Rattle.shred_group.proofs.dispatch.run.run_entry.Goals as goal
 
 pub returns-in-Ok-clause-ran : goal.returns-in-Ok-clause-ran
-returns-in-Ok-clause-ran g c = step-ran g.V.ResourceValue.kind_of g.S.System.step (entry_plan c.args.entry.now) c.args.entry.now.system c.step_of.new.entry.system
+returns-in-Ok-clause-ran g c = step-ran g.V.ResourceValue.kind_of (g.T.Stepper.step c.args.by.now) (entry_plan c.args.entry.now) c.args.entry.now.system c.step_of.new.entry.system
     (shown g.V.ResourceValue.kind_of (lent_slot c.args.shelf.now) c.args.own.now) (shown g.V.ResourceValue.kind_of (lent_slot c.args.shelf.now) c.step_of.new.own) _ c.in-Ok.ensures.step c.in-Ok.ensures.kinds c.in-Ok.ensures.frame (Ok tt) refl
 
 pub returns-in-Err-clause-ran : goal.returns-in-Err-clause-ran
-returns-in-Err-clause-ran g c = step-ran g.V.ResourceValue.kind_of g.S.System.step (entry_plan c.args.entry.now) c.args.entry.now.system c.step_of.new.entry.system
+returns-in-Err-clause-ran g c = step-ran g.V.ResourceValue.kind_of (g.T.Stepper.step c.args.by.now) (entry_plan c.args.entry.now) c.args.entry.now.system c.step_of.new.entry.system
     (shown g.V.ResourceValue.kind_of (lent_slot c.args.shelf.now) c.args.own.now) (shown g.V.ResourceValue.kind_of (lent_slot c.args.shelf.now) c.step_of.new.own) _ c.in-Err.ensures.step c.in-Err.ensures.kinds c.in-Err.ensures.frame _ (λ i. Err (System (record { 0 = (c.in-Err.ensures.plan i).id }) c.in-Err.fault))

@@ -12,7 +12,7 @@ use Rattle.shred_group.specs.OwnSlots.{HasGroupSlots, HasJustSlots}
 use Rattle.shred_group.specs.Hands.{HasPlace}
 use Rattle.shred_table.specs.declared.id.ResourceId.{ResourceId}
 use Rattle.shred_group.specs.PlanOf.{entry_plan, group_plan}
-use Rattle.shred_batch.proofs.turn.run_group.Goals as goal
+use Rattle.shred_group.proofs.dispatch.beside.run_group.Goals as goal
 
 pub run_entries-requires : goal.run_entries-requires
 run_entries-requires g c =

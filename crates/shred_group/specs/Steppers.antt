@@ -1,4 +1,4 @@
--- Closures that make the steps of what stands in entries.
+-- Tables over which a step may be made of what is lent to it; the steps of what stands in entries, and closures that make them.
 use Rattle.std.specs.Prelude.{◌≡◌, false, List}
 use Rattle.std.specs.Borrow.{Bor, MutBor}
 use Rattle.std.specs.Option.{option_map}
@@ -6,11 +6,16 @@ use Rattle.shred_group.specs.Steps.{Outcome, Step, declared_of}
 use Rattle.shred_table.specs.declared.id.Kind.{Kind}
 use Rattle.shred_table.specs.declared.id.ResourceId.{ResourceId}
 use Rattle.shred_table.specs.declared.table.Table.{Table}
-use Rattle.shred_table.specs.Shown.{Lent, shown, IsSameSlots}
+use Rattle.shred_table.specs.Shown.{Lent, shown, HasOwnSlots, IsSameSlots}
 use Rattle.shred_table.specs.Slots.{among}
 use Rattle.shred_world.specs.Views.{lent_slot}
-use Rattle.shred_batch.specs.Loans.{HasLoanSlots}
-use Rattle.shred_batch.specs.declared.loan.Loan.{Loan}
+use Rattle.shred_group.specs.OwnSlots.{HasOnlySlots}
+use Rattle.shred_group.specs.declared.dispatch.stepper.Loan.{Loan}
+
+-- The table has slots of written ids alone, and one for each for which one is lent.
+pub record HasLoanSlots {V : Type 0} (loan : Loan V) (own : Table V) : Type 0 where
+  pub own_slots : HasOwnSlots loan.writes.now (lent_slot loan.shelf.now) own
+  pub only_own : HasOnlySlots loan.writes.now own
 
 -- The step lies in the relation on what the two lists show; it keeps kinds, slots, the lists, and each value that is not written.
 pub record IsStepBy {V X E : Type 0} (kind : V → Kind) (own : X → List ResourceId → List ResourceId → Type 0) (step : Step V X E) (reads writes : List ResourceId) (lent : Lent V)

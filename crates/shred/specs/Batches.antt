@@ -11,7 +11,7 @@ use Rattle.shred_batch.specs.Works.{tiers_plan}
 use Rattle.shred_batch.specs.declared.work.Nested.{Nested}
 use Rattle.shred_batch.specs.declared.work.Work.{Work}
 use Rattle.shred_batch.specs.declared.work.Work.TheVariants.{Batch}
-use Rattle.shred_works.specs.Batches.{IsKeptBatch, IsOneDeeper, joined_access}
+use Rattle.shred_batch.specs.Batches.{IsKeptBatch, IsOneDeeper, joined_access}
 use Rattle.shred_stage.specs.Inner.{tiers_states}
 use Rattle.shred.specs.Built.{Built, IsEntryAdded}
 

@@ -18,7 +18,7 @@ use Rattle.shred_local.specs.declared.dispatch_error.DispatchError.{DispatchErro
 use Rattle.shred_paths.specs.WithNested.{plan_situation}
 use Rattle.shred_paths.proofs.OwnDepth.{own-plan-fits, own-plan-leaves}
 use Rattle.shred_stage.specs.Dispatched.{Dispatched, Situation}
-use Rattle.shred_works.specs.OwnDepth.{OwnStep, OwnsItself}
+use Rattle.shred_batch.specs.OwnDepth.{OwnStep, OwnsItself}
 use Rattle.shred.specs.AtEveryDepth.{LeavesAtEveryDepth}
 use Rattle.shred.specs.PlanRuns.{PlanRun, dispatch_answer}
 

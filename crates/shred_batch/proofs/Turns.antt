@@ -1,4 +1,4 @@
-pub mod Behind
+pub mod Before
 pub mod Handed
 pub mod Rounds
 pub mod Tiers

@@ -1,10 +1,14 @@
 pub mod BatchRuns
+pub mod Batches
 pub mod Controls
-pub mod KeptControllers
 pub mod Depths
+pub mod KeptControllers
 pub mod Multi
+pub mod Nesting
+pub mod OwnDepth
+pub mod Owned
 pub mod Parts
 pub mod Rounds
+pub mod Setups
 pub mod TierTurns
-pub mod Turners
 pub mod Works

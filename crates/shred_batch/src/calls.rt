@@ -15,7 +15,7 @@ use shred_group::dispatch::stepper::Loan;
 use shred_world::{ResourceValue, Table, View};
 
 /// One call of a `C` over a view of the ids that it declares, which answers an `A`.
-pub(crate) trait Call<V: ResourceValue, C, A, E> {
+pub trait Call<V: ResourceValue, C, A, E> {
     ghost use Rattle.shred_world.specs.OwnViews.{IsLent};
     ghost use Rattle.shred_batch.specs.Controls.{Control};
     ghost use Rattle.shred_world.specs.Views.{view_held, declared_held, may_write, table_of, IsSameView};
@@ -40,7 +40,7 @@ pub(crate) trait Call<V: ResourceValue, C, A, E> {
 
 /// The step of a system.
 #[derive(Drop)]
-pub(crate) struct RunSystem;
+pub struct RunSystem;
 
 impl<V: ResourceValue, S: SystemOf<V, E>, E> Call<V, S, (), E> for RunSystem {
     ghost reads_of = { S.its_reads };
@@ -56,7 +56,7 @@ impl<V: ResourceValue, S: SystemOf<V, E>, E> Call<V, S, (), E> for RunSystem {
 
 /// The `begin` of a controller.
 #[derive(Drop)]
-pub(crate) struct Begin;
+pub struct Begin;
 
 impl<V: ResourceValue, C: ControllerOf<V, E>, E> Call<V, C, usize, E> for Begin {
     ghost reads_of = { C.its_reads };
@@ -72,7 +72,7 @@ impl<V: ResourceValue, C: ControllerOf<V, E>, E> Call<V, C, usize, E> for Begin 
 
 /// The `again` of a controller.
 #[derive(Drop)]
-pub(crate) struct Ask;
+pub struct Ask;
 
 impl<V: ResourceValue, C: ControllerOf<V, E>, E> Call<V, C, bool, E> for Ask {
     ghost reads_of = { C.its_reads };
@@ -86,8 +86,8 @@ impl<V: ResourceValue, C: ControllerOf<V, E>, E> Call<V, C, bool, E> for Ask {
     }
 }
 
-// The call, over a table that has what may be written and nothing else.
-pub(crate) fn call_over<V: ResourceValue, C, A, E, K: Call<V, C, A, E>>(
+/// The call, over a table that has what may be written and nothing else.
+pub fn call_over<V: ResourceValue, C, A, E, K: Call<V, C, A, E>>(
     call: &K,
     loan: &Loan<V>,
     on: &mut C,

@@ -12,8 +12,8 @@ ghost use Rattle.shred_table.specs.Shown.{shown, HasOwnSlots, IsSameSlots};
 ghost use Rattle.shred_table.specs.Slots.{among};
 ghost use Rattle.shred_world.specs.Views.{lent_slot};
 
+use crate::before::behind;
 use crate::calls::{Call, call_over};
-use crate::turn::behind;
 use shred_group::Fault;
 use shred_group::dispatch::stepper::Loan;
 use shred_world::parting::move_each;

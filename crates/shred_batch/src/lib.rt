@@ -1,19 +1,21 @@
-//! Batches: a controller and an inner plan, which are to stand in a plan as one entry, and their runs, to any depth. What makes
-//! one step of what stands in an entry of the inner plan, a system or a batch again, is a `Stepper`.
+//! Batches: a controller and an inner plan, which are to stand in a plan as one entry, their rounds, the entry that is kept of
+//! one, setup and disposal. What takes the turn of a tier of the inner plan is a `Turner`.
 #![tactic(auto)]
 
-pub mod beside;
+pub mod before;
 pub mod by_error;
-mod calls;
+pub mod calls;
 pub mod control;
 pub mod controller;
+pub mod depth;
+pub mod dispose;
+pub mod kept;
 pub mod multi;
 pub mod rounds;
-pub mod run;
-pub mod run_beside;
+pub mod settled;
+pub mod setup;
 mod tiers;
-mod turn;
-mod turner;
+pub mod turner;
 pub mod work;
 
 pub use controller::BatchController;

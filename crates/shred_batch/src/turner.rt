@@ -8,7 +8,7 @@ use shred_group::dispatch::stepper::Loan;
 use shred_world::{ResourceValue, Table};
 
 /// What takes the turn of a tier's groups, whose entries' lists and steps are those of a `Stepper`.
-pub(crate) trait Turner<V: ResourceValue, X, E> {
+pub trait Turner<V: ResourceValue, X, E> {
     ghost use Rattle.shred_group.specs.Steppers.{HasLoanSlots};
     ghost use Rattle.shred_batch.specs.TierTurns.{TookTierTurn};
     ghost use Rattle.shred_batch.specs.Works.{IsTierWithin};

@@ -17,7 +17,7 @@ use Rattle.shred_group.specs.Steps.{Outcome, declared_of}
 use Rattle.shred_group.proofs.Runs.StepRecord.{declared_of-declared, declared_of-other}
 use Rattle.shred_batch.specs.Controls.{Control}
 use Rattle.shred_batch.specs.Rounds.{IsControlOver, Rounds, BatchRun}
-use Rattle.shred_batch.proofs.Runs.Restricted.{control-restricted}
+use Rattle.shred_works.proofs.Runs.Restricted.{control-restricted}
 use Rattle.shred_paths.specs.NestedRecords.{NestedRecord, IsNestedStep, Reply, replied, bound, again}
 use Rattle.shred_paths.specs.NestedRuns.{NestedRounds, NestedBatchRun}
 use Rattle.shred_paths.specs.Occupants.{AgentState, of_controller}

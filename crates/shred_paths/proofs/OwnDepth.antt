@@ -18,7 +18,7 @@ use Rattle.shred_group.specs.Steps.{Step, Written}
 use Rattle.shred_batch.specs.Depths.{Declared, Related, WorkStep}
 use Rattle.shred_batch.specs.declared.work.Nested.{Nested}
 use Rattle.shred_batch.specs.declared.work.Work.{Work}
-use Rattle.shred_works.specs.OwnDepth.{OwnStep, OwnsItself, depth_of}
+use Rattle.shred_batch.specs.OwnDepth.{OwnStep, OwnsItself, depth_of}
 use Rattle.shred_paths.specs.Occupants.{inside_each, work_occupants}
 use Rattle.shred_paths.specs.WithNested.{LeavesNested, RunWithNested, TurnWithNested, plan_situation, stage_situation}
 use Rattle.shred_paths.proofs.Deeper.{EntryRun-weaker, GroupRun-weaker, RunsEach-weaker, RunsUpToFault-weaker, StageTurn-weaker, step-deeper}

@@ -11,7 +11,7 @@ use Rattle.shred_group.specs.Steppers.{IsStepBy}
 use Rattle.shred_batch.specs.declared.work.Nested.{Nested}
 use Rattle.shred_batch.specs.declared.work.Work.{Work}
 use Rattle.shred_batch.specs.declared.work.Work.TheVariants.{System, Batch}
-use Rattle.shred_works.specs.OwnDepth.{OwnStep, OwnsItself, depth_of}
+use Rattle.shred_batch.specs.OwnDepth.{OwnStep, OwnsItself, depth_of}
 
 module _ {V S C E : Type 0} (kind : V → Kind) (related : Related V S C E) where
   -- what a step leaves has the depth of what made it

@@ -10,10 +10,10 @@ use Rattle.shred_batch.specs.declared.work.Nested.{Nested}
 use Rattle.shred_batch.specs.declared.work.Tier.{Tier}
 use Rattle.shred_batch.specs.declared.work.Work.{Work}
 use Rattle.shred_batch.specs.declared.work.Work.TheVariants.{System, Batch}
-use Rattle.shred_works.specs.Nesting.{EachWork, IsNoDeeper}
-use Rattle.shred_works.specs.OwnDepth.{OwnsItself, depth_of}
-use Rattle.shred_works.specs.Owned.{IsOwned, StaysOwned}
-use Rattle.shred_works.specs.Setups.{WorkSetup}
+use Rattle.shred_batch.specs.Nesting.{EachWork, IsNoDeeper}
+use Rattle.shred_batch.specs.OwnDepth.{OwnsItself, depth_of}
+use Rattle.shred_batch.specs.Owned.{IsOwned, StaysOwned}
+use Rattle.shred_batch.specs.Setups.{WorkSetup}
 
 -- a system may be kept with what it declares
 pub system-owns : {S C : Type 0} (V : Type 0) (declared : Declared S C) (system : S) (reads writes : List ResourceId) → declared_lists declared.reads declared.writes system reads writes → OwnsItself {V = V} declared (System system) reads writes

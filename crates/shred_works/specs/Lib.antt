@@ -1,6 +1,2 @@
-pub mod Batches
-pub mod Nesting
-pub mod OwnDepth
 pub mod OwnFacts
-pub mod Owned
-pub mod Setups
+pub mod Turners

@@ -1,14 +1,16 @@
-//! What stands in an entry of a plan, a system or a batch, as a stage and its builder need it: the turn of a stage's groups, the
-//! entry that is kept of a batch, setup and disposal.
+//! Runs of what stands in an entry of a plan, a system or a batch, to any depth: one step of it, the runs of a batch, on the
+//! caller's thread or on threads, and the turn of a stage's groups of such entries.
 #![tactic(auto)]
 
-pub mod dispose;
-pub mod kept;
+pub mod beside;
+pub mod in_order;
 pub mod occupant;
 pub mod own_depth;
-pub mod settled;
-pub mod setup;
+pub mod run;
+pub mod run_beside;
+mod tier_turn;
 pub mod turn;
+mod turners;
 
 pub use occupant::{Batched, WithBatches};
 pub use own_depth::OwnDepth;

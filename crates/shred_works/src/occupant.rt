@@ -2,14 +2,14 @@
 ghost use Rattle.std.specs.Coded.{Coded-set};
 ghost use Rattle.shred_batch.specs.Depths.{Declared, Related};
 ghost use Rattle.shred_batch.specs.declared.work.Work.TheVariants.{System as ASystem};
-ghost use Rattle.shred_works.specs.OwnDepth.{OwnStep, OwnsItself};
+ghost use Rattle.shred_batch.specs.OwnDepth.{OwnStep, OwnsItself};
 ghost use Rattle.shred_works.specs.OwnFacts.{owns_itself-is_fact};
-ghost use Rattle.shred_works.specs.Setups.{OwnSetup, OwnDisposal};
+ghost use Rattle.shred_batch.specs.Setups.{OwnSetup, OwnDisposal};
 
-use crate::dispose::dispose_of_work;
-use crate::own_depth::depth_of;
-use crate::setup::set_up_work;
 use crate::turn;
+use shred_batch::depth::depth_of;
+use shred_batch::dispose::dispose_of_work;
+use shred_batch::setup::set_up_work;
 use shred_batch::{BatchController, Nested, Work};
 use shred_group::dispatch::entry::Group;
 use shred_group::occupant::{Holds, Occupant};

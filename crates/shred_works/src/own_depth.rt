@@ -1,28 +1,18 @@
 //! One step of what stands in an entry, to the depth to which batches nest in it.
-ghost use Rattle.std.specs.Prelude.{◌≡◌};
 ghost use Rattle.shred_batch.specs.Depths.{Declared, Related};
 ghost use Rattle.shred_group.specs.Steppers.{HasLoanSlots, IsStepBy};
-ghost use Rattle.shred_works.specs.OwnDepth.{OwnStep, OwnsItself, depth_of};
+ghost use Rattle.shred_batch.specs.OwnDepth.{OwnStep, OwnsItself};
 ghost use Rattle.shred_world.specs.Views.{lent_slot};
 
+use crate::run::{Rules, step_in_order};
+use crate::run_beside::step_beside;
 use shred_batch::by_error::{ControllerOf, SystemOf};
-use shred_batch::run::{Rules, step_in_order};
-use shred_batch::run_beside::step_beside;
+use shred_batch::depth::depth_of;
 use shred_batch::{Nested, Work};
 use shred_group::Fault;
 use shred_group::dispatch::stepper::{Loan, Stepper};
 use shred_world::{ResourceValue, Table};
 use std::thread::Threads;
-
-/// The depth that is noted of it: 0 of a system, and of a batch its own.
-pub fn depth_of<V, S, C>(work: &Work<S, Nested<V, S, C>>) -> usize
-    ensures { result ≡ depth_of work.now }
-{
-    match work {
-        Work::System(_) => 0,
-        Work::Batch(nested) => nested.batch.depth,
-    }
-}
 
 /// The rules of what stands in an entry, and its steps on the caller's thread.
 #[derive(Drop)]

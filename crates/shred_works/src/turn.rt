@@ -9,12 +9,12 @@ ghost use Rattle.shred_group.specs.OwnLists.{IsGroupOf};
 ghost use Rattle.shred_group.specs.PlanOf.{groups_plan};
 ghost use Rattle.shred_group.specs.Turns.{TookTurn};
 ghost use Rattle.shred_table.specs.Slots.{held};
-ghost use Rattle.shred_works.specs.OwnDepth.{OwnStep, OwnsItself};
+ghost use Rattle.shred_batch.specs.OwnDepth.{OwnStep, OwnsItself};
 ghost use Rattle.shred_world.specs.Views.{lent_slot};
 
 use crate::own_depth::{OwnDepth, own_step_beside};
+use crate::run::ByRules;
 use shred_batch::by_error::{ControllerOf, SystemOf};
-use shred_batch::run::ByRules;
 use shred_batch::{Nested, Work};
 use shred_group::dispatch::beside;
 use shred_group::dispatch::entry::Group;

@@ -3,8 +3,8 @@ use Rattle.std.proofs.Common.{◌≡◌, ℤ, pos, negsuc, ◌^◌, ◌<◌, Boo
 use Rattle.std.proofs.lemmas.Int.{ints}
 use Rattle.std.proofs.lemmas.Bool.Decides.{nat_tests}
 use Rattle.shred_group.specs.declared.system.Fault.TheVariants.{Refused}
-use Rattle.shredscript.specs.declared.outcome.Refusal.TheVariants.{Overflow, Undeclared}
-use Rattle.shredscript.specs.declared.step.Operation.{Operation}
+use Rattle.shredscript_text.specs.declared.outcome.Refusal.TheVariants.{Overflow, Undeclared}
+use Rattle.shredscript_text.specs.declared.step.Operation.{Operation}
 use Rattle.shredscript.specs.Change.{fits, fitted, combined}
 use Rattle.shredscript.specs.Operation.{value_of}
 

@@ -9,11 +9,11 @@ use Rattle.shred_table.specs.Id.{same_id}
 use Rattle.shred_table.specs.Slots.{among}
 use Rattle.shred_world.specs.Views.{may_write}
 use Rattle.shred_table.proofs.Tables.Slots.{same_id-refl}
-use Rattle.shredscript.specs.declared.step.Step.{Step}
-use Rattle.shredscript.specs.declared.step.Step.TheVariants.{Change, Read, Write, Refuse}
-use Rattle.shredscript.specs.declared.value.Value.{Value}
-use Rattle.shredscript.specs.Declares.{read_place, write_place, read_ids, write_ids, MayWrite}
-use Rattle.shredscript.specs.Place.{id_at}
+use Rattle.shredscript_text.specs.declared.step.Step.{Step}
+use Rattle.shredscript_text.specs.declared.step.Step.TheVariants.{Change, Read, Write, Refuse}
+use Rattle.shredscript_text.specs.declared.value.Value.{Value}
+use Rattle.shredscript_text.specs.Declares.{read_place, write_place, read_ids, write_ids, MayWrite}
+use Rattle.shredscript_text.specs.Place.{id_at}
 
 -- with one more step's reads, the reads so far and those of the rest are still those of all steps
 pub read_ids-more : (before after : List ResourceId) (steps : List Step) (i : ℕ) (d : Step) → i < length steps → before ++ read_ids (drop i steps) ≡ read_ids steps

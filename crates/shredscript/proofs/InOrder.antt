@@ -6,9 +6,9 @@ use Rattle.std.proofs.lemmas.List.{drop_more}
 use Rattle.shred_world.specs.Worked.{Held}
 use Rattle.shred_group.specs.declared.system.Fault.{Fault}
 use Rattle.shred_group.specs.Steps.{Outcome}
-use Rattle.shredscript.specs.declared.outcome.Refusal.{Refusal}
-use Rattle.shredscript.specs.declared.step.Step.{Step}
-use Rattle.shredscript.specs.declared.value.Value.{Value}
+use Rattle.shredscript_text.specs.declared.outcome.Refusal.{Refusal}
+use Rattle.shredscript_text.specs.declared.step.Step.{Step}
+use Rattle.shredscript_text.specs.declared.value.Value.{Value}
 use Rattle.shredscript.specs.Steps.{step_outcome, step_left, steps_outcome, steps_left}
 
 module _ (steps : List Step) (i : ℕ) (d : Step) (seen : Held Value) (below : i < length steps) where

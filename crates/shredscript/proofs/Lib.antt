@@ -1,12 +1,7 @@
 pub mod Changed
 pub mod Declares
-pub mod FirstHeld
 pub mod Lines
-pub mod Reported
 pub mod Runs
-pub mod Shown
-pub mod Trimmed
-pub mod Written
 pub mod InOrder
 pub mod Rounds
 pub mod SetUp

@@ -8,13 +8,13 @@ use Rattle.shred_group.specs.declared.system.RunningTime.TheVariants.{VeryLong}
 use Rattle.shred_names.specs.Refusals.{IsBatchRefusal, MayAdd}
 use Rattle.shred_names.specs.declared.add_error.AddError.{AddError}
 use Rattle.shred_names.specs.declared.add_error.AddError.TheVariants.{NoSuchSystem, NameTaken, IdsExhausted, OutOfMemory, ThreadLocalInBatch}
-use Rattle.shredscript.specs.Endings.{add_error}
-use Rattle.shredscript.specs.declared.error.ScriptError.{ScriptError}
-use Rattle.shredscript.specs.declared.script.BatchLine.{BatchLine}
-use Rattle.shredscript.specs.declared.script.PlanLine.{PlanLine}
-use Rattle.shredscript.specs.declared.script.SystemLine.{SystemLine}
+use Rattle.shredscript_text.specs.Endings.{add_error}
+use Rattle.shredscript_text.specs.declared.error.ScriptError.{ScriptError}
+use Rattle.shredscript_text.specs.declared.script.BatchLine.{BatchLine}
+use Rattle.shredscript_text.specs.declared.script.PlanLine.{PlanLine}
+use Rattle.shredscript_text.specs.declared.script.SystemLine.{SystemLine}
 use Rattle.shredscript.specs.declared.system.ScriptSystem.{ScriptSystem}
-use Rattle.shredscript.specs.Declares.{read_ids, write_ids}
+use Rattle.shredscript_text.specs.Declares.{read_ids, write_ids}
 use Rattle.shredscript.specs.Lines.{AreBuiltBy, AreTaken, Building, IsBatchEnded, IsBatchNotAdded, IsLineAdded, IsLineTaken, ScriptBuilt, batch_needs, needed}
 
 -- a system with a line's steps and time was added by what it declares itself

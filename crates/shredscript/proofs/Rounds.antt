@@ -2,7 +2,7 @@
 use Rattle.std.proofs.Common.{◌≡◌, ℕ, suc, ◌+◌, ◌-◌, ◌<◌, Ok, Err, refl, sym, subst, arith}
 use Rattle.shred_model.specs.Runs.{Answer}
 use Rattle.shred_local.specs.declared.dispatch_error.DispatchError.{DispatchError}
-use Rattle.shredscript.specs.declared.outcome.Refusal.{Refusal}
+use Rattle.shredscript_text.specs.declared.outcome.Refusal.{Refusal}
 use Rattle.shredscript.specs.Runs.{AreDispatched, IsOnce, Program}
 
 -- As many dispatches as were asked for, less those of the rounds before, complete all of them.

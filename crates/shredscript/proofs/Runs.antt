@@ -7,12 +7,12 @@ use Rattle.shred_table.specs.declared.id.ResourceId.{ResourceId}
 use Rattle.shredscript.specs.Lines.{ScriptBuilt}
 use Rattle.shred_stage.specs.Names.{AreNames, NamedId}
 use Rattle.std.specs.Prelude.{IfOk, Result, Ok, Err}
-use Rattle.shredscript.specs.declared.error.ScriptError.{ScriptError}
-use Rattle.shredscript.specs.declared.error.ScriptError.TheVariants.{TooLong, InputFailed, Line, Refused, Unnamed, OutOfMemory, OutputFailed}
-use Rattle.shredscript.specs.declared.outcome.Outcome.{Outcome}
-use Rattle.shredscript.specs.declared.script.Script.{Script}
+use Rattle.shredscript_text.specs.declared.error.ScriptError.{ScriptError}
+use Rattle.shredscript_text.specs.declared.error.ScriptError.TheVariants.{TooLong, InputFailed, Line, Refused, Unnamed, OutOfMemory, OutputFailed}
+use Rattle.shredscript_text.specs.declared.outcome.Outcome.{Outcome}
+use Rattle.shredscript_text.specs.declared.script.Script.{Script}
 use Rattle.shredscript.specs.PlanTexts.{IsNotPlanned, IsPlanPart}
-use Rattle.shredscript.specs.Report.{first_held, resource_names}
+use Rattle.shredscript_text.specs.Report.{first_held, resource_names}
 use Rattle.shredscript.specs.Runs.{IsDispatch, IsMadeOf, IsNotRun, IsRunOf, Program, program_of}
 
 -- the dispatcher has the plan and the systems that were built, and the world has the first values

@@ -26,13 +26,13 @@ use Rattle.shred_batch.specs.declared.work.Nested.{Nested}
 use Rattle.shred_batch.specs.declared.work.Tier.{Tier}
 use Rattle.shred_batch.specs.declared.work.Work.{Work}
 use Rattle.shred_batch.specs.declared.work.Work.TheVariants.{System, Batch}
-use Rattle.shred_works.specs.OwnDepth.{depth_of}
-use Rattle.shred_works.specs.Setups.{OwnSetup, TierSetup, WorkSetup, outcome_within}
+use Rattle.shred_batch.specs.OwnDepth.{depth_of}
+use Rattle.shred_batch.specs.Setups.{OwnSetup, TierSetup, WorkSetup, outcome_within}
 use Rattle.shredscript.specs.Runs.{AtBoth, IsIdle, IsSetUpFrom, WasSetUp}
 use Rattle.shredscript.specs.Lines.{ScriptWork}
 use Rattle.shredscript.specs.declared.local.ScriptLocal.{ScriptLocal}
-use Rattle.shredscript.specs.declared.outcome.Refusal.{Refusal}
-use Rattle.shredscript.specs.declared.value.Value.{Value}
+use Rattle.shredscript_text.specs.declared.outcome.Refusal.{Refusal}
+use Rattle.shredscript_text.specs.declared.value.Value.{Value}
 
 -- each element of the first list is so related to that at its place in the second
 abbrev pub BothEach : {X : Type 0} → (X → X → Type 0) → List X → List X → Type 0

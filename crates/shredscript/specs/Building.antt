@@ -3,7 +3,7 @@ use Rattle.std.specs.Prelude.{map}
 use Rattle.shred.specs.Builders.{built}
 use Rattle.shredscript.specs.declared.build.Building.{Building as Builders}
 use Rattle.shredscript.specs.declared.build.Open.{Open}
-use Rattle.shredscript.specs.declared.script.BatchLine.{BatchLine}
+use Rattle.shredscript_text.specs.declared.script.BatchLine.{BatchLine}
 use Rattle.shredscript.specs.Lines.{Building, ScriptBuilt}
 
 -- a batch that is open, with what the builder has come to that is to take it

@@ -3,14 +3,14 @@ use Rattle.std.specs.Prelude.{ℕ, ℤ, pos, negsuc, Bool, cond, nat_lt, Option,
 use Rattle.shred_world.specs.Worked.{Held}
 use Rattle.shred_group.specs.declared.system.Fault.{Fault}
 use Rattle.shred_group.specs.declared.system.Fault.TheVariants.{Refused}
-use Rattle.shredscript.specs.declared.outcome.Refusal.{Refusal}
-use Rattle.shredscript.specs.declared.outcome.Refusal.TheVariants.{Overflow, Undeclared}
-use Rattle.shredscript.specs.declared.step.Operand.{Operand}
-use Rattle.shredscript.specs.declared.step.Operand.TheVariants.{Number, Resource}
-use Rattle.shredscript.specs.declared.step.Operation.{Operation}
-use Rattle.shredscript.specs.declared.value.Value.{Value}
+use Rattle.shredscript_text.specs.declared.outcome.Refusal.{Refusal}
+use Rattle.shredscript_text.specs.declared.outcome.Refusal.TheVariants.{Overflow, Undeclared}
+use Rattle.shredscript_text.specs.declared.step.Operand.{Operand}
+use Rattle.shredscript_text.specs.declared.step.Operand.TheVariants.{Number, Resource}
+use Rattle.shredscript_text.specs.declared.step.Operation.{Operation}
+use Rattle.shredscript_text.specs.declared.value.Value.{Value}
 use Rattle.shredscript.specs.Operation.{value_of}
-use Rattle.shredscript.specs.Place.{number_at}
+use Rattle.shredscript_text.specs.Place.{number_at}
 
 -- whether a number fits into 64 bits with sign: it lies from -2^63 to 2^63 - 1
 abbrev pub fits : ℤ → Bool

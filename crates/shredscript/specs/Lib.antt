@@ -1,16 +1,6 @@
 pub mod Operation
-pub mod Value
-pub mod Frame
-pub mod FrameLaws
-pub mod Place
-pub mod Declares
 pub mod Change
 pub mod Steps
-pub mod Words
-pub mod Texts
-pub mod Endings
-pub mod Input
-pub mod Report
 pub mod Lines
 pub mod PlanTexts
 pub mod Runs

@@ -12,19 +12,19 @@ use Rattle.shred_stage.specs.Known.{texts_of}
 use Rattle.shred_names.specs.declared.add_error.AddError.{AddError}
 use Rattle.shred_names.specs.declared.add_error.AddError.TheVariants as builder
 use Rattle.shredscript.specs.declared.batch.ScriptBatch.{ScriptBatch}
-use Rattle.shredscript.specs.declared.error.AddRefusal.{AddRefusal}
-use Rattle.shredscript.specs.declared.error.AddRefusal.TheVariants.{NoSuchSystem, NameTaken, IdsExhausted, ThreadLocalInBatch}
-use Rattle.shredscript.specs.declared.error.LineFault.TheVariants.{EndWithoutBatch, BatchWithoutEnd}
-use Rattle.shredscript.specs.declared.error.ScriptError.{ScriptError}
-use Rattle.shredscript.specs.declared.error.ScriptError.TheVariants.{TooLong, InputFailed, Line, Refused, Unnamed, OutOfMemory, OutputFailed}
-use Rattle.shredscript.specs.declared.script.BatchLine.{BatchLine}
-use Rattle.shredscript.specs.declared.script.PlanLine.{PlanLine}
-use Rattle.shredscript.specs.declared.script.PlanLine.TheVariants.{System, Local, Barrier, Batch, End}
-use Rattle.shredscript.specs.declared.script.SystemLine.{SystemLine}
-use Rattle.shredscript.specs.declared.step.Step.{Step}
+use Rattle.shredscript_text.specs.declared.error.AddRefusal.{AddRefusal}
+use Rattle.shredscript_text.specs.declared.error.AddRefusal.TheVariants.{NoSuchSystem, NameTaken, IdsExhausted, ThreadLocalInBatch}
+use Rattle.shredscript_text.specs.declared.error.LineFault.TheVariants.{EndWithoutBatch, BatchWithoutEnd}
+use Rattle.shredscript_text.specs.declared.error.ScriptError.{ScriptError}
+use Rattle.shredscript_text.specs.declared.error.ScriptError.TheVariants.{TooLong, InputFailed, Line, Refused, Unnamed, OutOfMemory, OutputFailed}
+use Rattle.shredscript_text.specs.declared.script.BatchLine.{BatchLine}
+use Rattle.shredscript_text.specs.declared.script.PlanLine.{PlanLine}
+use Rattle.shredscript_text.specs.declared.script.PlanLine.TheVariants.{System, Local, Barrier, Batch, End}
+use Rattle.shredscript_text.specs.declared.script.SystemLine.{SystemLine}
+use Rattle.shredscript_text.specs.declared.step.Step.{Step}
 use Rattle.shredscript.specs.declared.system.ScriptSystem.{ScriptSystem}
-use Rattle.shredscript.specs.declared.value.Value.{Value}
-use Rattle.shredscript.specs.Declares.{read_ids, write_ids}
+use Rattle.shredscript_text.specs.declared.value.Value.{Value}
+use Rattle.shredscript_text.specs.Declares.{read_ids, write_ids}
 
 -- what stands in an entry of a script's plan
 abbrev pub ScriptWork : Type 0

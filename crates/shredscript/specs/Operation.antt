@@ -1,6 +1,6 @@
 use Rattle.std.specs.Prelude.{ℤ, ◌+ℤ◌, ◌*ℤ◌}
-use Rattle.shredscript.specs.declared.step.Operation.{Operation}
-use Rattle.shredscript.specs.declared.step.Operation.TheVariants.{Add, Multiply, Set}
+use Rattle.shredscript_text.specs.declared.step.Operation.{Operation}
+use Rattle.shredscript_text.specs.declared.step.Operation.TheVariants.{Add, Multiply, Set}
 
 -- what takes the place of a value
 abbrev pub value_of : Operation → ℤ → ℤ → ℤ

@@ -5,9 +5,9 @@ use Rattle.shred_table.specs.declared.id.ResourceId.{ResourceId}
 use Rattle.shred_stage.specs.Names.{NamedId, first_unnamed}
 use Rattle.shred_stage.specs.Printed.{line_feed, plan_text}
 use Rattle.shred_stage.specs.StagePlan.{widest}
-use Rattle.shredscript.specs.declared.error.ScriptError.{ScriptError}
-use Rattle.shredscript.specs.declared.error.ScriptError.TheVariants.{TooLong, InputFailed, Line, Refused, Unnamed, OutOfMemory, OutputFailed}
-use Rattle.shredscript.specs.Texts.{line_of, threads_text}
+use Rattle.shredscript_text.specs.declared.error.ScriptError.{ScriptError}
+use Rattle.shredscript_text.specs.declared.error.ScriptError.TheVariants.{TooLong, InputFailed, Line, Refused, Unnamed, OutOfMemory, OutputFailed}
+use Rattle.shredscript_text.specs.Texts.{line_of, threads_text}
 
 -- each system of the plan has a name, and the text is the printed plan and a line feed
 abbrev pub IsPrint : List NamedId → Plan ResourceId → List ℕ → Type 0

@@ -15,26 +15,26 @@ use Rattle.shred_stage.specs.Sinks.{AppendsBeginning}
 use Rattle.shred_group.specs.Steps.{Outcome as Ends}
 use Rattle.shred_batch.specs.Controls.{Control}
 use Rattle.shred_model.specs.Record.{Agent}
-use Rattle.shred_works.specs.OwnDepth.{OwnStep}
-use Rattle.shred_works.specs.Setups.{OwnSetup}
+use Rattle.shred_batch.specs.OwnDepth.{OwnStep}
+use Rattle.shred_batch.specs.Setups.{OwnSetup}
 use Rattle.shred_local.specs.declared.dispatch_error.DispatchError.{DispatchError}
-use Rattle.shredscript.specs.declared.error.ScriptError.{ScriptError}
-use Rattle.shredscript.specs.declared.error.ScriptError.TheVariants.{TooLong, InputFailed, Line, Refused, Unnamed, OutOfMemory, OutputFailed}
-use Rattle.shredscript.specs.declared.input.TheConstants.{MOST_BYTES}
-use Rattle.shredscript.specs.declared.outcome.Outcome.{Outcome}
-use Rattle.shredscript.specs.declared.outcome.Refusal.{Refusal}
-use Rattle.shredscript.specs.declared.script.Script.{Script}
+use Rattle.shredscript_text.specs.declared.error.ScriptError.{ScriptError}
+use Rattle.shredscript_text.specs.declared.error.ScriptError.TheVariants.{TooLong, InputFailed, Line, Refused, Unnamed, OutOfMemory, OutputFailed}
+use Rattle.shredscript_text.specs.declared.input.TheConstants.{MOST_BYTES}
+use Rattle.shredscript_text.specs.declared.outcome.Outcome.{Outcome}
+use Rattle.shredscript_text.specs.declared.outcome.Refusal.{Refusal}
+use Rattle.shredscript_text.specs.declared.script.Script.{Script}
 use Rattle.shredscript.specs.declared.batch.ScriptBatch.{ScriptBatch}
 use Rattle.shredscript.specs.declared.system.ScriptSystem.{ScriptSystem}
-use Rattle.shredscript.specs.declared.value.Value.{Value}
-use Rattle.shredscript.specs.Endings.{outcome_of, status_of}
-use Rattle.shredscript.specs.Input.{IsLongerThan}
+use Rattle.shredscript_text.specs.declared.value.Value.{Value}
+use Rattle.shredscript_text.specs.Endings.{outcome_of, status_of}
+use Rattle.shredscript_text.specs.Input.{IsLongerThan}
 use Rattle.shredscript.specs.Lines.{IsBuiltBy, IsNotBuilt, ScriptBuilt, ScriptWork}
 use Rattle.shredscript.specs.PlanTexts.{IsPlanPart}
-use Rattle.shredscript.specs.Report.{first_held, resource_names, report}
+use Rattle.shredscript_text.specs.Report.{first_held, resource_names, report}
 use Rattle.shredscript.specs.Steps.{steps_left, steps_outcome}
-use Rattle.shredscript.specs.Texts.{error_text, line_of}
-use Rattle.shredscript.specs.Value.{kind_of}
+use Rattle.shredscript_text.specs.Texts.{error_text, line_of}
+use Rattle.shredscript_text.specs.Value.{kind_of}
 
 -- what a run of a script's system does: its steps, in order; the system stays as it was
 abbrev pub script_step : ScriptSystem → Held Value → Ends Refusal → ScriptSystem → Held Value → Type 0

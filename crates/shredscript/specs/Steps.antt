@@ -6,13 +6,13 @@ use Rattle.shred_group.specs.declared.system.Fault.{Fault}
 use Rattle.shred_group.specs.declared.system.Fault.TheVariants.{Refused}
 use Rattle.shred_group.specs.Steps.{Outcome}
 use Rattle.shred_table.specs.Slots.{with_at}
-use Rattle.shredscript.specs.declared.outcome.Refusal.{Refusal}
-use Rattle.shredscript.specs.declared.outcome.Refusal.TheVariants.{Code}
-use Rattle.shredscript.specs.declared.step.Step.{Step}
-use Rattle.shredscript.specs.declared.step.Step.TheVariants.{Change, Read, Write, Refuse}
-use Rattle.shredscript.specs.declared.value.Value.{Value}
+use Rattle.shredscript_text.specs.declared.outcome.Refusal.{Refusal}
+use Rattle.shredscript_text.specs.declared.outcome.Refusal.TheVariants.{Code}
+use Rattle.shredscript_text.specs.declared.step.Step.{Step}
+use Rattle.shredscript_text.specs.declared.step.Step.TheVariants.{Change, Read, Write, Refuse}
+use Rattle.shredscript_text.specs.declared.value.Value.{Value}
 use Rattle.shredscript.specs.Change.{changed}
-use Rattle.shredscript.specs.Place.{id_at}
+use Rattle.shredscript_text.specs.Place.{id_at}
 
 -- a change is Done where there is a new number, and is refused where there is none
 abbrev pub change_outcome : Result ℤ (Fault Refusal) → Outcome Refusal

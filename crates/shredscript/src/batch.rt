@@ -2,9 +2,9 @@
 ghost use Rattle.std.specs.Prelude.{◌≡◌, [], Ok, true};
 ghost use Rattle.shred_group.specs.declared.system.RunningTime.TheVariants.{VeryLong};
 
-use crate::outcome::Refusal;
-use crate::value::Value;
 use shred::{BatchController, Fault, OutOfMemory, RunningTime, View, World};
+use shredscript_text::outcome::Refusal;
+use shredscript_text::value::Value;
 use std::alloc::Global;
 
 /// The controller of a batch of a script, which runs its plan so often.

@@ -5,14 +5,14 @@ ghost use Rattle.shredscript.specs.Building.{state_of};
 ghost use Rattle.shredscript.specs.Lines.{IsBatchOpened, IsBatchEnded, IsBatchNotEnded, IsBuiltBy, IsLineAdded, IsLineTaken, IsLocalTaken, IsNotAdded, IsNotBuilt, IsNotTaken};
 
 use crate::batch::ScriptBatch;
-use crate::error::{LineFault, ScriptError};
 use crate::local::ScriptLocal;
-use crate::script::{BatchLine, PlanLine, SystemLine};
-use crate::step::Step;
 use crate::system::ScriptSystem;
-use crate::value::Value;
 use shred::{Batched, DispatcherBuilder, WithBatches};
 use shred_group::dispatch::entry::push_or_drop;
+use shredscript_text::error::{LineFault, ScriptError};
+use shredscript_text::script::{BatchLine, PlanLine, SystemLine};
+use shredscript_text::step::Step;
+use shredscript_text::value::Value;
 use std::alloc::Global;
 use std::mem;
 

@@ -1,12 +1,12 @@
 //! What the steps of a system declare.
 ghost use Rattle.std.specs.Prelude.{◌≡◌, ◌++◌, IfOk, OnOk};
 ghost use Rattle.std.specs.Option.{option_map, option_to_list};
-ghost use Rattle.shredscript.specs.Declares.{read_place, write_place, read_ids, write_ids};
-ghost use Rattle.shredscript.specs.Place.{id_at};
+ghost use Rattle.shredscript_text.specs.Declares.{read_place, write_place, read_ids, write_ids};
+ghost use Rattle.shredscript_text.specs.Place.{id_at};
 
-use crate::step::Step;
-use crate::value::id_at;
 use shred::{Accessor, OutOfMemory, ResourceId};
+use shredscript_text::step::Step;
+use shredscript_text::value::id_at;
 use std::alloc::{AllocError, Global};
 
 /// The ids that a system reads, and those that it writes.

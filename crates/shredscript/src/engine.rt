@@ -1,21 +1,16 @@
 //! From a script's bytes to its outcome's.
-ghost use Rattle.shred_stage.specs.Sinks.{AppendsBeginning};
 ghost use Rattle.shredscript.specs.Runs.{HasEnded, IsReadFor, IsReported};
-ghost use Rattle.shredscript.specs.Texts.{error_text, line_of};
 
-use crate::error::ScriptError;
-use crate::input::read_text;
-use crate::outcome::Outcome;
-use crate::output::print;
 use crate::run_plan::run_plan;
-use crate::script::Script;
-use arrayvec::ArrayVec;
+use shredscript_text::error::ScriptError;
+use shredscript_text::error_line::tell;
+use shredscript_text::input::read_text;
+use shredscript_text::outcome::Outcome;
+use shredscript_text::output::print;
+use shredscript_text::script::Script;
 use std::alloc::Global;
 use std::io::{Read, Write};
 use std::thread::Threads;
-
-/// The most bytes of an error's line.
-const MOST_LINE_BYTES: usize = 96;
 
 /// Reads a script, runs it and prints what it left to `out`, or why it is not run to `err`. Gives the exit status:
 /// 0 where all is well, 1 for a fault of the script, a failed read or a failed write to `out`, 2 for a refusal, of a line
@@ -61,15 +56,5 @@ fn run_script<T: Threads + Sync, R: Read, O: Write>(
             Err(_) => Err(ScriptError::OutputFailed),
         },
         Err(error) => Err(error),
-    }
-}
-
-// Writes the error's line, or a beginning of it where that fails.
-fn tell<E: Write>(err: &mut E, error: ScriptError)
-    ensures { AppendsBeginning (E.contents err.old) (E.contents err.new) (line_of (error_text error)) }
-{
-    let mut line: ArrayVec<u8, MOST_LINE_BYTES> = ArrayVec::new();
-    if let Ok(()) = writeln!(line, "{error}") {
-        let _ = print(err, line.as_slice());
     }
 }

@@ -2,11 +2,11 @@
 ghost use Rattle.std.specs.Prelude.{◌≡◌, ⊤, Ok, IfOk};
 ghost use Rattle.shredscript.specs.Steps.{steps_outcome, steps_left};
 
-use crate::outcome::Refusal;
-use crate::step::Step;
 use crate::stepping::run_steps;
-use crate::value::Value;
 use shred::{Fault, LocalWorld, RunNow, World};
+use shredscript_text::outcome::Refusal;
+use shredscript_text::step::Step;
+use shredscript_text::value::Value;
 use std::thread::Threads;
 
 /// A thread-local system of a script: steps that run in order, up to the first that refuses, over the whole world.

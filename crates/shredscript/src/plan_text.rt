@@ -4,8 +4,8 @@ ghost use Rattle.shred.specs.Builders.{built, builder_pairs};
 ghost use Rattle.shredscript.specs.PlanTexts.{IsNotPrinted, IsPrint};
 
 use crate::build::ScriptBuilder;
-use crate::error::ScriptError;
 use shred::{PlanSink, PrintError, SinkFailed};
+use shredscript_text::error::ScriptError;
 use std::alloc::Global;
 
 /// The bytes of a printed plan. A refusal of memory is a failure.

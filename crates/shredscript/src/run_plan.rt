@@ -1,43 +1,32 @@
 //! A script, looked through, run over a world.
-ghost use Rattle.std.specs.Prelude.{◌≡◌, OnOk, IfOk, IfErr};
-ghost use Rattle.std.specs.Io.KnownBytes.{Appends};
-ghost use Rattle.indexmap.specs.IndexMap.{values};
-ghost use Rattle.shred_table.specs.declared.id.ResourceId.{ResourceId};
-ghost use Rattle.shred_world.specs.Worlds.{world_held};
+ghost use Rattle.std.specs.Prelude.{◌≡◌, IfOk, IfErr};
 ghost use Rattle.shred_model.specs.Record.{Agent};
 ghost use Rattle.shred.specs.Builders.{built, builder_pairs};
 ghost use Rattle.shred.specs.Dispatchers.{dispatcher_locals, dispatcher_plan, dispatcher_states, dispatcher_workers};
 ghost use Rattle.shred.specs.FullRuns.{whole_over};
-ghost use Rattle.shredscript.specs.declared.error.ScriptError.TheVariants.{OutOfMemory};
-ghost use Rattle.shredscript.specs.Report.{first_held, resource_names, report, value_line};
+ghost use Rattle.shredscript_text.specs.declared.error.ScriptError.TheVariants.{OutOfMemory};
+ghost use Rattle.shredscript_text.specs.Report.{resource_names};
 ghost use Rattle.shredscript.specs.PlanTexts.{IsNotPlanned, IsPlanPart};
 ghost use Rattle.shredscript.specs.Runs.{AreDispatched, AreSetUpAndDispatched, IsDispatch, IsNotRun, IsOnce, IsRunOf};
-ghost use Rattle.shredscript.specs.Place.{number_at};
-ghost use Rattle.shredscript.specs.Value.{kind_of};
+ghost use Rattle.shredscript_text.specs.Value.{kind_of};
 
 use crate::batch::ScriptBatch;
 use crate::build::{ScriptBuilder, ScriptEntry, builder_of};
-use crate::error::ScriptError;
 use crate::local::ScriptLocal;
-use crate::outcome::{Outcome, Refusal, write_outcome, write_threads, write_value};
 use crate::plan_text::plan_text;
-use crate::script::{Manner, Mode, Script};
-use crate::step::Resources;
-use crate::value::{Value, id_at};
 use shred::{Batched, DispatchError, Dispatcher, World};
+use shredscript_text::error::ScriptError;
+use shredscript_text::first_values::world_of;
+use shredscript_text::outcome::{Outcome, Refusal, write_threads};
+use shredscript_text::report::{most_bytes, write_report};
+use shredscript_text::script::{Manner, Mode, Script};
+use shredscript_text::step::Resources;
+use shredscript_text::value::Value;
 use std::alloc::Global;
-use std::io;
-use std::io::Write;
 use std::thread::Threads;
 
 /// A dispatcher of a script's systems and batches.
 type ScriptDispatcher = Dispatcher<Value, ScriptEntry, Batched<ScriptBatch>, ScriptLocal>;
-
-/// The most bytes of a line of a report behind the name: `=`, a number of 64 bits with sign and a line feed.
-const MOST_VALUE_BYTES: usize = 22;
-
-/// The most bytes of the line that says how a run ended.
-const MOST_OUTCOME_BYTES: usize = 48;
 
 /// Runs the systems over the resources: how the run ended, and the report of what it left. All memory but that of the
 /// stages is taken before the dispatch.
@@ -165,60 +154,5 @@ fn planned(
     match write_threads(&mut text, dispatcher.max_threads()) {
         Ok(()) => Ok((dispatcher, text)),
         Err(_) => Err(ScriptError::OutOfMemory),
-    }
-}
-
-/// The most bytes of a report of these resources.
-fn most_bytes(resources: &Resources<'_>) -> usize {
-    let mut bytes = MOST_OUTCOME_BYTES;
-    for name in resources.keys() {
-        bytes = bytes
-            .saturating_add(name.len())
-            .saturating_add(MOST_VALUE_BYTES);
-    }
-    bytes
-}
-
-/// The world that holds each resource's first value.
-fn world_of(alloc: Global, resources: &Resources<'_>) -> Result<World<Value>, ScriptError>
-    ensures held { IfOk result (λ world. (id : ResourceId) → world_held kind_of world id ≡ first_held (values resources.now) id) }
-    ensures err { IfErr result (λ error. error ≡ OutOfMemory) }
-{
-    let mut world = World::empty(alloc);
-    for (place, first) in resources.values().enumerate() {
-        let Ok(()) = world.insert_by_id(id_at(place), *first) else {
-            return Err(ScriptError::OutOfMemory);
-        };
-    }
-    Ok(world)
-}
-
-/// Writes each resource's value, and how the run ended.
-fn write_report<W: Write>(
-    out: &mut W,
-    resources: &Resources<'_>,
-    world: &World<Value>,
-    outcome: Outcome,
-) -> io::Result<()>
-    ensures { OnOk result (Appends (W.contents out.old) (W.contents out.new) (report (resource_names resources.now) (world_held kind_of world.now) outcome)) }
-{
-    for (place, name) in resources.keys().enumerate() {
-        write_resource(out, name, place, world)?;
-    }
-    write_outcome(out, outcome)
-}
-
-/// Writes the line of the resource at this place, where a value of it is held.
-fn write_resource<W: Write>(
-    out: &mut W,
-    name: &str,
-    place: usize,
-    world: &World<Value>,
-) -> io::Result<()>
-    ensures { OnOk result (Appends (W.contents out.old) (W.contents out.new) (value_line name.now (number_at (world_held kind_of world.now) place))) }
-{
-    match world.try_fetch_by_id::<i64>(id_at(place)) {
-        Ok(Some(value)) => write_value(out, name, *value),
-        _ => Ok(()),
     }
 }

@@ -3,15 +3,16 @@ ghost use Rattle.std.specs.Prelude.{◌≡◌};
 ghost use Rattle.std.specs.List.{All};
 ghost use Rattle.std.specs.Option.{ok_or};
 ghost use Rattle.shred_group.specs.declared.system.Fault.TheVariants.{Refused};
-ghost use Rattle.shredscript.specs.declared.outcome.Refusal.TheVariants.{Undeclared};
+ghost use Rattle.shredscript_text.specs.declared.outcome.Refusal.TheVariants.{Undeclared};
 ghost use Rattle.shredscript.specs.Change.{changed, operand_number};
-ghost use Rattle.shredscript.specs.Declares.{AllowsStep};
+ghost use Rattle.shredscript_text.specs.Declares.{AllowsStep};
 ghost use Rattle.shredscript.specs.Steps.{change_outcome, change_left, step_outcome, step_left, steps_outcome, steps_left};
 
-use crate::numbers::Numbers;
-use crate::outcome::Refusal;
-use crate::step::{Operand, Operation, Step};
+use crate::arithmetic::apply;
 use shred::Fault;
+use shredscript_text::numbers::Numbers;
+use shredscript_text::outcome::Refusal;
+use shredscript_text::step::{Operand, Operation, Step};
 
 /// Runs the steps.
 pub(crate) fn run_steps<N: Numbers>(steps: &[Step], numbers: &mut N) -> Result<(), Fault<Refusal>>
@@ -87,7 +88,7 @@ fn changed<N: Numbers>(
         Ok(number) => number,
         Err(fault) => return Err(fault),
     };
-    match operation.apply(value, operand) {
+    match apply(operation, value, operand) {
         Some(next) => Ok(next),
         None => Err(Fault::Refused(Refusal::Overflow)),
     }

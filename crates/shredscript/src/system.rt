@@ -1,14 +1,14 @@
 //! A script's systems, as they are dispatched.
 ghost use Rattle.std.specs.Prelude.{◌≡◌, Ok, IfOk};
-ghost use Rattle.shredscript.specs.Declares.{read_ids, write_ids};
+ghost use Rattle.shredscript_text.specs.Declares.{read_ids, write_ids};
 ghost use Rattle.shredscript.specs.Steps.{steps_outcome, steps_left};
 
 use crate::declared::Declared;
-use crate::outcome::Refusal;
-use crate::step::Step;
 use crate::stepping::run_steps;
-use crate::value::Value;
 use shred::{Fault, OutOfMemory, RunningTime, System, View, World};
+use shredscript_text::outcome::Refusal;
+use shredscript_text::step::Step;
+use shredscript_text::value::Value;
 use std::alloc::{AllocError, Global};
 
 /// A system of a script: steps that run in order, up to the first that refuses.

@@ -16,7 +16,7 @@ use Rattle.shred_stage.specs.Dispatched.{Dispatched, stages_with}
 use Rattle.shred_stage.specs.Plans.{plan_states}
 use Rattle.shred_stage.specs.StagePlan.{plan_of}
 use Rattle.shred_stage.specs.declared.dispatch.stage.Stage.{Stage}
-use Rattle.shred_works.specs.OwnDepth.{OwnStep, OwnsItself}
+use Rattle.shred_batch.specs.OwnDepth.{OwnStep, OwnsItself}
 use Rattle.shred.specs.AtEveryDepth.{FullyLeavesAtEveryDepth, LeavesAtEveryDepth, nested_whole_with}
 use Rattle.shred.specs.declared.dispatch.dispatcher.Dispatcher.{Dispatcher}
 use Rattle.shred.specs.FullRuns.{FullyDispatched, whole_with}

@@ -6,7 +6,7 @@ ghost use Rattle.shred_model.specs.Access.{Access};
 ghost use Rattle.shred_names.specs.Refusals.{IsBatchRefusal, IsRefusal, MayAdd};
 ghost use Rattle.shred_stage.specs.Dispatched.{Dispatched, stages_with};
 ghost use Rattle.shred_stage.specs.Known.{texts_of};
-ghost use Rattle.shred_works.specs.OwnDepth.{OwnStep};
+ghost use Rattle.shred_batch.specs.OwnDepth.{OwnStep};
 ghost use Rattle.shred_world.specs.Worlds.{local_held, world_held};
 ghost use Rattle.shred.specs.AtEveryDepth.{FullyLeavesAtEveryDepth, LeavesAtEveryDepth, RunsAtEveryDepth, nested_over, nested_whole_over, nested_whole_with};
 ghost use Rattle.shred.specs.Batches.{IsBatchAddition};
@@ -17,6 +17,7 @@ ghost use Rattle.shred.specs.PlanRuns.{PlanRun};
 
 use crate::dispatch::builder::DispatcherBuilder;
 use crate::dispatch::dispatcher::{Dispatcher, as_run, at_stage};
+use shred_batch::kept::batch_entry;
 use shred_batch::{BatchController, Nested, Work};
 use shred_local::{DispatchError, RunNow};
 use shred_names::AddError;
@@ -24,7 +25,6 @@ use shred_names::look_up::may_add;
 use shred_stage::dispatch::inner::tiers_of;
 use shred_stage::{Fault, Stage, System, SystemId};
 use shred_works::Batched;
-use shred_works::kept::batch_entry;
 use shred_world::{LocalWorld, ResourceValue, World};
 use std::thread::Threads;
 

@@ -17,7 +17,7 @@ use Rattle.shred_batch.specs.KeptControllers.{control_access}
 use Rattle.shred_batch.specs.Controls.{Control}
 use Rattle.shred_batch.specs.Rounds.{IsControlOver}
 use Rattle.shred_batch.specs.declared.control.KeptController.{KeptController}
-use Rattle.shred_batch.proofs.Turns.Behind.{left-before, has-after, given-first, own-first}
+use Rattle.shred_batch.proofs.Turns.Before.{left-before, has-after, given-first, own-first}
 
 module _ {V : Type 0} (lent : Lent V) (writes taken : List ResourceId) (within : (q : ResourceId) → among taken q ≡ true → among writes q ≡ true) where
   -- what was moved into the hand was moved out of what the table shows before all that is lent

@@ -5,7 +5,7 @@ ghost use Rattle.shred_model.specs.Record.{Agent};
 ghost use Rattle.shred_stage.specs.Inner.{tiers_states};
 ghost use Rattle.shred_stage.specs.Plans.{plan_states};
 ghost use Rattle.shred_stage.specs.StagePlan.{plan_of};
-ghost use Rattle.shred_works.specs.Batches.{IsTierOf};
+ghost use Rattle.shred_batch.specs.Batches.{IsTierOf};
 
 use crate::dispatch::stage::Stage;
 use shred_batch::Tier;

@@ -33,7 +33,7 @@ use std::marker::PhantomData;
 use std::thread::Threads;
 
 /// Which groups of a stage an entry has to come after.
-#[derive(Clone, Copy, Debug, PartialEq, Eq)]
+#[derive(Clone, Copy)]
 pub(crate) enum Touched {
     Nothing,
     One(usize),
@@ -41,7 +41,7 @@ pub(crate) enum Touched {
 }
 
 /// Where a stage takes an entry: as a new last group, or at the end of a group.
-#[derive(Clone, Copy, Debug, PartialEq, Eq)]
+#[derive(Clone, Copy)]
 pub(crate) enum Spot {
     NewGroup,
     EndOf(usize),
@@ -229,7 +229,7 @@ impl<V, X: Occupant<C, V>, C> Stage<V, X, C> {
     ghost use Rattle.shred_model.specs.Record.{Agent};
     ghost use Rattle.shred_stage.specs.Plans.{stage_states};
     ghost use Rattle.shred_stage.specs.StagePlan.{stage_plan};
-    ghost use Rattle.shred_works.specs.Batches.{IsTierOf};
+    ghost use Rattle.shred_batch.specs.Batches.{IsTierOf};
 
     /// Its groups, as a tier of the inner plan of a batch.
     pub(crate) fn into_tier(self) -> Tier<V, X>
@@ -355,7 +355,7 @@ where
     ghost use Rattle.shred_stage.specs.Dispatched.{Dispatched, stage_over, stage_with};
     ghost use Rattle.shred_group.specs.Entries.{StageTurn};
     ghost use Rattle.shred_world.specs.Worlds.{local_held};
-    ghost use Rattle.shred_works.specs.OwnDepth.{OwnStep};
+    ghost use Rattle.shred_batch.specs.OwnDepth.{OwnStep};
     ghost use Rattle.shred_batch.specs.Depths.{Related};
 
     /// Takes the stage's turn, as of a stage of systems alone. A batch hands the number of threads on: each stage of an inner

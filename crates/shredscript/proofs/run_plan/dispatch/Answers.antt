@@ -1,6 +1,6 @@
 use Rattle.std.proofs.Common.{rules}
 use Rattle.shred.specs.FullRuns.{whole_over}
-use Rattle.shredscript.specs.Value.{kind_of}
+use Rattle.shredscript_text.specs.Value.{kind_of}
 use Rattle.shredscript.proofs.run_plan.dispatch.Goals as goal
 
 pub returns-in-Ok-clause-dispatch : goal.returns-in-Ok-clause-dispatch

@@ -1,6 +1,6 @@
 use Rattle.std.proofs.Common.{arith}
 use Rattle.shred.specs.FullRuns.{whole_over}
-use Rattle.shredscript.specs.Value.{kind_of}
+use Rattle.shredscript_text.specs.Value.{kind_of}
 use Rattle.shredscript.proofs.Rounds.{rounds-start, rounds-more, rounds-fault, rounds-end}
 use Rattle.shredscript.proofs.run_plan.dispatch_each.Goals as goal
 

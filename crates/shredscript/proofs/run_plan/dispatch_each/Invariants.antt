@@ -1,5 +1,5 @@
 use Rattle.shred.specs.FullRuns.{whole_over}
-use Rattle.shredscript.specs.Value.{kind_of}
+use Rattle.shredscript_text.specs.Value.{kind_of}
 use Rattle.shredscript.proofs.Rounds.{RoundsSoFar}
 use Rattle.shredscript.proofs.run_plan.dispatch_each.Given as goal
 

@@ -5,7 +5,7 @@ use Rattle.shred_world.specs.Worlds.{world_held}
 use Rattle.shred.specs.Dispatchers.{dispatcher_over}
 use Rattle.shred.specs.PlanRuns.{PlanRun}
 use Rattle.shredscript.specs.Runs.{work_step}
-use Rattle.shredscript.specs.Value.{kind_of}
+use Rattle.shredscript_text.specs.Value.{kind_of}
 use Rattle.shredscript.proofs.run_plan.dispatch_in_sequence.Goals as goal
 
 pub returns-in-Ok : goal.returns-in-Ok

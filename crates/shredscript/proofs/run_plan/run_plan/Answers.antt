@@ -2,7 +2,7 @@ use Rattle.std.proofs.Common.{refl, rules}
 use Rattle.shred.specs.Builders.{built, builder_pairs}
 use Rattle.shred.specs.FullRuns.{whole_over}
 use Rattle.shredscript.specs.Runs.{IsMadeOf}
-use Rattle.shredscript.specs.Value.{kind_of}
+use Rattle.shredscript_text.specs.Value.{kind_of}
 use Rattle.shred.proofs.Names.KnownNames.{names-known}
 use Rattle.shredscript.proofs.Runs.{run-of, not-run, ok-then}
 use Rattle.shredscript.proofs.run_plan.run_plan.Goals as goal

@@ -1,7 +1,7 @@
 use Rattle.std.proofs.Common.{◌≡◌, w64, FitsSigned, ℤ, Ok, to_z, of_z, subst, sym, ap, ◌∙◌, rules}
 use Rattle.std.proofs.lemmas.Int.{to_z-of_z}
 use Rattle.shredscript.specs.Change.{operand_number}
-use Rattle.shredscript.specs.Place.{number_at}
+use Rattle.shredscript_text.specs.Place.{number_at}
 use Rattle.shredscript.proofs.Changed.{combined-overflow, combined-fits}
 use Rattle.shredscript.proofs.stepping.changed.Goals as goal
 

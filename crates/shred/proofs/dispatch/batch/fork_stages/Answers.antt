@@ -2,7 +2,7 @@ use Rattle.std.proofs.Common.{◌∙◌, get_or, Ok, Err, refl, arith}
 use Rattle.std.proofs.Math.Seq.{map-set_same}
 use Rattle.shred_model.proofs.Joined.UpToFault.{SoFar-start, SoFar-more, SoFar-fault, SoFar-end}
 use Rattle.shred_world.specs.Worlds.{local_held}
-use Rattle.shred_works.specs.OwnDepth.{OwnStep}
+use Rattle.shred_batch.specs.OwnDepth.{OwnStep}
 use Rattle.shred_stage.specs.Dispatched.{stages_with}
 use Rattle.shred_stage.specs.Plans.{stage_states}
 use Rattle.shred.specs.PlanRuns.{PlanTurn}

@@ -4,7 +4,7 @@ use Rattle.shred_model.specs.States.{configuration_of, listed_states}
 use Rattle.shred_model.proofs.Joined.UpToFault.{SoFar}
 use Rattle.shred_table.specs.declared.id.ResourceId.{ResourceId}
 use Rattle.shred_world.specs.Worlds.{local_held}
-use Rattle.shred_works.specs.OwnDepth.{OwnStep}
+use Rattle.shred_batch.specs.OwnDepth.{OwnStep}
 use Rattle.shred_stage.specs.Plans.{stage_states}
 use Rattle.shred.specs.PlanRuns.{PlanTurn}
 use Rattle.shred_stage.specs.StagePlan.{stage_plan}

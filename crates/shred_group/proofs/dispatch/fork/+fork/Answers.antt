@@ -14,3 +14,9 @@ pub fork_lanes-returns : goal.fork_lanes-returns
 fork_lanes-returns g t c =
     AllWent-halves (Calls g.F.Fn c.args.run.now) c.args.lanes.now c.split_at_mut-front.result.0.now c.split_at_mut-front.result.1.now c.first.result c.answer-2-1.given.0 c.other-2-1.given.0 c.front-1.given.0 c.back-1.given.0
     c.split_at_mut-front.ensures.value c.first.ensures (search rules) (search rules)
+
+pub fork_lanes-split_at_mut-front-requires : goal.fork_lanes-split_at_mut-front-requires
+fork_lanes-split_at_mut-front-requires g t c = omega arith
+
+pub fork_lanes-overflow_sub-rest : goal.fork_lanes-overflow_sub-rest
+fork_lanes-overflow_sub-rest g t c = omega arith

@@ -7,7 +7,7 @@ use Rattle.shred_batch.specs.Works.{tier_plan, tier_states, tiers_plan}
 use Rattle.shred_stage.specs.Inner.{tiers_states}
 use Rattle.shred_stage.specs.Plans.{stage_states}
 use Rattle.shred_stage.specs.StagePlan.{plan_of, stage_plan}
-use Rattle.shred_works.specs.Batches.{IsTierOf}
+use Rattle.shred_batch.specs.Batches.{IsTierOf}
 use Rattle.shred_stage.proofs.Planner.Tiers.{listed-pushed}
 use Rattle.shred_stage.proofs.dispatch.inner.tiers_of.Goals as goal
 

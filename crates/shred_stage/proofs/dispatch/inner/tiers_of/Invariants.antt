@@ -6,7 +6,7 @@ use Rattle.shred_model.specs.Record.{Agent}
 use Rattle.shred_stage.specs.Inner.{tiers_states}
 use Rattle.shred_stage.specs.Plans.{plan_states}
 use Rattle.shred_stage.specs.StagePlan.{plan_of}
-use Rattle.shred_works.specs.Batches.{IsTierOf}
+use Rattle.shred_batch.specs.Batches.{IsTierOf}
 use Rattle.shred_stage.proofs.dispatch.inner.tiers_of.Given as goal
 
 abbrev pub invariant-loop-stage : goal.invariant-loop-stage

@@ -1,5 +1,5 @@
 use Rattle.std.proofs.Common.{◌≡◌, ◌++◌, drop}
-use Rattle.shredscript.specs.Declares.{read_ids, write_ids}
+use Rattle.shredscript_text.specs.Declares.{read_ids, write_ids}
 use Rattle.shredscript.proofs.declared.Declared.of_steps.Given as goal
 
 abbrev pub invariant-loop-step : goal.invariant-loop-step

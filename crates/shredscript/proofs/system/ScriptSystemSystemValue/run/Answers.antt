@@ -1,6 +1,6 @@
 use Rattle.std.proofs.Common.{◌≡◌, ◌∙◌, ap, sym}
 use Rattle.shred_table.specs.Slots.{among}
-use Rattle.shredscript.specs.Declares.{write_ids}
+use Rattle.shredscript_text.specs.Declares.{write_ids}
 use Rattle.shredscript.proofs.Declares.{MayWrite-each}
 use Rattle.shredscript.proofs.system.ScriptSystemSystemValue.run.Goals as goal
 

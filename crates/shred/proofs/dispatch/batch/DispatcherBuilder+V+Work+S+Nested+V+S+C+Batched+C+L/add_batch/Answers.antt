@@ -1,4 +1,4 @@
-use Rattle.std.proofs.Common.{◌∙◌, ap, sym, subst, arith}
+use Rattle.std.proofs.Common.{refl, ◌∙◌, ap, sym, subst, arith}
 use Rattle.std.proofs.lemmas.List.{nil_from_length}
 use Rattle.shred_batch.specs.Depths.{batch_of}
 use Rattle.shred_batch.specs.Works.{tiers_plan}
@@ -7,7 +7,7 @@ use Rattle.shred_local.specs.ThreadLocals.{systems_of}
 use Rattle.shred_model.specs.Access.{Access}
 use Rattle.shred_stage.specs.Inner.{tiers_states}
 use Rattle.shred_table.specs.declared.id.ResourceId.{ResourceId}
-use Rattle.shred_works.specs.Batches.{IsKeptBatch, IsOneDeeper, joined_access}
+use Rattle.shred_batch.specs.Batches.{IsKeptBatch, IsOneDeeper, joined_access}
 use Rattle.shred.proofs.dispatch.batch.DispatcherBuilder+V+Work+S+Nested+V+S+C+Batched+C+L.add_batch.Goals as goal
 
 pub returns-in-Ok-accept-clause-added : goal.returns-in-Ok-accept-clause-added
@@ -35,3 +35,18 @@ returns-in-Ok-accept-clause-added g c =
 
 pub returns-clause-refused : goal.returns-clause-refused
 returns-clause-refused g c = (nil_from_length (systems_of c.args.inner.thread_local) (omega (arith, c.len.ensures, c.if-len-gt0.false)), c.in_ok-may_add.ensures.ok)
+
+pub returns-then-len-gt0-clause-unchanged : goal.returns-then-len-gt0-clause-unchanged
+returns-then-len-gt0-clause-unchanged g c = record { plan = refl; states = λ agent. refl; known = λ name. refl; barrier = refl; next = refl; locals = refl; workers = refl }
+
+pub returns-in_default-clause-unchanged : goal.returns-in_default-clause-unchanged
+returns-in_default-clause-unchanged g c = record { plan = refl; states = λ agent. refl; known = λ name. refl; barrier = refl; next = refl; locals = refl; workers = refl }
+
+pub returns-in_default-batch_entry-clause-unchanged : goal.returns-in_default-batch_entry-clause-unchanged
+returns-in_default-batch_entry-clause-unchanged g c = record { plan = refl; states = λ agent. refl; known = λ name. refl; barrier = refl; next = refl; locals = refl; workers = refl }
+
+pub returns-in-Ok-accept-clause-no_local : goal.returns-in-Ok-accept-clause-no_local
+returns-in-Ok-accept-clause-no_local g c = nil_from_length (systems_of c.args.inner.thread_local) (omega (arith, c.len.ensures, c.if-len-gt0.false))
+
+pub returns-in-Ok-accept-clause-allowed : goal.returns-in-Ok-accept-clause-allowed
+returns-in-Ok-accept-clause-allowed g c = c.in_ok-may_add.ensures.ok

@@ -5,7 +5,7 @@ use Rattle.shred_model.specs.Plan.{group_access}
 use Rattle.shred_table.specs.Slots.{held}
 use Rattle.shred_batch.specs.declared.work.Nested.{Nested}
 use Rattle.shred_batch.specs.declared.work.Work.{Work}
-use Rattle.shred_works.specs.OwnDepth.{OwnStep, OwnsItself}
+use Rattle.shred_batch.specs.OwnDepth.{OwnStep, OwnsItself}
 use Rattle.shred_group.specs.PlanOf.{groups_plan}
 use Rattle.shred_group.specs.declared.dispatch.entry.Group.{Group}
 use Rattle.shred_group.specs.Turns.{TookTurn}

@@ -1,4 +1,4 @@
-use Rattle.std.proofs.Common.{◌<◌, length}
+use Rattle.std.proofs.Common.{◌<◌, ◌≡◌, length, arith, rules}
 use Rattle.std.proofs.lemmas.List.{length-map}
 use Rattle.std.proofs.lemmas.Result.{on_ok_weaker, on_err_weaker}
 use Rattle.shred_stage.specs.EntriesAt.{group_entries}
@@ -49,3 +49,10 @@ pub returns-clause-unchanged : goal.returns-clause-unchanged
 returns-clause-unchanged g c =
     same_when_refused group_entries c.push.result c.args.self.now.groups.items c.args.group c.index_mut.result.now c.push.new.self c.index_mut.ensures.value
     (on_err_weaker c.push.result (same_in_group c.index_mut.result.now c.push.new.self) c.push.ensures.unchanged)
+
+pub index_mut-requires : goal.index_mut-requires
+index_mut-requires g c =
+    let groups = c.args.self.now.groups in
+    let within : c.args.group < length groups.items = rw (length-map groups.items group_plan) at c.requires.within in
+    let same : length groups.items ≡ groups.len = search rules in
+    omega (arith, same, within)

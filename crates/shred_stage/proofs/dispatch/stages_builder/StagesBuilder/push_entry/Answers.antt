@@ -1,4 +1,4 @@
-use Rattle.std.proofs.Common.{◌<◌, arith, length, length-set}
+use Rattle.std.proofs.Common.{◌<◌, ◌≡◌, arith, length, length-set, rules}
 use Rattle.std.proofs.lemmas.List.{length-map}
 use Rattle.shred_stage.specs.EntriesAt.{stage_entries}
 use Rattle.shred_stage.specs.StagePlan.{stage_plan}
@@ -49,3 +49,10 @@ returns-clause-added g c =
 pub returns-clause-unchanged : goal.returns-clause-unchanged
 returns-clause-unchanged g c =
     same_when_refused stage_entries c.push_entry.result c.args.self.now.stages.items c.args.stage c.index_mut.result.now c.push_entry.new.self c.index_mut.ensures.value c.push_entry.ensures.unchanged
+
+pub index_mut-requires : goal.index_mut-requires
+index_mut-requires g c =
+    let stages = c.args.self.now.stages in
+    let within : c.args.stage < length stages.items = rw (length-map stages.items stage_plan) at c.requires.within in
+    let same : length stages.items ≡ stages.len = search rules in
+    omega (arith, same, within)

@@ -18,3 +18,9 @@ returns-in-Ok-Some-clause-taken g c = search rules
 
 pub returns-in-Ok-Some-clause-loan : goal.returns-in-Ok-Some-clause-loan
 returns-in-Ok-Some-clause-loan g c = c.take_out.ensures.loan
+
+pub returns-in-Ok-None-clause-loan : goal.returns-in-Ok-None-clause-loan
+returns-in-Ok-None-clause-loan g c = c.take_out.ensures.loan
+
+pub returns-in-Err-take_out-clause-loan : goal.returns-in-Err-take_out-clause-loan
+returns-in-Err-take_out-clause-loan g c = c.take_out.ensures.loan

@@ -1,6 +1,0 @@
-use Rattle.shred_table.specs.declared.id.Kind.{Kind}
-use Rattle.shredscript.specs.declared.value.Value.{Value}
-
--- every value is of the one kind
-abbrev pub kind_of : Value → Kind
-kind_of value = record { 0 = 0 }

@@ -1,0 +1,5 @@
+pub mod FirstHeld
+pub mod Reported
+pub mod Shown
+pub mod Trimmed
+pub mod Written

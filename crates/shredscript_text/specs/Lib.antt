@@ -1,0 +1,10 @@
+pub mod Value
+pub mod Frame
+pub mod FrameLaws
+pub mod Place
+pub mod Declares
+pub mod Words
+pub mod Texts
+pub mod Endings
+pub mod Input
+pub mod Report

@@ -1,0 +1,123 @@
+//! The numbers of resources, as steps read and write them: through a system's view, or in a whole world.
+ghost use Rattle.std.specs.Prelude.{◌≡◌, ℕ, ⊤, Some, IsSome};
+ghost use Rattle.std.specs.Option.{ok_or};
+ghost use Rattle.shred_group.specs.declared.system.Fault.TheVariants.{Refused};
+ghost use Rattle.shred_table.specs.Slots.{with_at};
+ghost use Rattle.shredscript_text.specs.declared.outcome.Refusal.TheVariants.{Undeclared};
+ghost use Rattle.shredscript_text.specs.Place.{id_at, number_at};
+
+use crate::outcome::Refusal;
+use crate::value::{Value, id_at};
+use shred_group::Fault;
+use shred_world::{LocalWorld, View};
+
+/// Where the numbers of resources stand, each at its place among the declared ones.
+pub trait Numbers {
+    ghost use Rattle.shred_world.specs.Worked.{Held};
+    ghost use Rattle.shredscript_text.specs.declared.value.Value.{Value};
+
+    ghost seen: { Self → Held Value };
+
+    ghost is_ready: { Self → Type 0 };
+
+    ghost allows: { Self → ℕ → Type 0 };
+
+    ghost keeps: { Self → Self → Type 0 };
+
+    /// The number at a place.
+    fn number(&self, place: usize) -> Result<i64, Fault<Refusal>>
+        requires { is_ready self.now }
+        ensures { result ≡ ok_or (number_at (seen self.now) place) (Refused Undeclared) };
+
+    /// Puts a number in the place of the one that is held.
+    fn set(&mut self, place: usize, number: i64)
+        requires is_ready { is_ready self.old }
+        requires allowed { allows self.old place }
+        requires held { IsSome (number_at (seen self.old) place) }
+        ensures left { seen self.new ≡ with_at (seen self.old) (id_at place) (Some (record { 0 = number })) }
+        ensures keeps { keeps self.old self.new };
+
+    ghost keeps_same: { (x : Self) → keeps x x };
+
+    ghost keeps_then: { (x y z : Self) → keeps x y → keeps y z → keeps x z };
+
+    ghost keeps_ready: { (x y : Self) → keeps x y → is_ready x → is_ready y };
+
+    ghost keeps_allowed: { (x y : Self) → keeps x y → (place : ℕ) → allows x place → allows y place };
+}
+
+impl Numbers for View<'_, '_, Value> {
+    ghost use Rattle.shred_world.specs.Views.{is_out, may_write};
+    ghost use Rattle.shredscript_text.specs.Frame.{ChangesWritten};
+    ghost use Rattle.shredscript_text.specs.Place.{seen_through};
+    ghost use Rattle.shredscript_text.specs.FrameLaws.{changes-same, changes-then, ready-still, may_write-still};
+    ghost use Rattle.shred_table.specs.declared.id.ResourceId.{ResourceId};
+    ghost use Rattle.std.specs.Prelude.{false, IsTrue};
+
+    ghost seen = { seen_through };
+
+    ghost is_ready = { λ view. (id : ResourceId) → is_out view id ≡ false };
+
+    ghost allows = { λ view place. IsTrue (may_write view (id_at place)) };
+
+    ghost keeps = { ChangesWritten };
+
+    fn number(&self, place: usize) -> Result<i64, Fault<Refusal>> {
+        match self.read::<i64>(id_at(place)) {
+            Ok(number) => Ok(*number),
+            Err(error) => Err(Fault::from(error)),
+        }
+    }
+
+    fn set(&mut self, place: usize, number: i64) {
+        let Ok(held) = self.write::<i64>(id_at(place)) else {
+            unreachable!()
+        };
+        *held = number;
+    }
+
+    ghost keeps_same = { changes-same };
+
+    ghost keeps_then = { changes-then };
+
+    ghost keeps_ready = { λ x y kept ready. ready-still x y kept ready };
+
+    ghost keeps_allowed = { λ x y kept place allowed. may_write-still x y kept (id_at place) allowed };
+}
+
+impl Numbers for LocalWorld<Value> {
+    ghost use Rattle.shred_group.specs.Alone.{KeepsKinds};
+    ghost use Rattle.shred_world.specs.Worlds.{local_held};
+    ghost use Rattle.shredscript_text.specs.Value.{kind_of};
+    ghost use Rattle.std.proofs.Common.{refl, ◌∙◌};
+
+    ghost seen = { local_held kind_of };
+
+    ghost is_ready = { λ world. ⊤ };
+
+    ghost allows = { λ world place. ⊤ };
+
+    ghost keeps = { λ old new. KeepsKinds kind_of (local_held kind_of old) (local_held kind_of new) };
+
+    fn number(&self, place: usize) -> Result<i64, Fault<Refusal>> {
+        match self.try_fetch_by_id::<i64>(id_at(place)) {
+            Ok(Some(number)) => Ok(*number),
+            _ => Err(Fault::Refused(Refusal::Undeclared)),
+        }
+    }
+
+    fn set(&mut self, place: usize, number: i64) {
+        let Ok(held) = self.try_fetch_mut_by_id::<i64>(id_at(place)) else {
+            unreachable!()
+        };
+        *held = number;
+    }
+
+    ghost keeps_same = { λ x id. refl };
+
+    ghost keeps_then = { λ x y z one two id. two id ∙ one id };
+
+    ghost keeps_ready = { λ x y kept ready. tt };
+
+    ghost keeps_allowed = { λ x y kept place allowed. tt };
+}

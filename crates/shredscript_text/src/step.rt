@@ -1,0 +1,104 @@
+//! The steps of a system: how they are written, and what they declare.
+ghost use Rattle.std.specs.Prelude.{◌≡◌};
+ghost use Rattle.shredscript_text.specs.Declares.{read_place, write_place};
+
+use crate::error::LineFault;
+use crate::words::{integer, refusal_code, resource_name};
+use indexmap::IndexMap;
+
+/// The declared resources with their first values, in order of declaration.
+pub type Resources<'text> = IndexMap<&'text str, i64>;
+
+/// How a step changes a value.
+#[derive(Clone, Copy)]
+pub enum Operation {
+    Add,
+    Multiply,
+    Set,
+}
+
+/// What a step adds, multiplies by or sets. A resource goes by its place among the declared ones.
+#[derive(Clone, Copy)]
+pub enum Operand {
+    Number(i64),
+    Resource(usize),
+}
+
+/// One step of a system. A resource goes by its place among the declared ones.
+#[derive(Clone, Copy)]
+pub enum Step {
+    Change {
+        target: usize,
+        operation: Operation,
+        operand: Operand,
+    },
+    Read(usize),
+    Write(usize),
+    Refuse(u32),
+}
+
+impl Step {
+    /// The step that `word` writes. Its form is tested before its names are looked up.
+    pub(crate) fn parse(word: &str, resources: &Resources<'_>) -> Result<Step, LineFault> {
+        if let Some(name) = word.strip_prefix('?') {
+            Ok(Step::Read(place_of(resource_name(name)?, resources)?))
+        } else if let Some(name) = word.strip_prefix('!') {
+            Ok(Step::Write(place_of(resource_name(name)?, resources)?))
+        } else if let Some(digits) = word.strip_prefix("refuse:") {
+            Ok(Step::Refuse(refusal_code(digits)?))
+        } else {
+            Step::parse_change(word, resources)
+        }
+    }
+
+    fn parse_change(word: &str, resources: &Resources<'_>) -> Result<Step, LineFault> {
+        let (changed, value) = word.split_once('=').ok_or(LineFault::BadWord)?;
+        let (name, operation) = if let Some(name) = changed.strip_suffix('+') {
+            (name, Operation::Add)
+        } else if let Some(name) = changed.strip_suffix('*') {
+            (name, Operation::Multiply)
+        } else {
+            (changed, Operation::Set)
+        };
+        let name = resource_name(name)?;
+        let operand = match resource_name(value) {
+            Ok(source) => Operand::Resource(place_of(source, resources)?),
+            Err(_) => Operand::Number(integer(value)?),
+        };
+        Ok(Step::Change {
+            target: place_of(name, resources)?,
+            operation,
+            operand,
+        })
+    }
+
+    /// The resource that the step declares to read.
+    pub fn read_place(self) -> Option<usize>
+        ensures { result ≡ read_place self }
+    {
+        match self {
+            Step::Read(place)
+            | Step::Change {
+                operand: Operand::Resource(place),
+                ..
+            } => Some(place),
+            _ => None,
+        }
+    }
+
+    /// The resource that the step declares to write.
+    pub fn write_place(self) -> Option<usize>
+        ensures { result ≡ write_place self }
+    {
+        match self {
+            Step::Write(place) | Step::Change { target: place, .. } => Some(place),
+            _ => None,
+        }
+    }
+}
+
+fn place_of(name: &str, resources: &Resources<'_>) -> Result<usize, LineFault> {
+    resources
+        .get_index_of(name)
+        .ok_or(LineFault::NoSuchResource)
+}

@@ -1,0 +1,149 @@
+//! The words of a line, and the forms that a word may have.
+ghost use Rattle.std.specs.Prelude.{◌≡◌, length, IsSome, MatchResult};
+ghost use Rattle.std.specs.Iterator.{at_most};
+ghost use Rattle.std.specs.Option.{option_copied};
+ghost use Rattle.shredscript_text.specs.Words.{next_word, after_word};
+
+use crate::error::LineFault;
+use shred_group::RunningTime;
+
+/// The most bytes of a name.
+const MOST_NAME_BYTES: usize = 32;
+
+/// The most digits of a whole number.
+const MOST_DIGITS: usize = 19;
+
+/// The most digits of a count.
+const MOST_COUNT_DIGITS: usize = 7;
+
+/// The words of a line, which one or more spaces separate.
+#[derive(Drop)]
+pub(crate) struct Words<'text> {
+    rest: &'text str,
+}
+
+impl<'text> Words<'text> {
+    /// The words of a line, all of whose bytes are to be ASCII.
+    pub(crate) fn of_line(bytes: &'text [u8]) -> Result<Words<'text>, LineFault> {
+        match str::from_utf8(bytes) {
+            Ok(rest) if rest.is_ascii() => Ok(Words { rest }),
+            _ => Err(LineFault::UnknownLine),
+        }
+    }
+
+    /// The next word, which is not to be missing.
+    pub(crate) fn required(&mut self) -> Result<&'text str, LineFault>
+        ensures word { MatchResult result (λ word. next_word self.old.rest.now ≡ Some word.now) (λ _. next_word self.old.rest.now ≡ None) }
+        ensures rest { self.new.rest.now ≡ after_word self.old.rest.now }
+    {
+        self.next().ok_or(LineFault::BadWord)
+    }
+
+    /// No word is to be left.
+    pub(crate) fn end(&mut self) -> Result<(), LineFault>
+        ensures { MatchResult result (λ _. next_word self.old.rest.now ≡ None) (λ _. IsSome (next_word self.old.rest.now)) }
+    {
+        match self.next() {
+            None => Ok(()),
+            Some(_) => Err(LineFault::BadWord),
+        }
+    }
+}
+
+impl<'text> Iterator for Words<'text> {
+    type Item = &'text str;
+
+    ghost remaining = { λ words. at_most (length words.rest.now) };
+
+    // The next word of the text, and what is left of the text after it.
+    ghost next_gives = { λ before word after. (option_copied word ≡ next_word before.rest.now) × (after.rest.now ≡ after_word before.rest.now) };
+
+    fn next(&mut self) -> Option<&'text str> {
+        let rest = self.rest.trim_start_matches(' ');
+        if rest.is_empty() {
+            self.rest = rest;
+            return None;
+        }
+        match rest.split_once(' ') {
+            Some((word, rest)) => {
+                self.rest = rest;
+                Some(word)
+            }
+            None => {
+                self.rest = "";
+                Some(rest)
+            }
+        }
+    }
+}
+
+/// A resource's name: 1 to 32 letters, digits or underscores, the first a letter.
+pub(crate) fn resource_name(word: &str) -> Result<&str, LineFault> {
+    let is_name = word.len() <= MOST_NAME_BYTES
+        && word.starts_with(|c: char| c.is_ascii_alphabetic())
+        && word
+            .bytes()
+            .all(|byte| byte.is_ascii_alphanumeric() || byte == b'_');
+    if is_name {
+        Ok(word)
+    } else {
+        Err(LineFault::BadWord)
+    }
+}
+
+/// A system's name: 1 to 32 letters, digits, `_`, `-` or `/`. The word `-` alone is the empty name.
+pub(crate) fn system_name(word: &str) -> Result<&str, LineFault> {
+    let is_name = !word.is_empty()
+        && word.len() <= MOST_NAME_BYTES
+        && word.bytes().all(|byte| byte.is_ascii_alphanumeric()
+            || matches!(byte, b'_' | b'-' | b'/'));
+    match word {
+        "-" => Ok(""),
+        _ if is_name => Ok(word),
+        _ => Err(LineFault::BadWord),
+    }
+}
+
+/// A running time, by its name.
+pub(crate) fn running_time(word: &str) -> Result<RunningTime, LineFault> {
+    match word {
+        "very-short" => Ok(RunningTime::VeryShort),
+        "short" => Ok(RunningTime::Short),
+        "average" => Ok(RunningTime::Average),
+        "long" => Ok(RunningTime::Long),
+        "very-long" => Ok(RunningTime::VeryLong),
+        _ => Err(LineFault::BadWord),
+    }
+}
+
+/// A whole number: an optional `-` and 1 to 19 digits, within 64 bits with sign.
+pub(crate) fn integer(word: &str) -> Result<i64, LineFault> {
+    let digits = word.strip_prefix('-').unwrap_or(word);
+    if !is_digits(digits) || digits.len() > MOST_DIGITS {
+        return Err(LineFault::BadWord);
+    }
+    word.parse().map_err(|_| LineFault::BadWord)
+}
+
+/// A count: 1 to 7 digits, and no more than `most`.
+pub(crate) fn count(word: &str, most: u32) -> Result<u32, LineFault> {
+    if !is_digits(word) || word.len() > MOST_COUNT_DIGITS {
+        return Err(LineFault::BadWord);
+    }
+    match word.parse::<u32>() {
+        Ok(count) if count <= most => Ok(count),
+        _ => Err(LineFault::BadWord),
+    }
+}
+
+/// The code of a refusal: digits of a number of 32 bits.
+pub(crate) fn refusal_code(digits: &str) -> Result<u32, LineFault> {
+    if !is_digits(digits) {
+        return Err(LineFault::BadWord);
+    }
+    digits.parse().map_err(|_| LineFault::BadWord)
+}
+
+fn is_digits(word: &str) -> bool {
+    !word.is_empty() && word.bytes().all(|byte| byte.is_ascii_digit())
+}

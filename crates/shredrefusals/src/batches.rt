@@ -6,8 +6,7 @@ ghost use Rattle.shredtest.specs.Values.{count_kind};
 use crate::Ended;
 use shred::{
     AddError, BatchAccessor, BatchBuilder, DispatcherBuilder, Fault, Kind, MultiDispatchController,
-    MultiDispatcher, Now, OutOfMemory, Plain, PlainSystem, PrintError, ResourceId, SystemId,
-    ToWriter, View, World,
+    MultiDispatcher, Now, OutOfMemory, Plain, PlainSystem, ResourceId, SystemId, View, World,
 };
 use shredtest::values::Value;
 use std::alloc::Global;
@@ -84,14 +83,6 @@ fn add_to(alloc: Global, builder: &mut Builder) -> Result<SystemId, AddError> {
     builder.add_batch(MultiDispatcher::new(Twice), inner, "batch", &["first"])
 }
 
-// The plan's text is that of its one system.
-fn has_one(alloc: Global, builder: &Builder) -> Result<bool, PrintError> {
-    let mut text = Vec::new(alloc);
-    builder.print_par_seq(&mut ToWriter::new(&mut text))?;
-    let one: &[u8] = b"seq![\n\tpar![\n\t\tseq![\n\t\t\tfirst,\n\t\t],\n\t],\n]\n\n";
-    Ok(text.as_slice() == one)
-}
-
 /// A batch of one system. A refusal leaves the builder, and the next try has the id that this one would have had.
 pub fn add_batch(alloc: Global) -> Ended {
     let Ok(mut builder) = with_one(alloc) else {
@@ -99,10 +90,9 @@ pub fn add_batch(alloc: Global) -> Ended {
     };
     match add_to(alloc, &mut builder) {
         Ok(id) => Ended::ample_if(id == SystemId(1)),
-        Err(AddError::OutOfMemory) => Ended::refused_if(
-            matches!(has_one(alloc, &builder), Ok(true))
-                && add_to(alloc, &mut builder) == Ok(SystemId(1)),
-        ),
+        Err(AddError::OutOfMemory) => {
+            Ended::refused_if(add_to(alloc, &mut builder) == Ok(SystemId(1)))
+        }
         Err(_) => Ended::Wrong,
     }
 }

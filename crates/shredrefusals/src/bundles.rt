@@ -1,8 +1,6 @@
 //! Bundles of three parts, taken of a world and of a view.
 use crate::Ended;
-use shred::{
-    DataError, Kind, OutOfMemory, Read, ResourceId, SystemData, View, World, Write, WriteExpect,
-};
+use shred::{DataError, Kind, OutOfMemory, Read, ResourceId, SystemData, View, World, Write};
 use shredtest::values::{Count, Flag, Name, Value};
 use std::alloc::Global;
 
@@ -10,26 +8,34 @@ fn id(kind: u32) -> ResourceId {
     ResourceId::from_type_id(Kind(kind))
 }
 
-// The count and the flag that are held.
-fn held_in(world: &World<Value>) -> (Option<i64>, Option<bool>) {
-    (
-        world.try_fetch::<Count>().map(|count| count.0),
-        world.try_fetch::<Flag>().map(|flag| flag.0),
-    )
+fn count_in(world: &World<Value>) -> Option<i64> {
+    match world.try_fetch::<Count>() {
+        Some(count) => Some(count.0),
+        None => None,
+    }
 }
+
+fn flag_in(world: &World<Value>) -> Option<bool> {
+    match world.try_fetch::<Flag>() {
+        Some(flag) => Some(flag.0),
+        None => None,
+    }
+}
+
+type Three<'s> = (Write<Count>, Write<Flag>, Option<Read<'s, Name>>);
 
 // Sets the count and the flag, and says whether they were set, or whether want of memory was told without a call.
 fn set_in(world: &mut World<Value>) -> Ended {
     let mut called = false;
-    let answer = world.exec::<(Write<Count>, Write<Flag>, Option<WriteExpect<Name>>), _, _>(
-        |bundle| {
-            called = true;
-            bundle.0.0 = 7;
-            bundle.1.0 = true;
-        },
-    );
+    let answer = world.exec::<Three, _, _>(|bundle| {
+        called = true;
+        bundle.0.0 = 7;
+        bundle.1.0 = true;
+    });
     match answer {
-        Ok(()) => Ended::ample_if(called && held_in(world) == (Some(7), Some(true))),
+        Ok(()) => Ended::ample_if(
+            called && count_in(world) == Some(7) && flag_in(world) == Some(true),
+        ),
         Err(DataError::OutOfMemory) => Ended::refused_if(!called),
         Err(_) => Ended::Wrong,
     }
@@ -42,18 +48,16 @@ pub fn exec(alloc: Global) -> Ended {
     if first != Ended::OutOfMemory {
         return first;
     }
-    let (count, flag) = held_in(&world);
+    let (count, flag) = (count_in(&world), flag_in(&world));
     let is_default = matches!(count, None | Some(0)) && matches!(flag, None | Some(false));
     Ended::refused_if(is_default && set_in(&mut world) == Ended::Ample)
 }
-
-type Three = (Write<Count>, WriteExpect<Name>, Write<Flag>);
 
 // Takes a bundle of three and gives it back.
 fn round_trip<'s>(view: &mut View<'s, '_, Value>) -> Ended {
     match view.system_data::<Three>() {
         Ok(three) => {
-            let is_right = (three.0.0, three.1.0, three.2.0) == (1, 2, true);
+            let is_right = (three.0.0, three.1.0) == (1, true);
             view.give_back(three);
             Ended::ample_if(is_right)
         }
@@ -65,21 +69,19 @@ fn round_trip<'s>(view: &mut View<'s, '_, Value>) -> Ended {
 // Whether the view shows what was held at first.
 fn shows_all(view: &View<Value>) -> bool {
     view.read::<Count>(id(0)).copied() == Ok(Count(1))
-        && view.read::<Name>(id(1)).copied() == Ok(Name(2))
         && view.read::<Flag>(id(2)).copied() == Ok(Flag(true))
 }
 
 /// A bundle of three of a view. After a refusal the view shows what it showed, and the next try is as the first.
 pub fn tuple(alloc: Global) -> Ended {
     let mut world: World<Value> = World::empty(alloc);
-    let is_full = world.insert(Count(1)).is_ok()
-        && world.insert(Name(2)).is_ok()
-        && world.insert(Flag(true)).is_ok();
+    let is_full = world.insert(Count(1)).is_ok() && world.insert(Flag(true)).is_ok();
     if !is_full {
         return Ended::OutOfMemory;
     }
-    let ids = [id(0), id(1), id(2)];
-    let mut view = world.lend(&[], &ids);
+    let reads = [id(1)];
+    let writes = [id(0), id(2)];
+    let mut view = world.lend(&reads, &writes);
     let first = round_trip(&mut view);
     if !shows_all(&view) {
         return Ended::Wrong;
@@ -99,10 +101,9 @@ fn is_list(answer: Result<Vec<ResourceId>, OutOfMemory>, ids: &[ResourceId]) -> 
 
 /// The lists of a bundle of three.
 pub fn lists(alloc: Global) -> Ended {
-    type Parts<'s> = (Read<'s, Flag>, Write<Count>, Option<Read<'s, Count>>);
-    let reads = is_list(<Parts as SystemData<Value>>::reads(alloc), &[id(2), id(0)]);
+    let reads = is_list(<Three as SystemData<Value>>::reads(alloc), &[id(1)]);
     if reads != Ended::Ample {
         return reads;
     }
-    is_list(<Parts as SystemData<Value>>::writes(alloc), &[id(0)])
+    is_list(<Three as SystemData<Value>>::writes(alloc), &[id(0), id(2)])
 }

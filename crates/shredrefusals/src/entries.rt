@@ -6,7 +6,10 @@ use std::alloc::Global;
 
 // The count that is held.
 fn count_in(world: &World<Value>) -> Option<i64> {
-    world.try_fetch::<Count>().map(|count| count.0)
+    match world.try_fetch::<Count>() {
+        Some(count) => Some(count.0),
+        None => None,
+    }
 }
 
 /// Two resources, of which the second takes the place of the first. A refusal leaves what was held.
@@ -24,13 +27,13 @@ pub fn insert(alloc: Global) -> Ended {
 pub fn entry(alloc: Global) -> Ended {
     let mut world: World<Value> = World::empty(alloc);
     let mut called = false;
-    let answer = world
-        .entry()
-        .or_insert_with(|| {
-            called = true;
-            Count(5)
-        })
-        .map(|count| count.0);
+    let answer = match world.entry().or_insert_with(|| {
+        called = true;
+        Count(5)
+    }) {
+        Ok(count) => Ok(count.0),
+        Err(error) => Err(error),
+    };
     match answer {
         Ok(5) => Ended::ample_if(called && count_in(&world) == Some(5)),
         Err(WorldError::OutOfMemory) => {

@@ -1,3 +1,2 @@
 pub mod GivenBack
-pub mod Turned
 mod BothHands

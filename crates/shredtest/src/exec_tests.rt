@@ -34,28 +34,28 @@ fn a_setup_provides_what_is_not_held(rt: HostRuntime) -> Result<(), Fail> {
     Ok(())
 }
 
-// The count and the flag, as a call shows them.
-fn both_in(world: &mut World<Value>) -> Result<(i64, bool), DataError> {
-    world.exec::<(Read<Count>, Read<Flag>), _, _>(|both| (both.0.0, both.1.0))
-}
-
-fn expect_both(rt: &impl Abort, world: &mut World<Value>, count: i64, flag: bool) {
-    assert_eq!(rt; both_in(world), Ok((count, flag)));
-}
-
-fn set_both(world: &mut World<Value>) -> Answer {
+// Leaves these, and gives what was there.
+fn exchange_both(
+    world: &mut World<Value>,
+    number: i64,
+    is_set: bool,
+) -> Result<(i64, bool), DataError> {
     world.exec::<(Write<Flag>, Write<Count>), _, _>(|(flag, count)| {
-        flag.0 = true;
-        count.0 = 43;
-        None
+        let found = (count.0, flag.0);
+        flag.0 = is_set;
+        count.0 = number;
+        found
     })
+}
+
+fn expect_both(rt: &impl Abort, world: &mut World<Value>, number: i64, is_set: bool) {
+    assert_eq!(rt; exchange_both(world, 43, true), Ok((number, is_set)));
 }
 
 #[test]
 fn what_one_call_writes_the_next_one_reads(rt: HostRuntime) {
     let mut world = empty(rt.alloc());
     expect_both(&rt, &mut world, 0, false);
-    expect_answer(&rt, set_both(&mut world), Ok(None));
     expect_both(&rt, &mut world, 43, true);
     expect_number(&rt, count_in(&world), Some(43));
 }

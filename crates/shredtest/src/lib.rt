@@ -3,17 +3,16 @@
 
 #[cfg(test)]
 mod accessor_tests;
-pub mod adding;
 #[cfg(test)]
 mod bundles;
-pub mod chosen;
+#[cfg(test)]
+mod chosen;
 #[cfg(test)]
 mod error_tests;
 #[cfg(test)]
 mod exec_tests;
-pub mod lent_calls;
 #[cfg(test)]
-mod parted_calls;
+mod lent_calls;
 #[cfg(test)]
 mod parted_in_two;
 #[cfg(test)]
@@ -27,4 +26,3 @@ mod tuples;
 pub mod values;
 #[cfg(test)]
 mod world;
-pub mod world_calls;

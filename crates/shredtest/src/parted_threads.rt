@@ -1,16 +1,17 @@
 //! Two parts that are worked over beside each other, each in a half of a fork.
-ghost use Rattle.std.specs.Prelude.{◌≡◌, ◌<◌, ℕ, length};
+ghost use Rattle.std.specs.Prelude.{◌≡◌, ◌<◌, ℕ, false, is_some, length};
 ghost use Rattle.std.specs.Thread.{IsSync};
 ghost use Rattle.shred_world.specs.Beside.{pairs_behind, pair_behind, lent_behind};
 ghost use Rattle.shred_table.specs.Id.{id_of};
 ghost use Rattle.shred_table.specs.Parts.{HasNothingOut, HoldsSameIds, IsHandOf};
 ghost use Rattle.shred_table.specs.Shown.{IsSameSlots};
+ghost use Rattle.shred_table.specs.declared.id.ResourceId.{ResourceId};
+ghost use Rattle.shred_world.specs.Views.{view_held, may_write, IsSameView};
 ghost use Rattle.shredtest.specs.Values.{kind_of, count_kind};
 
-use crate::adding::add;
 use crate::parted_in_two::{OverTwo, TwoCounts, TwoOut, over_parts};
-use crate::values::Value;
-use shred_world::{Behind, Kind, OutOfMemory, ResourceId, Table, World};
+use crate::values::{Count, Value};
+use shred_world::{Behind, Kind, OutOfMemory, ResourceId, Table, View, World};
 use std::alloc::Global;
 use std::thread::{Threads, join_mut};
 
@@ -57,6 +58,18 @@ fn count_id(number: usize) -> ResourceId
     ResourceId::from_type_id_and_dynamic_id(Kind(0), number as u64)
 }
 
+// Adds one to the count under the id, where the view lets it be written.
+fn add(view: &mut View<Value>, id: ResourceId)
+    ensures view { IsSameView view.old view.new }
+    ensures frame { (q : ResourceId) → may_write view.old q ≡ false → view_held kind_of view.new q ≡ view_held kind_of view.old q }
+    ensures ids { (q : ResourceId) → is_some (view_held kind_of view.new q) ≡ is_some (view_held kind_of view.old q) }
+{
+    let Ok(count) = view.write::<Count>(id) else {
+        return;
+    };
+    count.0 = count.0.wrapping_add(1);
+}
+
 impl<'p, 'b> Half<Behind<'p, 'b, Value>> for Table<Value> {
     ghost fits = { λ behind number hand. (number < length (pairs_behind behind)) × IsHandOf (lent_behind behind) (pair_behind behind number) hand };
 
@@ -65,7 +78,7 @@ impl<'p, 'b> Half<Behind<'p, 'b, Value>> for Table<Value> {
     // Adds one to the count of the part's number, over a view of the part.
     fn work(&mut self, behind: &Behind<'p, 'b, Value>, number: usize) {
         let mut view = behind.view(number, self);
-        add(&mut view, count_id(number), 1);
+        add(&mut view, count_id(number));
     }
 }
 

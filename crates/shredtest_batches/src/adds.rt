@@ -12,25 +12,37 @@ use std::alloc::Global;
 use std::process::Abort;
 use std::test::Fail;
 
-/// It adds the amount to the count under its number, and then refuses with the code, where that is not 0. Its setup puts
-/// `inserts` there, and its disposal `leaves`, where there is one.
+/// It adds the amount to the count under its number, and then refuses with the code, where that is not 0. It may read another
+/// count, and does not. Its setup puts `inserts` under its number, and its disposal `leaves`, where there is one.
 #[derive(Clone, Copy)]
 pub(crate) struct Adds {
     pub(crate) number: u64,
+    pub(crate) reads: u64,
     pub(crate) amount: i64,
     pub(crate) code: u8,
     pub(crate) inserts: Option<i64>,
     pub(crate) leaves: Option<i64>,
 }
 
+/// The number of a count that nothing writes.
+pub(crate) const UNWRITTEN: u64 = 1000;
+
+/// It changes nothing, and never refuses.
+pub(crate) const IDLE: Adds = Adds {
+    number: 0,
+    reads: UNWRITTEN,
+    amount: 0,
+    code: 0,
+    inserts: None,
+    leaves: None,
+};
+
 /// It adds this amount to the count of this number.
 pub(crate) fn adds_to(number: u64, amount: i64) -> Adds {
     Adds {
         number,
         amount,
-        code: 0,
-        inserts: None,
-        leaves: None,
+        ..IDLE
     }
 }
 
@@ -83,7 +95,7 @@ impl System<Value> for Adds {
 
     type Accessor = BatchAccessor;
 
-    ghost reads = { λ system. [] };
+    ghost reads = { λ system. id_of count_kind system.reads ∷ [] };
 
     ghost writes = { λ system. id_of count_kind system.number ∷ [] };
 
@@ -111,7 +123,7 @@ impl System<Value> for Adds {
     }
 
     fn accessor(&self, alloc: Global) -> Result<BatchAccessor, OutOfMemory> {
-        BatchAccessor::of(alloc, &[], &[count_id(self.number)])
+        BatchAccessor::of(alloc, &[count_id(self.reads)], &[count_id(self.number)])
     }
 
     fn setup(&mut self, world: &mut World<Value>) -> Result<(), Fault<u8>> {

@@ -4,16 +4,18 @@ ghost use Rattle.shred_group.specs.declared.system.RunningTime.TheVariants.{Very
 ghost use Rattle.shred_table.specs.Id.{id_of};
 ghost use Rattle.shredtest.specs.Values.{count_kind};
 
-use crate::adds::{answer_of, count_id, put};
+use crate::adds::{UNWRITTEN, answer_of, count_id, put};
 use shred::{BatchAccessor, BatchController, Fault, OutOfMemory, RunningTime, View, World};
 use shredtest::values::{Count, Value};
 use std::alloc::Global;
 
 /// Begins with this bound, and says yes as often as `yes` says. It adds 1 to the count under its number each time that it is
-/// asked, and refuses to begin with the code, where that is not 0. Its setup puts `inserts` there.
+/// asked, and refuses to begin with the code, where that is not 0. It may read another count, and does not. Its setup puts
+/// `inserts` under its number.
 #[derive(Clone, Copy)]
 pub(crate) struct Bounds {
     pub(crate) number: u64,
+    pub(crate) reads: u64,
     pub(crate) bound: usize,
     pub(crate) yes: usize,
     pub(crate) asked: usize,
@@ -21,22 +23,32 @@ pub(crate) struct Bounds {
     pub(crate) inserts: Option<i64>,
 }
 
+/// It never runs its plan.
+pub(crate) const NEVER: Bounds = Bounds {
+    number: 0,
+    reads: UNWRITTEN,
+    bound: 0,
+    yes: 0,
+    asked: 0,
+    code: 0,
+    inserts: None,
+};
+
 /// Runs its plan so often, and counts under this number how often it was asked.
 pub(crate) fn times(number: u64, bound: usize) -> Bounds {
     Bounds {
         number,
         bound,
         yes: bound,
-        asked: 0,
-        code: 0,
-        inserts: None,
+        ..NEVER
     }
 }
 
 impl Bounds {
     // Whether it says yes, asked once more.
     fn says(&mut self) -> bool
-        ensures { self.new.number ≡ self.old.number }
+        ensures number { self.new.number ≡ self.old.number }
+        ensures reads { self.new.reads ≡ self.old.reads }
     {
         self.asked = self.asked.wrapping_add(1);
         self.asked <= self.yes
@@ -53,7 +65,7 @@ impl BatchController<Value> for Bounds {
 
     type Accessor = BatchAccessor;
 
-    ghost reads = { λ controller. [] };
+    ghost reads = { λ controller. id_of count_kind controller.reads ∷ [] };
 
     ghost writes = { λ controller. id_of count_kind controller.number ∷ [] };
 
@@ -89,7 +101,7 @@ impl BatchController<Value> for Bounds {
     }
 
     fn accessor(&self, alloc: Global) -> Result<BatchAccessor, OutOfMemory> {
-        BatchAccessor::of(alloc, &[], &[count_id(self.number)])
+        BatchAccessor::of(alloc, &[count_id(self.reads)], &[count_id(self.number)])
     }
 
     fn setup(&mut self, world: &mut World<Value>) -> Result<(), Fault<u8>> {

@@ -4,8 +4,8 @@ ghost use Rattle.shred_group.specs.declared.system.RunningTime.TheVariants.{Aver
 
 use crate::ended::{DONE, Ended, ended, run_ended};
 use shred::{
-    AddError, BatchBuilder, BatchController, DispatcherBuilder, Fault, Now, OutOfMemory,
-    RunningTime, System, View, World,
+    AddError, BatchBuilder, BatchController, BatchDispatcher, DispatcherBuilder, Fault, Now,
+    OutOfMemory, RunningTime, System, View, World,
 };
 use shredtest::values::Value;
 use std::alloc::Global;
@@ -113,6 +113,8 @@ impl BatchController<Value> for Once {
 
 type Builder<'f> = BatchBuilder<Value, Meets<'f>, Once, Now<Meets<'f>>>;
 
+type Dispatcher<'f> = BatchDispatcher<Value, Meets<'f>, Once, Now<Meets<'f>>>;
+
 /// By which call a plan is run.
 #[derive(Clone, Copy)]
 enum Call {
@@ -172,6 +174,19 @@ fn outermost<'f>(
     Ok(builder.with_pool(ring.workers))
 }
 
+fn called<'f>(
+    rt: &(impl Threads + Sync),
+    dispatcher: &mut Dispatcher<'f>,
+    world: &mut World<Value>,
+    call: Call,
+) -> Ended {
+    match call {
+        Call::Dispatch => ended(dispatcher.dispatch(rt, world)),
+        Call::DispatchPar => ended(dispatcher.dispatch_par(rt, world)),
+        Call::RunNow => run_ended(dispatcher.run_now(rt, world.local())),
+    }
+}
+
 /// The plan with this ring, run by this call, ends so.
 fn expect_meeting(
     rt: &(impl Abort + AllocGlobal + Threads + Sync),
@@ -193,12 +208,7 @@ fn expect_meeting(
     }
     let mut dispatcher = outermost(alloc, &alone, builder, ring)?.build();
     let mut world: World<Value> = World::empty(alloc);
-    let answer = match call {
-        Call::Dispatch => ended(dispatcher.dispatch(rt, &mut world)),
-        Call::DispatchPar => ended(dispatcher.dispatch_par(rt, &mut world)),
-        Call::RunNow => run_ended(dispatcher.run_now(rt, world.local())),
-    };
-    assert_eq!(rt; answer, end);
+    assert_eq!(rt; called(rt, &mut dispatcher, &mut world, call), end);
     Ok(())
 }
 

@@ -12,8 +12,6 @@ mod ended;
 #[cfg(test)]
 mod gate;
 #[cfg(test)]
-mod lists;
-#[cfg(test)]
 mod multi;
 #[cfg(test)]
 mod plans;

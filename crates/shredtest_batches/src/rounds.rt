@@ -1,118 +1,259 @@
 //! How often a batch runs its plan, and how it ends.
 
-use crate::adds::{adds_to, refuses};
-use crate::bounds::{Bounds, times};
-use crate::ended::DONE;
-use crate::plans::{Builder, CALLS, around, batch_of, expect_run};
-use shred::{AddError, DispatcherBuilder};
+use crate::adds::{Adds, IDLE, expect_counts, world_of};
+use crate::bounds::{Bounds, NEVER, times};
+use crate::ended::{DONE, Ended};
+use crate::plans::{Builder, Call, around, called, plan_of};
+use shred::AddError;
 use std::alloc::Global;
+use std::process::Abort;
 use std::test::Fail;
+use std::thread::Threads;
 
-// Two rounds of a plan of a system that adds 1 and of a batch of three rounds, whose system adds 10, and then refuses with this
-// code.
-fn nested(alloc: Global, code: u8) -> Result<Builder, AddError> {
-    let mut outer: Builder = DispatcherBuilder::empty(alloc);
-    outer.add(adds_to(0, 1), "a", &[])?;
-    let mut inner: Builder = DispatcherBuilder::empty(alloc);
-    inner.add(refuses(0, 10, code), "b", &[])?;
-    outer.add_batch(times(2, 3), inner, "", &["a"])?;
-    around(alloc, times(1, 2), outer)
+/// A batch, with the systems that are added before it to the plan in which it stands.
+struct Level {
+    beside: &'static [Adds],
+    controller: Bounds,
 }
 
-#[test]
-fn a_batch_of_no_rounds_changes_nothing(rt: HostRuntime) -> Result<(), Fail> {
-    for call in CALLS {
-        let builder = batch_of(rt.alloc(), times(1, 0), &[adds_to(0, 1)])?;
-        expect_run(&rt, builder, call, &[7, 0], DONE, &[7, 0])?;
+/// The systems of the innermost plan, the batches around it, and around these so many more of one round, which count under
+/// number 1; the counts before, and the end of each run and the counts after it.
+struct Row {
+    systems: &'static [Adds],
+    levels: &'static [Level],
+    more: usize,
+    before: &'static [i64],
+    end: Ended,
+    after: &'static [i64],
+}
+
+const ROWS: &[Row] = &[
+    // A batch of no rounds changes nothing.
+    Row {
+        systems: &[Adds {
+            number: 0,
+            amount: 1,
+            ..IDLE
+        }],
+        levels: &[Level {
+            beside: &[],
+            controller: Bounds {
+                number: 1,
+                bound: 0,
+                yes: 0,
+                ..NEVER
+            },
+        }],
+        more: 0,
+        before: &[7, 0],
+        end: DONE,
+        after: &[7, 0],
+    },
+    // A no ends the batch.
+    Row {
+        systems: &[Adds {
+            number: 0,
+            amount: 10,
+            ..IDLE
+        }],
+        levels: &[Level {
+            beside: &[],
+            controller: Bounds {
+                number: 1,
+                bound: 5,
+                yes: 2,
+                ..NEVER
+            },
+        }],
+        more: 0,
+        before: &[0, 0],
+        end: DONE,
+        after: &[20, 3],
+    },
+    // A controller writes what its plan writes.
+    Row {
+        systems: &[Adds {
+            number: 0,
+            amount: 10,
+            ..IDLE
+        }],
+        levels: &[Level {
+            beside: &[],
+            controller: Bounds {
+                number: 0,
+                bound: 3,
+                yes: 3,
+                ..NEVER
+            },
+        }],
+        more: 0,
+        before: &[0],
+        end: DONE,
+        after: &[33],
+    },
+    // Each outer round runs the inner rounds.
+    Row {
+        systems: &[Adds {
+            number: 0,
+            amount: 10,
+            ..IDLE
+        }],
+        levels: &[
+            Level {
+                beside: &[Adds {
+                    number: 0,
+                    amount: 1,
+                    ..IDLE
+                }],
+                controller: Bounds {
+                    number: 2,
+                    bound: 3,
+                    yes: 3,
+                    ..NEVER
+                },
+            },
+            Level {
+                beside: &[],
+                controller: Bounds {
+                    number: 1,
+                    bound: 2,
+                    yes: 2,
+                    ..NEVER
+                },
+            },
+        ],
+        more: 0,
+        before: &[0, 0, 0],
+        end: DONE,
+        after: &[62, 2, 6],
+    },
+    // A refusal two levels down is that of the outermost entry, and the groups beside it all run.
+    Row {
+        systems: &[
+            Adds {
+                number: 0,
+                amount: 1,
+                ..IDLE
+            },
+            Adds {
+                number: 3,
+                amount: 5,
+                code: 4,
+                ..IDLE
+            },
+            Adds {
+                number: 4,
+                amount: 7,
+                ..IDLE
+            },
+        ],
+        levels: &[
+            Level {
+                beside: &[],
+                controller: Bounds {
+                    number: 2,
+                    bound: 3,
+                    yes: 3,
+                    ..NEVER
+                },
+            },
+            Level {
+                beside: &[],
+                controller: Bounds {
+                    number: 1,
+                    bound: 2,
+                    yes: 2,
+                    ..NEVER
+                },
+            },
+        ],
+        more: 0,
+        before: &[0, 0, 0, 0, 0],
+        end: ("system", 0, 4),
+        after: &[1, 1, 1, 5, 7],
+    },
+    // A hundred levels.
+    Row {
+        systems: &[Adds {
+            number: 0,
+            amount: 1,
+            ..IDLE
+        }],
+        levels: &[],
+        more: 100,
+        before: &[0, 0],
+        end: DONE,
+        after: &[1, 100],
+    },
+];
+
+fn builder_of(alloc: Global, row: &Row) -> Result<Builder, AddError> {
+    let mut builder = plan_of(alloc, row.systems)?;
+    for level in row.levels {
+        builder = around(alloc, level.beside, level.controller, builder)?;
     }
+    for _ in 0..row.more {
+        builder = around(alloc, &[], times(1, 1), builder)?;
+    }
+    Ok(builder)
+}
+
+/// A call, and the workers of its dispatcher.
+struct Way {
+    call: Call,
+    workers: usize,
+}
+
+const WAYS: &[Way] = &[
+    Way {
+        call: Call::Seq,
+        workers: 4,
+    },
+    Way {
+        call: Call::Par,
+        workers: 0,
+    },
+    Way {
+        call: Call::Par,
+        workers: 1,
+    },
+    Way {
+        call: Call::Par,
+        workers: 2,
+    },
+    Way {
+        call: Call::Par,
+        workers: 8,
+    },
+    Way {
+        call: Call::Both,
+        workers: 4,
+    },
+    Way {
+        call: Call::Interleaved,
+        workers: 4,
+    },
+];
+
+/// The row's plan, run in this way, ends as the row says.
+fn expect_run(
+    rt: &(impl Abort + AllocGlobal + Threads + Sync),
+    row: &Row,
+    way: &Way,
+) -> Result<(), Fail> {
+    let mut world = world_of(rt.alloc(), row.before)?;
+    let mut dispatcher = builder_of(rt.alloc(), row)?.with_pool(way.workers).build();
+    assert_eq!(rt; called(rt, &mut dispatcher, &mut world, way.call), row.end);
+    expect_counts(rt, &world, row.after);
     Ok(())
 }
 
 #[test]
-fn a_no_ends_the_batch(rt: HostRuntime) -> Result<(), Fail> {
-    for call in CALLS {
-        let controller = Bounds {
-            yes: 2,
-            ..times(1, 5)
-        };
-        let builder = batch_of(rt.alloc(), controller, &[adds_to(0, 10)])?;
-        expect_run(&rt, builder, call, &[0, 0], DONE, &[20, 3])?;
-    }
-    Ok(())
-}
-
-#[test]
-fn a_controller_writes_what_its_plan_writes(rt: HostRuntime) -> Result<(), Fail> {
-    for call in CALLS {
-        let builder = batch_of(rt.alloc(), times(0, 3), &[adds_to(0, 10)])?;
-        expect_run(&rt, builder, call, &[0], DONE, &[33])?;
-    }
-    Ok(())
-}
-
-#[test]
-fn a_refusal_to_begin_runs_nothing(rt: HostRuntime) -> Result<(), Fail> {
-    for call in CALLS {
-        let controller = Bounds {
-            code: 9,
-            ..times(1, 5)
-        };
-        let builder = batch_of(rt.alloc(), controller, &[adds_to(0, 10)])?;
-        expect_run(&rt, builder, call, &[0, 0], ("system", 0, 9), &[0, 0])?;
-    }
-    Ok(())
-}
-
-#[test]
-fn each_outer_round_runs_the_inner_rounds(rt: HostRuntime) -> Result<(), Fail> {
-    for call in CALLS {
-        let builder = nested(rt.alloc(), 0)?;
-        expect_run(&rt, builder, call, &[0, 0, 0], DONE, &[62, 2, 6])?;
-    }
-    Ok(())
-}
-
-#[test]
-fn a_refusal_two_levels_down_is_that_of_the_outermost_entry(rt: HostRuntime) -> Result<(), Fail> {
-    for call in CALLS {
-        let builder = nested(rt.alloc(), 4)?;
-        expect_run(
-            &rt,
-            builder,
-            call,
-            &[0, 0, 0],
-            ("system", 0, 4),
-            &[11, 1, 1],
-        )?;
-    }
-    Ok(())
-}
-
-#[test]
-fn the_groups_of_an_inner_stage_all_run(rt: HostRuntime) -> Result<(), Fail> {
-    for call in CALLS {
-        let systems = [adds_to(0, 1), refuses(2, 5, 3), adds_to(3, 7)];
-        let builder = batch_of(rt.alloc(), times(1, 2), &systems)?;
-        expect_run(
-            &rt,
-            builder,
-            call,
-            &[0, 0, 0, 0],
-            ("system", 0, 3),
-            &[1, 1, 5, 7],
-        )?;
-    }
-    Ok(())
-}
-
-#[test]
-fn a_hundred_levels(rt: HostRuntime) -> Result<(), Fail> {
-    for call in CALLS {
-        let mut builder = batch_of(rt.alloc(), times(1, 1), &[adds_to(0, 1)])?;
-        for _ in 1..100 {
-            builder = around(rt.alloc(), times(1, 1), builder)?;
+fn batches_run_their_plans_in_rounds(rt: HostRuntime) -> Result<(), Fail> {
+    for row in ROWS {
+        for way in WAYS {
+            expect_run(&rt, row, way)?;
         }
-        expect_run(&rt, builder, call, &[0, 0], DONE, &[1, 100])?;
     }
     Ok(())
 }

@@ -1,12 +1,44 @@
-//! Setup, disposal and thread-local systems of plans with batches.
+//! A plan with a batch and a thread-local system, from setup to disposal.
 
-use crate::adds::{Adds, adds_to, expect_counts, refuses, world_of};
+use crate::adds::{Adds, adds_to, expect_counts, world_of};
 use crate::bounds::{Bounds, times};
-use crate::ended::{DONE, ended, run_ended};
-use crate::plans::batch_of;
+use crate::ended::{DONE, ended};
+use crate::plans::{Call, around, called, plan_of};
 use shred::Now;
-use shred_orders::run_batches_now;
 use std::test::Fail;
+
+/// A call, and the counts of the system of the batch, of its controller and of the thread-local system after it.
+struct Turn {
+    call: Call,
+    counts: [i64; 3],
+}
+
+const TURNS: &[Turn] = &[
+    Turn {
+        call: Call::Setup,
+        counts: [5, 0, 0],
+    },
+    Turn {
+        call: Call::Seq,
+        counts: [9, 2, 0],
+    },
+    Turn {
+        call: Call::Both,
+        counts: [13, 4, 5],
+    },
+    Turn {
+        call: Call::ThreadLocal,
+        counts: [13, 4, 10],
+    },
+    Turn {
+        call: Call::RunNow,
+        counts: [17, 6, 15],
+    },
+    Turn {
+        call: Call::RunBatchesNow,
+        counts: [21, 8, 20],
+    },
+];
 
 #[test]
 fn a_batch_is_set_up_run_and_disposed_of(rt: HostRuntime) -> Result<(), Fail> {
@@ -20,54 +52,19 @@ fn a_batch_is_set_up_run_and_disposed_of(rt: HostRuntime) -> Result<(), Fail> {
         leaves: Some(0),
         ..adds_to(0, 2)
     };
-    let mut dispatcher = batch_of(rt.alloc(), controller, &[system])?.build();
-    assert_eq!(rt; ended(dispatcher.setup(&mut world)), DONE);
-    expect_counts(&rt, &world, &[5, 0]);
-    assert_eq!(rt; ended(dispatcher.dispatch_seq(&mut world)), DONE);
-    expect_counts(&rt, &world, &[9, 2]);
-    assert_eq!(rt; ended(dispatcher.dispatch(&rt, &mut world)), DONE);
-    expect_counts(&rt, &world, &[13, 4]);
+    let local = Adds {
+        inserts: Some(0),
+        ..adds_to(2, 5)
+    };
+    let inner = plan_of(rt.alloc(), &[system])?;
+    let mut builder = around(rt.alloc(), &[], controller, inner)?;
+    builder.add_thread_local(Now(local))?;
+    let mut dispatcher = builder.build();
+    for turn in TURNS {
+        assert_eq!(rt; called(&rt, &mut dispatcher, &mut world, turn.call), DONE);
+        expect_counts(&rt, &world, &turn.counts);
+    }
     assert_eq!(rt; ended(dispatcher.dispose(&mut world)), DONE);
-    expect_counts(&rt, &world, &[0, 4]);
-    Ok(())
-}
-
-#[test]
-fn thread_local_systems_run_after_the_batches(rt: HostRuntime) -> Result<(), Fail> {
-    let mut world = world_of(rt.alloc(), &[0, 0, 0])?;
-    let mut builder = batch_of(rt.alloc(), times(1, 2), &[adds_to(0, 1)])?;
-    builder.add_thread_local(Now(adds_to(2, 5)))?;
-    let mut dispatcher = builder.build();
-    assert_eq!(rt; ended(dispatcher.dispatch(&rt, &mut world)), DONE);
-    expect_counts(&rt, &world, &[2, 2, 5]);
-    assert_eq!(rt;
-        ended(dispatcher.dispatch_thread_local(&rt, &mut world)),
-        DONE
-    );
-    expect_counts(&rt, &world, &[2, 2, 10]);
-    assert_eq!(rt; run_ended(dispatcher.run_now(&rt, world.local())), DONE);
-    expect_counts(&rt, &world, &[4, 4, 15]);
-    assert_eq!(rt;
-        run_ended(run_batches_now(&rt, &mut dispatcher, world.local())),
-        DONE
-    );
-    expect_counts(&rt, &world, &[6, 6, 20]);
-    Ok(())
-}
-
-#[test]
-fn a_refusal_of_a_batch_is_that_of_the_run(rt: HostRuntime) -> Result<(), Fail> {
-    let mut world = world_of(rt.alloc(), &[0, 0, 0])?;
-    let mut builder = batch_of(rt.alloc(), times(1, 2), &[refuses(0, 1, 6)])?;
-    builder.add_thread_local(Now(adds_to(2, 5)))?;
-    let mut dispatcher = builder.build();
-    let refused = ("system", 0, 6);
-    assert_eq!(rt; run_ended(dispatcher.run_now(&rt, world.local())), refused);
-    expect_counts(&rt, &world, &[1, 1, 0]);
-    assert_eq!(rt;
-        run_ended(run_batches_now(&rt, &mut dispatcher, world.local())),
-        refused
-    );
-    expect_counts(&rt, &world, &[2, 2, 0]);
+    expect_counts(&rt, &world, &[0, 8, 20]);
     Ok(())
 }

@@ -71,6 +71,10 @@ fn called(
     }
 }
 
+fn disposed(dispatcher: Dispatcher<Value, Script>, world: &mut World<Value>) -> Ended {
+    ended(dispatcher.dispose(world))
+}
+
 fn expect(rt: &(impl Abort + AllocGlobal + Threads + Sync), case: &Case) -> Result<(), Fail> {
     let mut world = world_of(rt.alloc(), case.counts)?;
     let mut dispatcher = dispatcher_of(rt.alloc(), case)?;
@@ -79,8 +83,7 @@ fn expect(rt: &(impl Abort + AllocGlobal + Threads + Sync), case: &Case) -> Resu
         assert_eq!(rt; end, turn.ended);
         expect_counts(rt, &world, turn.counts);
     }
-    let end = ended(dispatcher.dispose(&mut world));
-    assert_eq!(rt; end, case.disposed);
+    assert_eq!(rt; disposed(dispatcher, &mut world), case.disposed);
     expect_counts(rt, &world, case.left);
     Ok(())
 }
@@ -139,13 +142,7 @@ const LOCAL_LIFE: Case = Case {
     left: &[Some(0)],
 };
 
-#[test]
-fn a_system_is_set_up_run_and_disposed_of(rt: HostRuntime) -> Result<(), Fail> {
-    expect(&rt, &STAGED_LIFE)?;
-    expect(&rt, &LOCAL_LIFE)
-}
-
-/// The second staged system adds and refuses.
+/// The second staged system adds and refuses, and no thread-local one runs.
 const STAGED_REFUSAL: Case = Case {
     counts: &[Some(0)],
     staged: &[
@@ -181,12 +178,7 @@ const STAGED_REFUSAL: Case = Case {
     left: &[Some(6)],
 };
 
-#[test]
-fn after_a_staged_refusal_no_local_system_runs(rt: HostRuntime) -> Result<(), Fail> {
-    expect(&rt, &STAGED_REFUSAL)
-}
-
-/// The first thread-local system adds and refuses.
+/// The first thread-local system adds and refuses, and no other one runs.
 const LOCAL_REFUSAL: Case = Case {
     counts: &[Some(1)],
     staged: &[],
@@ -217,11 +209,6 @@ const LOCAL_REFUSAL: Case = Case {
     left: &[Some(3)],
 };
 
-#[test]
-fn after_a_local_refusal_no_other_local_system_runs(rt: HostRuntime) -> Result<(), Fail> {
-    expect(&rt, &LOCAL_REFUSAL)
-}
-
 /// The second staged system refuses its setup, so that the thread-local one never puts its count.
 const REFUSED_SETUP: Case = Case {
     counts: &[None, None],
@@ -249,12 +236,7 @@ const REFUSED_SETUP: Case = Case {
     left: &[Some(5), None],
 };
 
-#[test]
-fn setup_ends_at_the_first_refusal(rt: HostRuntime) -> Result<(), Fail> {
-    expect(&rt, &REFUSED_SETUP)
-}
-
-/// The first staged system refuses its disposal, and the thread-local one too.
+/// The first staged system refuses its disposal, and the thread-local one too. All are disposed of.
 const REFUSED_DISPOSAL: Case = Case {
     counts: &[Some(3), None],
     staged: &[
@@ -278,15 +260,10 @@ const REFUSED_DISPOSAL: Case = Case {
     left: &[Some(0), Some(6)],
 };
 
-#[test]
-fn disposal_goes_on_after_a_refusal(rt: HostRuntime) -> Result<(), Fail> {
-    expect(&rt, &REFUSED_DISPOSAL)
-}
-
 /// It puts a digit behind those of the systems before it.
 const DIGIT: Script = Script { factor: 10, ..IDLE };
 
-/// The fifth takes memory.
+/// They run in the order of their adding. The fifth takes memory.
 const FIVE_LOCAL: Case = Case {
     counts: &[Some(0)],
     staged: &[],
@@ -307,6 +284,17 @@ const FIVE_LOCAL: Case = Case {
 };
 
 #[test]
-fn five_local_systems_run_in_the_order_of_their_adding(rt: HostRuntime) -> Result<(), Fail> {
-    expect(&rt, &FIVE_LOCAL)
+fn dispatchers_live_from_setup_to_disposal(rt: HostRuntime) -> Result<(), Fail> {
+    for case in [
+        &STAGED_LIFE,
+        &LOCAL_LIFE,
+        &STAGED_REFUSAL,
+        &LOCAL_REFUSAL,
+        &REFUSED_SETUP,
+        &REFUSED_DISPOSAL,
+        &FIVE_LOCAL,
+    ] {
+        expect(&rt, case)?;
+    }
+    Ok(())
 }

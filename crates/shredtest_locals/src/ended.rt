@@ -1,6 +1,6 @@
 //! How a call ended, as a value that can be compared.
 
-use shred::{DispatchError, Fault, StageFault};
+use shred::{DispatchError, Fault};
 
 /// What ended it, which one, and its code.
 pub(crate) type Ended = (&'static str, usize, u8);
@@ -33,14 +33,5 @@ pub(crate) fn run_ended(answer: Result<(), Fault<DispatchError<u8>>>) -> Ended {
         Ok(()) => DONE,
         Err(Fault::Refused(error)) => ended(Err(error)),
         Err(Fault::OutOfMemory) => ("memory", 0, NO_MEMORY),
-    }
-}
-
-/// How a stage's call ended.
-pub(crate) fn stage_ended(answer: Result<(), StageFault<u8>>) -> Ended {
-    match answer {
-        Ok(()) => DONE,
-        Err(StageFault::System { id, fault }) => ("system", id.0, code_of(fault)),
-        Err(StageFault::Memory) => ("memory", 0, NO_MEMORY),
     }
 }

@@ -3,7 +3,9 @@ ghost use Rattle.std.specs.Prelude.{[]};
 ghost use Rattle.shred_group.specs.declared.system.RunningTime.TheVariants.{Average};
 
 use crate::ended::{DONE, Ended, ended, run_ended};
-use shred::{DispatcherBuilder, Fault, OutOfMemory, RunningTime, System, View, World};
+use shred::{
+    AddError, Dispatcher, DispatcherBuilder, Fault, OutOfMemory, RunningTime, System, View, World,
+};
 use shredtest::values::Value;
 use std::alloc::Global;
 use std::process::Abort;
@@ -81,7 +83,35 @@ enum Call {
     RunNow,
 }
 
-/// Four systems stand in one stage, each in a group of its own, and the call of their dispatcher on that many workers ends so.
+// The dispatcher of four systems, each in a group of its own of one stage, on that many workers.
+fn meeting(
+    alloc: Global,
+    flags: &[AtomicBool; 4],
+    workers: usize,
+    turns: u32,
+) -> Result<Dispatcher<Value, Meets<'_>>, AddError> {
+    let builder: DispatcherBuilder<Value, Meets> = DispatcherBuilder::new(alloc);
+    let mut builder = builder.with_pool(workers);
+    for own in flags {
+        builder.add(Meets { flags, own, turns }, "", &[])?;
+    }
+    Ok(builder.build())
+}
+
+fn called(
+    rt: &(impl Threads + Sync),
+    dispatcher: &mut Dispatcher<Value, Meets<'_>>,
+    world: &mut World<Value>,
+    call: Call,
+) -> Ended {
+    match call {
+        Call::Dispatch => ended(dispatcher.dispatch(rt, world)),
+        Call::DispatchPar => ended(dispatcher.dispatch_par(rt, world)),
+        Call::RunNow => run_ended(dispatcher.run_now(rt, world.local())),
+    }
+}
+
+/// The call of the four systems' dispatcher on that many workers ends so.
 fn expect_meeting(
     rt: &(impl Abort + AllocGlobal + Threads + Sync),
     call: Call,
@@ -95,20 +125,10 @@ fn expect_meeting(
         AtomicBool::new(false),
         AtomicBool::new(false),
     ];
-    let builder: DispatcherBuilder<Value, Meets> = DispatcherBuilder::new(rt.alloc());
-    let mut builder = builder.with_pool(workers);
-    for own in &flags {
-        let flags = &flags;
-        builder.add(Meets { flags, own, turns }, "", &[])?;
-    }
-    let mut dispatcher = builder.build();
+    let mut dispatcher = meeting(rt.alloc(), &flags, workers, turns)?;
     let mut world: World<Value> = World::empty(rt.alloc());
     assert_eq!(rt; dispatcher.max_threads(), 4);
-    let found = match call {
-        Call::Dispatch => ended(dispatcher.dispatch(rt, &mut world)),
-        Call::DispatchPar => ended(dispatcher.dispatch_par(rt, &mut world)),
-        Call::RunNow => run_ended(dispatcher.run_now(rt, world.local())),
-    };
+    let found = called(rt, &mut dispatcher, &mut world, call);
     assert_eq!(rt; found, end);
     Ok(())
 }

@@ -14,6 +14,4 @@ mod nested;
 #[cfg(test)]
 mod script;
 #[cfg(test)]
-mod stage;
-#[cfg(test)]
 mod workers;

@@ -4,11 +4,12 @@ ghost use Rattle.std.specs.Prelude.{[]};
 use crate::script::{IDLE, Script, expect_counts, world_of};
 use shred::{
     BatchAccessor, DispatchError, Dispatcher, DispatcherBuilder, Fault, NoBatch, Now, OutOfMemory,
-    Plain, PlainSystem, SystemId, View,
+    Plain, PlainSystem, SystemId, View, World,
 };
 use shredtest::values::Value;
 use std::alloc::Global;
 use std::test::Fail;
+use std::thread::Threads;
 
 /// A system that touches nothing, with the error of a dispatcher.
 #[derive(Drop)]
@@ -51,13 +52,21 @@ fn outer_of(alloc: Global, staged: Script, local: Script) -> Result<Outer, Fail>
     )
 }
 
+fn dispatched(
+    rt: &(impl Threads + Sync),
+    outer: &mut Outer,
+    world: &mut World<Value>,
+) -> Result<(), DispatchError<DispatchError<u8>>> {
+    outer.dispatch(rt, world)
+}
+
 #[test]
 fn a_dispatcher_is_a_local_system_of_another(rt: HostRuntime) -> Result<(), Fail> {
     let mut world = world_of(rt.alloc(), &[Some(1)])?;
     let adds = Script { amount: 3, ..IDLE };
     let multiplies = Script { factor: 5, ..IDLE };
     let mut outer = outer_of(rt.alloc(), adds, multiplies)?;
-    assert!(rt; outer.dispatch(&rt, &mut world).is_ok());
+    assert!(rt; dispatched(&rt, &mut outer, &mut world).is_ok());
     expect_counts(&rt, &world, &[Some(20)]);
     Ok(())
 }
@@ -72,7 +81,7 @@ fn its_refusal_is_told_as_that_of_a_local_system(rt: HostRuntime) -> Result<(), 
     };
     let multiplies = Script { factor: 5, ..IDLE };
     let mut outer = outer_of(rt.alloc(), refuses, multiplies)?;
-    let told = outer.dispatch(&rt, &mut world);
+    let told = dispatched(&rt, &mut outer, &mut world);
     assert!(rt;
         matches!(
             told,

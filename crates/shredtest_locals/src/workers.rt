@@ -2,7 +2,7 @@
 
 use crate::ended::{DONE, ended};
 use crate::script::{IDLE, Script, expect_counts, world_of};
-use shred::DispatcherBuilder;
+use shred::{AddError, DispatcherBuilder, SystemId};
 use shredtest::values::Value;
 use std::alloc::Global;
 use std::process::Abort;
@@ -141,22 +141,33 @@ const FIVE_COUNTS: Plan = Plan {
     after: &[Some(17), Some(22), Some(33), Some(44), Some(55)],
 };
 
+fn add_barrier(builder: &mut DispatcherBuilder<Value, Script>) {
+    builder.add_barrier();
+}
+
+fn add(
+    builder: &mut DispatcherBuilder<Value, Script>,
+    planned: &Planned,
+) -> Result<SystemId, AddError> {
+    let script = Script {
+        number: planned.number,
+        finds: Some(planned.finds),
+        amount: planned.amount,
+        ..IDLE
+    };
+    builder.add(script, planned.name, planned.dependencies)
+}
+
 fn builder_of(
     alloc: Global,
     systems: &[Planned],
-) -> Result<DispatcherBuilder<Value, Script>, Fail> {
+) -> Result<DispatcherBuilder<Value, Script>, AddError> {
     let mut builder = DispatcherBuilder::new(alloc);
     for planned in systems {
         if planned.is_behind_barrier {
-            builder.add_barrier();
+            add_barrier(&mut builder);
         }
-        let script = Script {
-            number: planned.number,
-            finds: Some(planned.finds),
-            amount: planned.amount,
-            ..IDLE
-        };
-        builder.add(script, planned.name, planned.dependencies)?;
+        add(&mut builder, planned)?;
     }
     Ok(builder)
 }

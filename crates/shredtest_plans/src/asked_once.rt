@@ -2,10 +2,10 @@
 ghost use Rattle.std.specs.Prelude.{[]};
 ghost use Rattle.shred_group.specs.declared.system.RunningTime.TheVariants.{Average};
 
-use crate::calls::{expect_add, insert};
+use crate::calls::expect_add;
 use shred::{
-    Accessor, AddError, DispatcherBuilder, Fault, OutOfMemory, ResourceId, RunningTime,
-    StagesBuilder, System, SystemId, View, World,
+    Accessor, AddError, DispatcherBuilder, Fault, OutOfMemory, ResourceId, RunningTime, System,
+    SystemId, View, World,
 };
 use shredtest::values::Value;
 use std::alloc::{AllocError, Global};
@@ -127,20 +127,7 @@ fn expect_counts(rt: &impl Abort, asked: &Rc<Asked>, counts: u32) {
 }
 
 #[test]
-fn an_insert_asks_once(rt: HostRuntime) -> Result<(), Fail> {
-    let asked = never_asked(rt.alloc())?;
-    let mut builder = StagesBuilder::new(rt.alloc());
-    insert(&mut builder, &[], 0, watching(&asked)?)?;
-    expect_counts(&rt, &asked, 1110);
-    insert(&mut builder, &[SystemId(0)], 1, watching(&asked)?)?;
-    expect_counts(&rt, &asked, 2220);
-    drop(builder);
-    expect_counts(&rt, &asked, 2222);
-    Ok(())
-}
-
-#[test]
-fn a_refused_system_is_dropped(rt: HostRuntime) -> Result<(), Fail> {
+fn a_system_is_asked_once_and_dropped_where_it_is_refused(rt: HostRuntime) -> Result<(), Fail> {
     let asked = never_asked(rt.alloc())?;
     let mut builder = DispatcherBuilder::new(rt.alloc());
     let system = watching(&asked)?;

@@ -76,6 +76,13 @@ pub(crate) const FIVE_PRINTED: &str =
     "seq![\n\tpar![\n\t\tseq![\n\t\t\ta,\n\t\t],\n\t\tseq![\n\t\t\td,\n\t\t],\n\t],\n\tpar![\n\t\tseq![\n\t\t\tb,\n\t\t],\n\t\tseq![\n\t\t\tc,\n\t\t],\n\t],\n\tpar![\n\t\tseq![\n\t\t\te,\n\t\t],\n\t],\n]\n\n";
 
 pub(crate) const ROWS: &[Row] = &[
+    // Nothing is nine bytes.
+    Row {
+        adds: &[],
+        printed: "seq![\n]\n\n",
+        ended: Ok(()),
+        threads: 0,
+    },
     Row {
         adds: FIVE,
         printed: FIVE_PRINTED,

@@ -1,14 +1,13 @@
 //! Calls of the library, each for every type of system.
 
 use shred::{
-    AddError, Dispatcher, DispatcherBuilder, OutOfMemory, Stage, StagesBuilder, System, SystemId,
-    ThreadLocal, World, new_dispatcher,
+    AddError, Dispatcher, DispatcherBuilder, OutOfMemory, PlanSink, PrintError, StagesBuilder,
+    System, SystemId, SystemNames, ThreadLocal, World, new_dispatcher,
 };
 use shredtest::values::Value;
 use std::alloc::{AllocError, Global};
 use std::fmt::Display;
 use std::process::Abort;
-use std::test::Fail;
 use std::thread::Threads;
 
 pub(crate) fn insert<S: System<Value> + Drop>(
@@ -20,25 +19,16 @@ pub(crate) fn insert<S: System<Value> + Drop>(
     builder.insert(dependencies, SystemId(id), system)
 }
 
-/// A builder after these systems, numbered from 0, which depend on nothing.
-pub(crate) fn inserted<S: System<Value> + Drop>(
-    alloc: Global,
-    systems: Vec<S>,
-) -> Result<StagesBuilder<Value, S>, OutOfMemory> {
-    let mut builder = StagesBuilder::new(alloc);
-    for (id, system) in systems.into_iter().enumerate() {
-        insert(&mut builder, &[], id, system)?;
-    }
-    Ok(builder)
-}
-
 /// The dispatcher of these systems, numbered from 0, which depend on nothing.
 pub(crate) fn dispatcher_of<S: System<Value> + Drop>(
     alloc: Global,
     systems: Vec<S>,
 ) -> Result<Dispatcher<Value, S>, OutOfMemory> {
-    let stages = inserted(alloc, systems)?.build();
-    Ok(new_dispatcher(stages, ThreadLocal::new(alloc), 4))
+    let mut builder = StagesBuilder::new(alloc);
+    for (id, system) in systems.into_iter().enumerate() {
+        insert(&mut builder, &[], id, system)?;
+    }
+    Ok(new_dispatcher(builder.build(), ThreadLocal::new(alloc), 4))
 }
 
 /// The builder answers so to `add`.
@@ -51,6 +41,20 @@ pub(crate) fn expect_add<S: System<Value> + Drop>(
     answer: Result<SystemId, AddError>,
 ) {
     assert_eq!(rt; builder.add(system, name, dependencies), answer);
+}
+
+pub(crate) fn built_with_names<S: System<Value> + Drop>(
+    builder: DispatcherBuilder<Value, S>,
+) -> (Dispatcher<Value, S>, SystemNames) {
+    builder.build_with_names()
+}
+
+pub(crate) fn print_built<S: System<Value>, W: PlanSink>(
+    dispatcher: &Dispatcher<Value, S>,
+    sink: &mut W,
+    names: &SystemNames,
+) -> Result<(), PrintError> {
+    dispatcher.print_par_seq(sink, names)
 }
 
 pub(crate) fn text_of<E: Display>(alloc: Global, error: &E) -> Result<String, AllocError> {
@@ -82,24 +86,6 @@ where
         dispatcher.dispatch_par(rt, world)
     } else {
         dispatcher.dispatch_seq(world)
-    };
-    told(rt.alloc(), answer)
-}
-
-/// Runs the stage, and tells how that ended.
-pub(crate) fn executed<S: System<Value, Error = E> + Drop + Send, E: Display + Drop + Send>(
-    rt: &(impl AllocGlobal + Threads + Sync),
-    stage: &mut Stage<Value, S>,
-    world: &mut World<Value>,
-    on_threads: bool,
-) -> Result<String, AllocError>
-where
-    S::Accessor: Send,
-{
-    let answer = if on_threads {
-        stage.execute(rt, world, 2)
-    } else {
-        stage.execute_seq(world)
     };
     told(rt.alloc(), answer)
 }

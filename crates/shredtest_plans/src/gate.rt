@@ -66,64 +66,60 @@ impl<'f> System<Value> for Meets<'f> {
     }
 }
 
-/// What a system raises and what it waits for, as places in a list of flags.
-struct Meeting {
-    own: usize,
-    other: usize,
+/// What systems raise and wait for.
+#[derive(Drop)]
+struct Flags {
+    first: AtomicBool,
+    last: AtomicBool,
+    between: AtomicBool,
 }
 
-const TWO: &[Meeting] = &[Meeting { own: 0, other: 1 }, Meeting { own: 1, other: 0 }];
-
-/// The first and the last wait for each other. The others wait for nothing.
-const FOUR: &[Meeting] = &[
-    Meeting { own: 0, other: 1 },
-    Meeting { own: 2, other: 2 },
-    Meeting { own: 2, other: 2 },
-    Meeting { own: 1, other: 0 },
-];
-
-fn flag_at<'f>(flags: &'f [AtomicBool; 3], place: usize) -> &'f AtomicBool {
-    match place {
-        0 => &flags[0],
-        1 => &flags[1],
-        _ => &flags[2],
-    }
-}
-
-fn systems_of<'f>(
+/// The first and the last system of so many, which wait for each other, and between them those that wait for nothing.
+fn systems_of(
     alloc: Global,
-    flags: &'f [AtomicBool; 3],
-    meetings: &[Meeting],
+    flags: &Flags,
+    count: usize,
     turns: u32,
-) -> Result<Vec<Meets<'f>>, AllocError> {
+) -> Result<Vec<Meets<'_>>, AllocError> {
+    let (first, last, between) = (&flags.first, &flags.last, &flags.between);
     let mut systems = Vec::new(alloc);
-    for meeting in meetings {
+    systems.push(Meets {
+        own: first,
+        other: last,
+        turns,
+    })?;
+    for _ in 2..count {
         systems.push(Meets {
-            own: flag_at(flags, meeting.own),
-            other: flag_at(flags, meeting.other),
+            own: between,
+            other: between,
             turns,
         })?;
     }
+    systems.push(Meets {
+        own: last,
+        other: first,
+        turns,
+    })?;
     Ok(systems)
 }
 
-/// The systems stand in one stage, each in a group of its own, and their dispatch ends so.
+/// So many systems stand in one stage, each in a group of its own, and their dispatch ends so.
 fn expect_meeting(
     rt: &(impl Abort + AllocGlobal + Threads + Sync),
-    meetings: &[Meeting],
+    count: usize,
     turns: u32,
     on_threads: bool,
     ended: &str,
 ) -> Result<(), Fail> {
-    let flags = [
-        AtomicBool::new(false),
-        AtomicBool::new(false),
-        AtomicBool::new(false),
-    ];
-    let systems = systems_of(rt.alloc(), &flags, meetings, turns)?;
+    let flags = Flags {
+        first: AtomicBool::new(false),
+        last: AtomicBool::new(false),
+        between: AtomicBool::new(false),
+    };
+    let systems = systems_of(rt.alloc(), &flags, count, turns)?;
     let mut dispatcher = dispatcher_of(rt.alloc(), systems)?;
     let mut world: World<Value> = World::empty(rt.alloc());
-    assert_eq!(rt; dispatcher.max_threads(), meetings.len());
+    assert_eq!(rt; dispatcher.max_threads(), count);
     let end = dispatched(rt, &mut dispatcher, &mut world, on_threads)?;
     assert_eq!(rt; end.as_str(), ended);
     Ok(())
@@ -131,16 +127,12 @@ fn expect_meeting(
 
 #[test]
 fn gate_two_systems(rt: HostRuntime) -> Result<(), Fail> {
-    expect_meeting(&rt, TWO, 10_000_000, true, "done")
+    expect_meeting(&rt, 2, 10_000_000, true, "done")?;
+    // One after the other they do not meet. No number of looks would do: the second has not begun.
+    expect_meeting(&rt, 2, 1_000, false, "system 0: refused: 1")
 }
 
 #[test]
 fn halves_of_a_stage_of_four_run_at_once(rt: HostRuntime) -> Result<(), Fail> {
-    expect_meeting(&rt, FOUR, 10_000_000, true, "done")
-}
-
-#[test]
-fn one_after_the_other_they_do_not_meet(rt: HostRuntime) -> Result<(), Fail> {
-    // No number of looks would do: the second has not begun.
-    expect_meeting(&rt, TWO, 1_000, false, "system 0: refused: 1")
+    expect_meeting(&rt, 4, 10_000_000, true, "done")
 }

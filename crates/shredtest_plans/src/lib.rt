@@ -4,8 +4,6 @@
 #[cfg(test)]
 mod asked_once;
 #[cfg(test)]
-mod both_ways;
-#[cfg(test)]
 mod builder_rows;
 #[cfg(test)]
 mod builder_tests;
@@ -16,8 +14,6 @@ mod error_tests;
 #[cfg(test)]
 mod gate;
 #[cfg(test)]
-mod made_systems;
-#[cfg(test)]
 mod named_stages;
 #[cfg(test)]
 mod plan_rows;
@@ -25,7 +21,5 @@ mod plan_rows;
 mod planned_system;
 #[cfg(test)]
 mod planner_tests;
-#[cfg(test)]
-mod shared_reads;
 #[cfg(test)]
 mod stopping;

@@ -1,42 +1,79 @@
 //! Whole runs, from a script's bytes to what is printed.
-use crate::readers::{FailingReader, InterruptedReader, RepeatingReader};
+use crate::readers::Source;
 use crate::writers::StoppingWriter;
 use shredscript::run;
-use std::alloc::Global;
-use std::io::Read;
 use std::process::Abort;
 use std::thread::Threads;
 
-/// What a run wrote and answered.
-#[derive(Drop)]
-struct Printed {
-    out: Vec<u8>,
-    err: Vec<u8>,
+/// What a run is to write, to tell and to answer.
+#[derive(Clone, Copy)]
+struct Wanted<'text> {
+    out: &'text [u8],
+    err: &'text [u8],
     status: u8,
 }
 
-fn run_on<T: Threads + Sync, R: Read>(rt: &T, alloc: Global, reader: &mut R) -> Printed {
-    let mut out = Vec::new(alloc);
-    let mut err = Vec::new(alloc);
-    let status = run(rt, alloc, reader, &mut out, &mut err);
-    Printed { out, err, status }
+/// The run ends so.
+fn expect_run(
+    rt: &(impl Abort + AllocGlobal + Threads + Sync),
+    source: Source,
+    out: StoppingWriter,
+    err: StoppingWriter,
+    wanted: Wanted,
+) {
+    let (mut source, mut out, mut err) = (source, out, err);
+    let status = run(rt, rt.alloc(), &mut source, &mut out, &mut err);
+    assert_eq!(rt; out.written(), wanted.out);
+    assert_eq!(rt; err.written(), wanted.err);
+    assert_eq!(rt; status, wanted.status);
+}
+
+/// The run ends so, where all that is written is taken.
+fn expect_printed(
+    rt: &(impl Abort + AllocGlobal + Threads + Sync),
+    source: Source,
+    wanted: Wanted,
+) {
+    let out = StoppingWriter::endless(rt.alloc());
+    let err = StoppingWriter::endless(rt.alloc());
+    expect_run(rt, source, out, err, wanted);
 }
 
 /// Nothing is run, and this is told.
-fn assert_tells<R: Read>(
+fn expect_told(rt: &(impl Abort + AllocGlobal + Threads + Sync), source: Source, told: &str) {
+    let wanted = Wanted {
+        out: &[],
+        err: told.as_bytes(),
+        status: 1,
+    };
+    expect_printed(rt, source, wanted);
+}
+
+/// Into this output the script's run writes this, and tells that the output failed.
+fn expect_output_failed(
     rt: &(impl Abort + AllocGlobal + Threads + Sync),
-    reader: &mut R,
-    err: &str,
+    script: &str,
+    out: StoppingWriter,
+    written: &[u8],
 ) {
-    let printed = run_on(rt, rt.alloc(), reader);
-    assert_eq!(rt; printed.out.len(), 0);
-    assert_eq!(rt; printed.err.as_slice(), err.as_bytes());
-    assert_eq!(rt; printed.status, 1);
+    let err = StoppingWriter::endless(rt.alloc());
+    let wanted = Wanted {
+        out: written,
+        err: b"output failed\n",
+        status: 1,
+    };
+    expect_run(rt, Source::of_text(script), out, err, wanted);
 }
 
 const SCRIPT: &str = "res X 1\nres Y 20\nsys a average - X+=10 refuse:7\n";
 
 const PRINTED: &str = "X=11\nY=20\nsystem 0 refused 7\n";
+
+const AS_PRINTED: Wanted = Wanted {
+    out: b"X=11\nY=20\nsystem 0 refused 7\n",
+    err: &[],
+    status: 2,
+};
 
 const FIVE_PLANNED: &str =
     "plan\nres Res 0\nsys a average - ?Res\nsys b average a ?Res\nsys c average a ?Res\nsys d average - ?Res\nsys e average c,d ?Res\n";
@@ -45,162 +82,161 @@ const FIVE_PRINTED: &str =
     "seq![\n\tpar![\n\t\tseq![\n\t\t\ta,\n\t\t],\n\t\tseq![\n\t\t\td,\n\t\t],\n\t],\n\tpar![\n\t\tseq![\n\t\t\tb,\n\t\t],\n\t\tseq![\n\t\t\tc,\n\t\t],\n\t],\n\tpar![\n\t\tseq![\n\t\t\te,\n\t\t],\n\t],\n]\n\nthreads 2\nRes=0\nok\n";
 
 #[test]
-fn reads_in_pieces_of_any_length(rt: HostRuntime) {
+fn reads_in_pieces_of_any_length_and_on_after_an_interruption(rt: HostRuntime) {
     for most in 1..SCRIPT.len() {
-        let mut reader = FailingReader::never(SCRIPT.as_bytes(), most);
-        let printed = run_on(&rt, rt.alloc(), &mut reader);
-        assert_eq!(rt;
-            printed.out.as_slice(),
-            PRINTED.as_bytes(),
-            "in pieces of {most}"
-        );
-        assert_eq!(rt; printed.status, 2);
+        let source = Source {
+            most,
+            ..Source::of_text(SCRIPT)
+        };
+        expect_printed(&rt, source, AS_PRINTED);
     }
+    let source = Source {
+        most: 1,
+        is_interrupted: true,
+        ..Source::of_text(SCRIPT)
+    };
+    expect_printed(&rt, source, AS_PRINTED);
 }
 
 #[test]
-fn reads_on_after_an_interruption(rt: HostRuntime) {
-    let mut reader = InterruptedReader::new(SCRIPT.as_bytes());
-    let printed = run_on(&rt, rt.alloc(), &mut reader);
-    assert_eq!(rt; printed.out.as_slice(), PRINTED.as_bytes());
-    assert_eq!(rt; printed.status, 2);
-}
-
-#[test]
-fn tells_a_failed_read_wherever_it_comes(rt: HostRuntime) {
+fn tells_a_failed_read_wherever_it_comes_and_before_a_fault(rt: HostRuntime) {
     for after in 0..SCRIPT.len() {
-        let mut reader = FailingReader::after(SCRIPT.as_bytes(), after);
-        assert_tells(&rt, &mut reader, "input failed\n");
+        expect_told(&rt, Source::failing(SCRIPT, after), "input failed\n");
     }
-}
-
-#[test]
-fn tells_a_failed_read_before_a_fault(rt: HostRuntime) {
-    let script = "unknown\n";
-    let mut reader = FailingReader::after(script.as_bytes(), script.len());
-    assert_tells(&rt, &mut reader, "input failed\n");
-}
-
-/// Where the output fails after so many bytes, these are written, and the failure is told.
-fn assert_fails_after(
-    rt: &(impl Abort + AllocGlobal + Threads + Sync),
-    script: &str,
-    printed: &str,
-    after: usize,
-) {
-    let mut reader = script.as_bytes();
-    let mut out = StoppingWriter::after(rt.alloc(), after);
-    let mut err = Vec::new(rt.alloc());
-    let status = run(rt, rt.alloc(), &mut reader, &mut out, &mut err);
-    let (beginning, _) = printed.as_bytes().split_at(after.min(printed.len()));
-    assert_eq!(rt; out.written(), beginning, "after {after}");
-    assert_eq!(rt;
-        err.as_slice(),
-        "output failed\n".as_bytes(),
-        "after {after}"
+    let unknown = "unknown\n";
+    expect_told(
+        &rt,
+        Source::failing(unknown, unknown.len()),
+        "input failed\n",
     );
-    assert_eq!(rt; status, 1, "after {after}");
 }
+
+/// A script, and what its run prints.
+struct Run {
+    script: &'static str,
+    printed: &'static str,
+}
+
+const RUNS: &[Run] = &[
+    Run {
+        script: SCRIPT,
+        printed: PRINTED,
+    },
+    Run {
+        script: FIVE_PLANNED,
+        printed: FIVE_PRINTED,
+    },
+];
 
 #[test]
 fn tells_a_failed_write_wherever_it_comes(rt: HostRuntime) {
-    for after in 0..PRINTED.len() {
-        assert_fails_after(&rt, SCRIPT, PRINTED, after);
-    }
-    for after in 0..FIVE_PRINTED.len() {
-        assert_fails_after(&rt, FIVE_PLANNED, FIVE_PRINTED, after);
-    }
-}
-
-#[test]
-fn tells_a_failed_flush(rt: HostRuntime) {
-    let mut reader = SCRIPT.as_bytes();
-    let mut out = StoppingWriter::at_flush(rt.alloc());
-    let mut err = Vec::new(rt.alloc());
-    assert_eq!(rt; run(&rt, rt.alloc(), &mut reader, &mut out, &mut err), 1);
-    assert_eq!(rt; out.written(), PRINTED.as_bytes());
-    assert_eq!(rt; err.as_slice(), "output failed\n".as_bytes());
-}
-
-#[test]
-fn a_failed_write_of_a_fault_changes_no_status(rt: HostRuntime) {
-    for (script, status) in [
-        ("end", 1),
-        ("", 0),
-        ("sys a short - refuse:1", 2),
-        ("sys a short a", 2),
-        ("plan\nsys - short -", 2),
-    ] {
-        let mut reader = script.as_bytes();
-        let mut out = Vec::new(rt.alloc());
-        let mut err = StoppingWriter::after(rt.alloc(), 0);
-        assert_eq!(rt;
-            run(&rt, rt.alloc(), &mut reader, &mut out, &mut err),
-            status
-        );
-    }
-}
-
-#[test]
-fn a_failed_write_of_a_fault_leaves_a_beginning(rt: HostRuntime) {
-    for (script, told) in [
-        ("res X", "line 1: bad word\n"),
-        ("sys a short a", "line 1: no such system at 0\n"),
-        ("plan\nsys - short -", "unnamed system 0\n"),
-    ] {
-        for after in 0..told.len() {
-            let mut reader = script.as_bytes();
-            let mut out = Vec::new(rt.alloc());
-            let mut err = StoppingWriter::after(rt.alloc(), after);
-            let _ = run(&rt, rt.alloc(), &mut reader, &mut out, &mut err);
-            let (beginning, _) = told.as_bytes().split_at(after);
-            assert_eq!(rt; err.written(), beginning, "{script:?} after {after}");
+    for run in RUNS {
+        let printed = run.printed.as_bytes();
+        for after in 0..printed.len() {
+            let (beginning, _) = printed.split_at(after);
+            let fails = StoppingWriter::after(rt.alloc(), after);
+            expect_output_failed(&rt, run.script, fails, beginning);
+            let full = StoppingWriter::full_after(rt.alloc(), after);
+            expect_output_failed(&rt, run.script, full, beginning);
         }
+        let unflushed = StoppingWriter::at_flush(rt.alloc());
+        expect_output_failed(&rt, run.script, unflushed, printed);
     }
 }
 
-/// The status of a run into this output.
-fn status_into(rt: &(impl AllocGlobal + Threads + Sync), out: &mut StoppingWriter) -> u8 {
-    let mut reader = SCRIPT.as_bytes();
-    let mut err = Vec::new(rt.alloc());
-    run(rt, rt.alloc(), &mut reader, out, &mut err)
+#[test]
+fn writes_on_after_an_interruption(rt: HostRuntime) {
+    for after in 0..PRINTED.len() {
+        let out = StoppingWriter::interrupted_after(rt.alloc(), after);
+        let err = StoppingWriter::endless(rt.alloc());
+        expect_run(&rt, Source::of_text(SCRIPT), out, err, AS_PRINTED);
+    }
 }
 
+/// A script, what its run prints and tells, and its status.
+struct Told {
+    script: &'static str,
+    printed: &'static str,
+    told: &'static str,
+    status: u8,
+}
+
+const TOLD: &[Told] = &[
+    Told {
+        script: "res X",
+        printed: "",
+        told: "line 1: bad word\n",
+        status: 1,
+    },
+    Told {
+        script: "sys a short a",
+        printed: "",
+        told: "line 1: no such system at 0\n",
+        status: 2,
+    },
+    Told {
+        script: "plan\nsys - short -",
+        printed: "",
+        told: "unnamed system 0\n",
+        status: 2,
+    },
+    // Nothing is told of these, and no failure of what takes nothing is seen.
+    Told {
+        script: "",
+        printed: "ok\n",
+        told: "",
+        status: 0,
+    },
+    Told {
+        script: "sys a short - refuse:1",
+        printed: "system 0 refused 1\n",
+        told: "",
+        status: 2,
+    },
+];
+
 #[test]
-fn writes_on_after_an_interruption_alone(rt: HostRuntime) {
-    for count in 0..PRINTED.len() {
-        let mut out = StoppingWriter::interrupted_after(rt.alloc(), count);
-        assert_eq!(rt; status_into(&rt, &mut out), 2);
-        assert_eq!(rt; out.written(), PRINTED.as_bytes());
-        let mut full = StoppingWriter::full_after(rt.alloc(), count);
-        assert_eq!(rt; status_into(&rt, &mut full), 1);
-        let (beginning, _) = PRINTED.as_bytes().split_at(count);
-        assert_eq!(rt; full.written(), beginning);
+fn a_failed_write_of_a_fault_leaves_a_beginning_and_the_status(rt: HostRuntime) {
+    for row in TOLD {
+        for after in 0..=row.told.len() {
+            let (beginning, _) = row.told.as_bytes().split_at(after);
+            let wanted = Wanted {
+                out: row.printed.as_bytes(),
+                err: beginning,
+                status: row.status,
+            };
+            let out = StoppingWriter::endless(rt.alloc());
+            let err = StoppingWriter::after(rt.alloc(), after);
+            expect_run(&rt, Source::of_text(row.script), out, err, wanted);
+        }
     }
 }
 
 #[test]
 fn bounds_the_length_of_a_script(rt: HostRuntime) {
-    let mut longest = RepeatingReader::of_spaces(1_048_576);
-    let printed = run_on(&rt, rt.alloc(), &mut longest);
-    assert_eq!(rt; printed.out.as_slice(), "ok\n".as_bytes());
-    assert_eq!(rt; printed.status, 0);
-    let mut too_long = RepeatingReader::of_spaces(1_048_577);
-    assert_tells(&rt, &mut too_long, "script too long\n");
-}
-
-#[test]
-fn tells_too_long_before_a_fault(rt: HostRuntime) {
-    let mut longest = RepeatingReader::of_bytes(b'x', 1_048_576);
-    assert_tells(&rt, &mut longest, "line 1: unknown line\n");
-    let mut too_long = RepeatingReader::of_bytes(b'x', 1_048_577);
-    assert_tells(&rt, &mut too_long, "script too long\n");
-}
-
-#[test]
-fn of_too_long_and_a_failed_read_tells_the_first(rt: HostRuntime) {
-    let mut fails_at_the_limit = RepeatingReader::failing_after(1_048_576);
-    assert_tells(&rt, &mut fails_at_the_limit, "input failed\n");
-    let mut fails_past_the_limit = RepeatingReader::failing_after(1_048_577);
-    assert_tells(&rt, &mut fails_past_the_limit, "script too long\n");
+    let ok = Wanted {
+        out: b"ok\n",
+        err: &[],
+        status: 0,
+    };
+    expect_printed(&rt, Source::of_bytes(b' ', 1_048_576), ok);
+    let too_long = "script too long\n";
+    expect_told(&rt, Source::of_bytes(b' ', 1_048_577), too_long);
+    // Before a fault, and before a failed read that comes later.
+    expect_told(
+        &rt,
+        Source::of_bytes(b'x', 1_048_576),
+        "line 1: unknown line\n",
+    );
+    expect_told(&rt, Source::of_bytes(b'x', 1_048_577), too_long);
+    let fails_at_the_limit = Source {
+        fails: true,
+        ..Source::of_bytes(b' ', 1_048_576)
+    };
+    expect_told(&rt, fails_at_the_limit, "input failed\n");
+    let fails_past_the_limit = Source {
+        fails: true,
+        ..Source::of_bytes(b' ', 1_048_577)
+    };
+    expect_told(&rt, fails_past_the_limit, too_long);
 }

@@ -34,6 +34,11 @@ impl StoppingWriter {
         }
     }
 
+    /// Takes all bytes.
+    pub fn endless(alloc: Global) -> StoppingWriter {
+        StoppingWriter::ending(alloc, usize::MAX, usize::MAX, End::Fails)
+    }
+
     /// Takes that many bytes, and fails at each call then.
     pub fn after(alloc: Global, count: usize) -> StoppingWriter {
         StoppingWriter::ending(alloc, count, usize::MAX, End::Fails)
@@ -52,11 +57,8 @@ impl StoppingWriter {
     /// Takes all bytes, and fails to flush them.
     pub fn at_flush(alloc: Global) -> StoppingWriter {
         StoppingWriter {
-            taken: Vec::new(alloc),
-            left: usize::MAX,
-            most: usize::MAX,
-            end: End::Fails,
             flushes: false,
+            ..StoppingWriter::endless(alloc)
         }
     }
 

@@ -3,7 +3,7 @@ use Rattle.std.specs.Prelude.{is_some}
 use Rattle.shred_world.specs.Views.{view_held}
 use Rattle.shredtest.specs.Values.{kind_of}
 use Rattle.shred_world.proofs.Views.KeptIds.{ids-kept}
-use Rattle.shredtest.proofs.adding.add.Goals as goal
+use Rattle.shredtest.proofs.parted_threads.add.Goals as goal
 
 pub returns-clause-ids : goal.returns-clause-ids
 returns-clause-ids c =

@@ -11,8 +11,8 @@ use Rattle.shred_group.specs.Steps.{Outcome, Step}
 use Rattle.shred_batch.specs.Depths.{Related}
 use Rattle.shred_batch.specs.declared.work.Nested.{Nested}
 use Rattle.shred_batch.specs.declared.work.Work.{Work}
-use Rattle.shred_local.specs.declared.dispatch_error.DispatchError.{DispatchError}
-use Rattle.shred_local.specs.LocalRuns.{LocalsRun}
+use Rattle.shred_systems.specs.declared.dispatch_error.DispatchError.{DispatchError}
+use Rattle.shred_systems.specs.LocalRuns.{LocalsRun}
 use Rattle.shred_paths.specs.WithNested.{LeavesNested, NestedSituation, RunWithNested, plan_situation}
 use Rattle.shred.specs.declared.dispatch.dispatcher.Dispatcher.{Dispatcher}
 use Rattle.shred.specs.Dispatchers.{dispatcher_locals, dispatcher_plan, dispatcher_states}

@@ -1,7 +1,7 @@
 -- Builders of dispatchers, and what they have come to.
 use Rattle.std.specs.Prelude.{List}
 use Rattle.shred_stage.specs.BuilderPlan.{planned, barrier_of, builder_states}
-use Rattle.shred_local.specs.ThreadLocals.{systems_of}
+use Rattle.shred_systems.specs.ThreadLocals.{systems_of}
 use Rattle.shred.specs.Built.{Built}
 use Rattle.shred_stage.specs.Names.{NamedId, names_of, named_ids}
 use Rattle.shred.specs.declared.dispatch.builder.DispatcherBuilder.{DispatcherBuilder}

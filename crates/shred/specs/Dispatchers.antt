@@ -7,7 +7,7 @@ use Rattle.shred_table.specs.declared.id.ResourceId.{ResourceId}
 use Rattle.shred_world.specs.declared.world.World.{World}
 use Rattle.shred_world.specs.Worked.{Held}
 use Rattle.shred_world.specs.Worlds.{world_held}
-use Rattle.shred_local.specs.ThreadLocals.{systems_of}
+use Rattle.shred_systems.specs.ThreadLocals.{systems_of}
 use Rattle.shred_stage.specs.Dispatched.{Situation, stages_with}
 use Rattle.shred.specs.declared.dispatch.dispatcher.Dispatcher.{Dispatcher}
 use Rattle.shred_stage.specs.Plans.{plan_states}

@@ -10,8 +10,8 @@ use Rattle.shred_world.specs.Worked.{Held}
 use Rattle.shred_world.specs.Worlds.{world_held}
 use Rattle.shred_group.specs.declared.system.Fault.TheVariants.{Refused}
 use Rattle.shred_group.specs.Steps.{Outcome, Step}
-use Rattle.shred_local.specs.declared.dispatch_error.DispatchError.{DispatchError}
-use Rattle.shred_local.specs.LocalRuns.{LocalsRun}
+use Rattle.shred_systems.specs.declared.dispatch_error.DispatchError.{DispatchError}
+use Rattle.shred_systems.specs.LocalRuns.{LocalsRun}
 use Rattle.shred_stage.specs.Dispatched.{Dispatched, Situation}
 use Rattle.shred.specs.declared.dispatch.dispatcher.Dispatcher.{Dispatcher}
 use Rattle.shred.specs.Dispatchers.{dispatcher_locals, dispatcher_with, dispatcher_workers}

@@ -14,7 +14,7 @@ use Rattle.shred_group.specs.PlanOf.{groups_plan}
 use Rattle.shred_batch.specs.Depths.{Declared, Related}
 use Rattle.shred_batch.specs.declared.work.Nested.{Nested}
 use Rattle.shred_batch.specs.declared.work.Work.{Work}
-use Rattle.shred_local.specs.declared.dispatch_error.DispatchError.{DispatchError}
+use Rattle.shred_systems.specs.declared.dispatch_error.DispatchError.{DispatchError}
 use Rattle.shred_paths.specs.WithNested.{plan_situation}
 use Rattle.shred_paths.proofs.OwnDepth.{own-plan-fits, own-plan-leaves}
 use Rattle.shred_stage.specs.Dispatched.{Dispatched, Situation}

@@ -4,8 +4,8 @@ use Rattle.shred_model.specs.Plan as model
 use Rattle.shred_model.specs.Runs.{Answer, RunsUpToFault}
 use Rattle.shred_table.specs.declared.id.Kind.{Kind}
 use Rattle.shred_table.specs.declared.id.ResourceId.{ResourceId}
-use Rattle.shred_local.specs.declared.dispatch_error.DispatchError.{DispatchError}
-use Rattle.shred_local.specs.declared.dispatch_error.DispatchError.TheVariants as dispatch
+use Rattle.shred_systems.specs.declared.dispatch_error.DispatchError.{DispatchError}
+use Rattle.shred_systems.specs.declared.dispatch_error.DispatchError.TheVariants as dispatch
 use Rattle.shred_group.specs.declared.dispatch.run.StageFault.{StageFault}
 use Rattle.shred_group.specs.declared.dispatch.run.StageFault.TheVariants.{System, Memory}
 use Rattle.shred_group.specs.Entries.{StageTurn}

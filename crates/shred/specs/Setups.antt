@@ -5,8 +5,8 @@ use Rattle.shred_model.specs.Runs.{Answer, first_fault}
 use Rattle.shred_world.specs.Worked.{Held}
 use Rattle.shred_group.specs.declared.dispatch.run.StageFault.{StageFault}
 use Rattle.shred_group.specs.Steps.{Outcome, Step}
-use Rattle.shred_local.specs.declared.dispatch_error.DispatchError.{DispatchError}
-use Rattle.shred_local.specs.LocalRuns.{LocalsSetup, LocalsDisposal}
+use Rattle.shred_systems.specs.declared.dispatch_error.DispatchError.{DispatchError}
+use Rattle.shred_systems.specs.LocalRuns.{LocalsSetup, LocalsDisposal}
 use Rattle.shred_stage.specs.declared.dispatch.stage.Stage.{Stage}
 use Rattle.shred_stage.specs.Setups.{StageSetup, StageDisposal}
 use Rattle.shred.specs.declared.dispatch.dispatcher.Dispatcher.{Dispatcher}

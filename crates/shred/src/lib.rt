@@ -95,13 +95,12 @@ pub use dispatch::dispatcher::{Dispatcher, new_dispatcher};
 pub use dispatch::names::SystemNames;
 pub use dispatch::nests::Nests;
 pub use shred_batch::{BatchController, MultiDispatchController, MultiDispatcher};
-pub use shred_local::{DispatchError, Now, RunNow, ThreadLocal};
 pub use shred_names::AddError;
 pub use shred_stage::{
     Fault, Holds, NoBatch, Occupant, PlanSink, PrintError, RunningTime, RunsInOrder, Settles,
     SinkFailed, Stage, StageFault, StagesBuilder, System, SystemId, ToWriter,
 };
-pub use shred_systems::{OneOf, Plain, PlainSystem};
+pub use shred_systems::{DispatchError, Now, OneOf, Plain, PlainSystem, RunNow, ThreadLocal};
 pub use shred_works::{Batched, WithBatches};
 pub use shred_world::{
     Accessor, BatchAccessor, Behind, DataError, DefaultProvider, DynamicSystemData, Entry, Fetch,

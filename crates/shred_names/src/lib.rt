@@ -3,7 +3,5 @@
 
 pub mod add_error;
 pub mod look_up;
-#[cfg(test)]
-mod tests;
 
 pub use add_error::AddError;

@@ -1,3 +1,4 @@
+pub mod Done
 pub mod Standing
 pub mod Interleaved
 pub mod NestedInterleaved

@@ -11,7 +11,7 @@ use Rattle.shred_world.specs.Worked.{Held}
 use Rattle.shred_group.specs.declared.system.Fault.TheVariants.{OutOfMemory}
 use Rattle.shred_group.specs.Alone.{IsStepOver, StepsAlone}
 use Rattle.shred_group.specs.Steps.{Outcome, Step, Written, IsStep, declared_of}
-use Rattle.shred_local.specs.declared.now.Now.{Now}
+use Rattle.shred_systems.specs.declared.now.Now.{Now}
 use Rattle.shred_systems.specs.declared.one_of.OneOf.{OneOf}
 use Rattle.shred_systems.specs.declared.one_of.OneOf.TheVariants.{First, Second}
 use Rattle.shred_systems.specs.declared.plain.Plain.{Plain}

@@ -6,7 +6,7 @@ use Rattle.shred_table.specs.declared.id.Kind.{Kind}
 use Rattle.shred_table.specs.declared.id.ResourceId.{ResourceId}
 use Rattle.shred_group.specs.declared.dispatch.run.StageFault.TheVariants.{Memory}
 use Rattle.shred_group.specs.Steps.{Step, Written}
-use Rattle.shred_local.specs.declared.dispatch_error.DispatchError.TheVariants.{StageMemory}
+use Rattle.shred_systems.specs.declared.dispatch_error.DispatchError.TheVariants.{StageMemory}
 use Rattle.shred.specs.PlanRuns.{PlanRun}
 
 -- a record is not independent of itself, so the groups of two records have to differ

@@ -6,7 +6,7 @@ use Rattle.shred_model.specs.Runs.{Answer}
 use Rattle.shred_table.specs.declared.id.Kind.{Kind}
 use Rattle.shred_table.specs.declared.id.ResourceId.{ResourceId}
 use Rattle.shred_batch.specs.Depths.{Related}
-use Rattle.shred_local.specs.declared.dispatch_error.DispatchError.{DispatchError}
+use Rattle.shred_systems.specs.declared.dispatch_error.DispatchError.{DispatchError}
 use Rattle.shred_paths.specs.WithNested.{NestedSituation}
 use Rattle.shred_paths.proofs.Fits.{PlanFitsThroughout}
 use Rattle.shred_paths.proofs.Parallel.{interleaving-equivalent, parallel-independent}

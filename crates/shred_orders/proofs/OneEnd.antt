@@ -20,9 +20,9 @@ use Rattle.shred_group.specs.declared.dispatch.run.StageFault.{StageFault}
 use Rattle.shred_group.specs.declared.dispatch.run.StageFault.TheVariants.{System, Memory}
 use Rattle.shred_group.specs.Entries.{EntryRun, GroupRun, StageTurn, entry_answer}
 use Rattle.shred_group.specs.Steps.{Outcome, Step, Written, IsStep}
-use Rattle.shred_local.specs.declared.dispatch_error.DispatchError.{DispatchError}
-use Rattle.shred_local.specs.declared.dispatch_error.DispatchError.TheVariants.{StageMemory}
-use Rattle.shred_local.specs.LocalRuns.{LocalRun, LocalsRun, local_answer}
+use Rattle.shred_systems.specs.declared.dispatch_error.DispatchError.{DispatchError}
+use Rattle.shred_systems.specs.declared.dispatch_error.DispatchError.TheVariants.{StageMemory}
+use Rattle.shred_systems.specs.LocalRuns.{LocalRun, LocalsRun, local_answer}
 use Rattle.shred_stage.specs.Dispatched.{Dispatched, Situation}
 use Rattle.shred.specs.FullRuns.{FullyDispatched, Whole}
 use Rattle.shred.specs.PlanRuns.{PlanTurn, PlanRun, dispatch_answer}

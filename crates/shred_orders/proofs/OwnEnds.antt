@@ -17,15 +17,15 @@ use Rattle.shred_group.specs.Kept.{AreOwnLists}
 use Rattle.shred_group.specs.OwnLists.{IsOwnEntry, IsOwnGroup}
 use Rattle.shred_group.specs.PlanOf.{entry_plan, group_plan}
 use Rattle.shred_group.specs.Steps.{Outcome, Step, Written, IsStep}
-use Rattle.shred_local.specs.declared.dispatch_error.DispatchError.{DispatchError}
-use Rattle.shred_local.specs.LocalRuns.{local_answer}
+use Rattle.shred_systems.specs.declared.dispatch_error.DispatchError.{DispatchError}
+use Rattle.shred_systems.specs.LocalRuns.{local_answer}
 use Rattle.shred_stage.specs.declared.dispatch.stage.Stage.{Stage}
 use Rattle.shred_stage.specs.Plans.{stage_states, plan_states}
 use Rattle.shred_stage.specs.StagePlan.{stage_plan, plan_of}
 use Rattle.shred.specs.FullRuns.{FullyDispatched, Whole}
 use Rattle.shred.specs.PlanRuns.{PlanRun}
-use Rattle.shred_done.specs.Entries.{entries_of_plan}
-use Rattle.shred_done.proofs.Done.{IsDoneStep, plan_done}
+use Rattle.shred_orders.specs.Entries.{entries_of_plan}
+use Rattle.shred_orders.proofs.Done.{IsDoneStep, plan_done}
 use Rattle.shred_orders.specs.OneEnd.{AreOfKinds, HadMemory, IsDeterministic, IsDeterministicLocal, IsDone, IsNotOutOfMemory, IsSameButThreads, SameEnd, TellsNoWant, own_access}
 use Rattle.shred_orders.proofs.SameRuns.{EachAdmitted, FitEach, listed-fit}
 use Rattle.shred_orders.proofs.OneEnd.{HasOneStep, HaveOneStep, full-run-deterministic}

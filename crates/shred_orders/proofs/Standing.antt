@@ -17,7 +17,7 @@ use Rattle.shred_group.specs.declared.dispatch.run.StageFault.{StageFault}
 use Rattle.shred_group.specs.Entries.{GroupRun, StageTurn}
 use Rattle.shred_group.specs.Steps.{Step, Written}
 use Rattle.shred_group.proofs.Runs.GroupsWithin.{group-within}
-use Rattle.shred_local.specs.declared.dispatch_error.DispatchError.{DispatchError}
+use Rattle.shred_systems.specs.declared.dispatch_error.DispatchError.{DispatchError}
 use Rattle.shred.specs.PlanRuns.{PlanTurn, PlanRun}
 use Rattle.shred_orders.specs.Interleavings.{AreInParallelGroups}
 

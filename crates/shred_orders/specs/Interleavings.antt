@@ -9,7 +9,7 @@ use Rattle.shred_model.specs.States.{configuration_of}
 use Rattle.shred_table.specs.declared.id.Kind.{Kind}
 use Rattle.shred_table.specs.declared.id.ResourceId.{ResourceId}
 use Rattle.shred_group.specs.Steps.{Step, Written}
-use Rattle.shred_local.specs.declared.dispatch_error.DispatchError.{DispatchError}
+use Rattle.shred_systems.specs.declared.dispatch_error.DispatchError.{DispatchError}
 use Rattle.shred_stage.specs.Dispatched.{Dispatched, Situation}
 use Rattle.shred.specs.PlanRuns.{PlanRun}
 

@@ -1,3 +1,4 @@
+pub mod Entries
 pub mod Interleavings
 pub mod OneEnd
 pub mod NestedInterleavings

@@ -11,8 +11,8 @@ use Rattle.shred_world.specs.Worked.{Held}
 use Rattle.shred_group.specs.declared.system.Fault.TheVariants.{Refused, OutOfMemory}
 use Rattle.shred_group.specs.Alone.{KeepsKinds}
 use Rattle.shred_group.specs.Steps.{Outcome, Step, Written, IsStep}
-use Rattle.shred_local.specs.declared.dispatch_error.DispatchError.{DispatchError}
-use Rattle.shred_local.specs.declared.dispatch_error.DispatchError.TheVariants.{System, ThreadLocal, StageMemory}
+use Rattle.shred_systems.specs.declared.dispatch_error.DispatchError.{DispatchError}
+use Rattle.shred_systems.specs.declared.dispatch_error.DispatchError.TheVariants.{System, ThreadLocal, StageMemory}
 use Rattle.shred.specs.FullRuns.{FullyDispatched, Whole}
 use Rattle.shred.specs.PlanRuns.{PlanRun}
 

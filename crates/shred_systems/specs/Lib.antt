@@ -1,1 +1,3 @@
+pub mod LocalRuns
 pub mod Made
+pub mod ThreadLocals

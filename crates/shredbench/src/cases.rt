@@ -1,14 +1,6 @@
 //! Scripts, each with how its run is to end.
 
-/// A script, and what its run is to print and answer.
-#[derive(Clone, Copy)]
-pub(crate) struct Case {
-    pub(crate) name: &'static str,
-    pub(crate) script: &'static str,
-    pub(crate) stdout: &'static str,
-    pub(crate) stderr: &'static str,
-    pub(crate) status: u8,
-}
+use shredscript::Case;
 
 /// Systems that refuse beside others, and a thread-local one that is not run after that.
 const REFUSED_BESIDE: &str =

@@ -2,13 +2,10 @@
 #![tactic(auto)]
 
 mod cases;
-mod table;
-#[cfg(test)]
-mod tests;
 
 use cases::CASES;
+use shredscript::run_table;
 use std::process::ExitCode;
-use table::run_table;
 
 fn main(rt: HostRuntime) -> ExitCode {
     match run_table(&rt, rt.alloc(), CASES, &mut rt.stdout()) {

@@ -12,7 +12,7 @@ use Rattle.shred_world.specs.declared.world.view.DataError.{DataError}
 use Rattle.shred_world.specs.Worked.{Held}
 use Rattle.shred_group.specs.Alone.{StepsAlone}
 use Rattle.shred_group.specs.Steps.{Outcome}
-use Rattle.shred_local.specs.declared.now.Now.{Now}
+use Rattle.shred_systems.specs.declared.now.Now.{Now}
 use Rattle.shred_systems.specs.declared.plain.Plain.{Plain}
 use Rattle.shred_orders.specs.OneEnd.{IsDeterministic, IsDeterministicLocal, IsDone, own_access}
 use Rattle.shred_orders.proofs.Made.{now-deterministic, plain-deterministic}

@@ -1,1 +1,3 @@
+pub mod Single
+pub mod Counted
 pub mod Adds

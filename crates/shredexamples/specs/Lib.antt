@@ -1,3 +1,4 @@
+pub mod Limits
 pub mod Numbers
 pub mod Jobs
 pub mod PlanTexts

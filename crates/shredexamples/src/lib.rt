@@ -1,10 +1,13 @@
-//! Examples: a world alone, an enum of systems, systems behind a box, a batch, the text of a plan, and two dispatches
-//! that end the same.
+//! Examples: a system with its resource, a bundle of a caller's own, a world alone, an enum of systems, systems behind a
+//! box, a batch, the text of a plan, and two dispatches that end the same.
 #![tactic(auto)]
 
 pub mod batch;
 pub mod boxed_systems;
+pub mod counting;
 pub mod enum_of_systems;
+pub mod limits;
+pub mod one_system;
 pub mod plan_text;
 pub mod same_end;
 pub mod two_systems;

@@ -13,12 +13,12 @@ use Rattle.shred_model.proofs.Records.Membership.{is_contained, is_declared}
 use Rattle.shred_table.specs.declared.id.ResourceId.{ResourceId}
 use Rattle.shred_world.specs.declared.world.view.DataError.{DataError}
 use Rattle.shred_table.proofs.Tables.Ids.{tell_ids}
-use Rattle.shred_local.specs.declared.dispatch_error.DispatchError.{DispatchError}
+use Rattle.shred_systems.specs.declared.dispatch_error.DispatchError.{DispatchError}
 use Rattle.shred_stage.specs.Placement.{IsPlaced}
 use Rattle.shred.specs.PlanRuns.{PlanRun}
 use Rattle.shred_group.specs.Steps.{Outcome, Step, Written}
-use Rattle.shred_done.specs.Entries.{entries_of_plan}
-use Rattle.shred_done.proofs.Done.{IsDoneStep, plan_done}
+use Rattle.shred_orders.specs.Entries.{entries_of_plan}
+use Rattle.shred_orders.proofs.Done.{IsDoneStep, plan_done}
 use Rattle.shred_systems.specs.declared.plain.Plain.{Plain}
 use Rattle.shred_table.specs.declared.only.Only.{Only}
 use Rattle.shredmeasure.specs.declared.adder.AddOne.{AddOne}

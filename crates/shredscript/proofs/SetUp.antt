@@ -12,8 +12,8 @@ use Rattle.shred_group.specs.declared.dispatch.run.StageFault.{StageFault}
 use Rattle.shred_group.specs.Entries.{entry_answer, entry_states, group_states}
 use Rattle.shred_group.specs.Setups.{EntrySetup, GroupSetup}
 use Rattle.shred_group.specs.Steps.{Outcome, Step}
-use Rattle.shred_local.specs.declared.dispatch_error.DispatchError.{DispatchError}
-use Rattle.shred_local.specs.LocalRuns.{LocalSetup, LocalsSetup, local_answer}
+use Rattle.shred_systems.specs.declared.dispatch_error.DispatchError.{DispatchError}
+use Rattle.shred_systems.specs.LocalRuns.{LocalSetup, LocalsSetup, local_answer}
 use Rattle.shred_stage.specs.declared.dispatch.stage.Stage.{Stage}
 use Rattle.shred_stage.specs.Plans.{stage_states}
 use Rattle.shred.specs.declared.dispatch.dispatcher.Dispatcher.{Dispatcher}

@@ -17,7 +17,7 @@ use Rattle.shred_batch.specs.Controls.{Control}
 use Rattle.shred_model.specs.Record.{Agent}
 use Rattle.shred_batch.specs.OwnDepth.{OwnStep}
 use Rattle.shred_batch.specs.Setups.{OwnSetup}
-use Rattle.shred_local.specs.declared.dispatch_error.DispatchError.{DispatchError}
+use Rattle.shred_systems.specs.declared.dispatch_error.DispatchError.{DispatchError}
 use Rattle.shredscript_text.specs.declared.error.ScriptError.{ScriptError}
 use Rattle.shredscript_text.specs.declared.error.ScriptError.TheVariants.{TooLong, InputFailed, Line, Refused, Unnamed, OutOfMemory, OutputFailed}
 use Rattle.shredscript_text.specs.declared.input.TheConstants.{MOST_BYTES}

@@ -11,5 +11,7 @@ mod plan_text;
 mod run_plan;
 mod stepping;
 mod system;
+mod table;
 
 pub use engine::run;
+pub use table::{Case, run_table};

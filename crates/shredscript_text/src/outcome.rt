@@ -6,7 +6,7 @@ ghost use Rattle.shredscript_text.specs.Endings.{failure_of, outcome_of, outcome
 ghost use Rattle.shredscript_text.specs.Texts.{line_of, outcome_text, threads_text, value_text};
 
 use shred_group::Fault;
-use shred_local::DispatchError;
+use shred_systems::DispatchError;
 use shred_world::DataError;
 use std::io::Write;
 use std::{fmt, io};

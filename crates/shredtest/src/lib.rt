@@ -1,28 +1,18 @@
-//! Tests of worlds, views and bundles, with the values that the other crates of tests share.
+//! Tests of the public calls, by what they call, with the values that most of them share.
 #![tactic(auto)]
 
 #[cfg(test)]
-mod accessor_tests;
+mod batches;
 #[cfg(test)]
-mod bundles;
+mod ended;
 #[cfg(test)]
-mod chosen;
+mod examples;
 #[cfg(test)]
-mod error_tests;
+mod locals;
 #[cfg(test)]
-mod exec_tests;
+mod plans;
 #[cfg(test)]
-mod lent_calls;
-#[cfg(test)]
-mod parted_in_two;
-#[cfg(test)]
-mod parted_tests;
-#[cfg(test)]
-mod parted_threads;
-#[cfg(test)]
-mod shown;
-#[cfg(test)]
-mod tuples;
+mod scripts;
 pub mod values;
 #[cfg(test)]
-mod world;
+mod worlds;

@@ -12,7 +12,7 @@ use Rattle.shred_table.proofs.Tables.Ids.{tell_ids}
 use Rattle.shred_stage.specs.Dispatched.{Dispatched, Situation}
 use Rattle.shred_group.specs.Steps.{Step, Written}
 use Rattle.shred_group.proofs.Runs.FramedRuns.{turn_framed}
-use Rattle.shred_local.specs.declared.dispatch_error.DispatchError.{DispatchError}
+use Rattle.shred_systems.specs.declared.dispatch_error.DispatchError.{DispatchError}
 use Rattle.shred.specs.PlanRuns.{PlanTurn, PlanRun}
 
 module _ {V S E : Type 0} (kind : V → Kind) (step : Step V S E) where

@@ -8,7 +8,7 @@ use Rattle.shred_model.specs.Runs.{Answer, Ran}
 use Rattle.shred_model.proofs.Joined.Ran.{Ran-as, Ran-of_one_thread}
 use Rattle.shred_table.specs.declared.id.Kind.{Kind}
 use Rattle.shred_table.specs.declared.id.ResourceId.{ResourceId}
-use Rattle.shred_local.specs.declared.dispatch_error.DispatchError.{DispatchError}
+use Rattle.shred_systems.specs.declared.dispatch_error.DispatchError.{DispatchError}
 use Rattle.shred_group.specs.declared.dispatch.run.StageFault.{StageFault}
 use Rattle.shred_group.specs.Entries.{StageTurn}
 use Rattle.shred.specs.PlanRuns.{PlanTurn, dispatch_answer}

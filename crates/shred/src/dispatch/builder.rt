@@ -12,7 +12,7 @@ ghost use Rattle.shred_group.specs.PlanOf.{entry_plan};
 ghost use Rattle.shred_names.specs.Refusals.{IsRefusal, MayAdd};
 ghost use Rattle.shred.specs.Dispatchers.{dispatcher_locals, dispatcher_plan, dispatcher_states, dispatcher_workers};
 ghost use Rattle.shred.specs.SystemNames.{names_known, names_pairs};
-ghost use Rattle.shred_local.specs.ThreadLocals.{systems_of};
+ghost use Rattle.shred_systems.specs.ThreadLocals.{systems_of};
 ghost use Rattle.shred_stage.specs.Earlier.{plan_has};
 ghost use Rattle.shred_stage.specs.Known.{texts_of};
 ghost use Rattle.shred_stage.specs.Names.{AreNames, first_unnamed, names_of};
@@ -22,7 +22,6 @@ ghost use Rattle.shred_stage.specs.Prints.{IsPrinted};
 use crate::dispatch::dispatcher::{Dispatcher, new_dispatcher};
 use crate::dispatch::names::SystemNames;
 use shred_group::dispatch::entry::SystemEntry;
-use shred_local::{Now, ThreadLocal};
 use shred_names::AddError;
 use shred_names::look_up::{enter, forget, ids_of, may_add};
 use shred_stage::dispatch::printing::print_with_end;
@@ -30,6 +29,7 @@ use shred_stage::dispatch::stages_builder::kept_entry;
 use shred_stage::{
     Holds, NoBatch, Occupant, PlanSink, PrintError, StagesBuilder, System, SystemId,
 };
+use shred_systems::{Now, ThreadLocal};
 use shred_world::{OutOfMemory, ResourceValue};
 use std::alloc::Global;
 use std::collections::HashMap;

@@ -1,8 +1,8 @@
 //! The dispatcher: it runs a plan, and then the thread-local systems.
 ghost use Rattle.std.specs.Prelude.{◌≡◌, ◌++◌, Err};
 ghost use Rattle.shred_group.specs.Alone.{KeepsKinds};
-ghost use Rattle.shred_local.specs.LocalRuns.{LocalsRun};
-ghost use Rattle.shred_local.specs.ThreadLocals.{systems_of};
+ghost use Rattle.shred_systems.specs.LocalRuns.{LocalsRun};
+ghost use Rattle.shred_systems.specs.ThreadLocals.{systems_of};
 ghost use Rattle.shred_model.specs.Plan.{plan_ids};
 ghost use Rattle.shred_model.specs.Record.{Agent};
 ghost use Rattle.shred_model.specs.Runs.{first_fault};
@@ -21,11 +21,11 @@ ghost use Rattle.shred_world.specs.Worlds.{local_held, world_held};
 
 use crate::dispatch::names::SystemNames;
 use crate::dispatch::nests::Nests;
-use shred_local::{DispatchError, Now, RunNow, ThreadLocal};
 use shred_stage::dispatch::printing::print;
 use shred_stage::{
     Fault, NoBatch, Occupant, PlanSink, PrintError, RunsInOrder, Settles, Stage, StageFault, System,
 };
+use shred_systems::{DispatchError, Now, RunNow, ThreadLocal};
 use shred_world::{LocalWorld, ResourceValue, World};
 use std::thread::Threads;
 

@@ -1,7 +1,7 @@
 //! What a run of a plan leaves, told by the steps of all that nests in it.
 ghost use Rattle.std.specs.Prelude.{List};
 ghost use Rattle.shred_batch.specs.Depths.{Declared, Related};
-ghost use Rattle.shred_local.specs.declared.dispatch_error.DispatchError.{DispatchError};
+ghost use Rattle.shred_systems.specs.declared.dispatch_error.DispatchError.{DispatchError};
 ghost use Rattle.shred_model.specs.Plan.{Plan};
 ghost use Rattle.shred_model.specs.Runs.{Answer};
 ghost use Rattle.shred_stage.specs.Dispatched.{Dispatched, Situation};

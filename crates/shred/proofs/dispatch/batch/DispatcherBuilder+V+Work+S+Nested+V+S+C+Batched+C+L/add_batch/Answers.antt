@@ -3,7 +3,7 @@ use Rattle.std.proofs.lemmas.List.{nil_from_length}
 use Rattle.shred_batch.specs.Depths.{batch_of}
 use Rattle.shred_batch.specs.Works.{tiers_plan}
 use Rattle.shred_group.specs.PlanOf.{entry_plan}
-use Rattle.shred_local.specs.ThreadLocals.{systems_of}
+use Rattle.shred_systems.specs.ThreadLocals.{systems_of}
 use Rattle.shred_model.specs.Access.{Access}
 use Rattle.shred_stage.specs.Inner.{tiers_states}
 use Rattle.shred_table.specs.declared.id.ResourceId.{ResourceId}

@@ -1,2 +1,0 @@
-//! What was recorded of a dispatch that is Done: definitions and lemmas, and no code.
-#![tactic(auto)]

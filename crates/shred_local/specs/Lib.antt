@@ -1,2 +1,0 @@
-pub mod LocalRuns
-pub mod ThreadLocals

@@ -1,2 +1,0 @@
-pub mod Single
-pub mod Counted

@@ -1,8 +1,0 @@
-use Rattle.std.proofs.Common.{rules}
-use Rattle.shred_world.specs.Worlds.{world_held}
-use Rattle.shredexample.specs.Limits.{kind_of}
-use Rattle.shredexample.proofs.Counted.{counted-in}
-use Rattle.shredexample.proofs.counting.count_one_in.Goals as goal
-
-pub returns : goal.returns
-returns c = record { counted = counted-in _ _ (λ first last answer ran. search rules) (world_held kind_of c.args.world.now) (world_held kind_of c.exec.new.self) c.exec.result c.exec.ensures }

@@ -1,0 +1,11 @@
+//! Tests of plans with batches.
+
+mod adding;
+mod adds;
+mod bounds;
+mod gate;
+mod multi;
+mod plans;
+mod rounds;
+mod settled;
+mod stages;

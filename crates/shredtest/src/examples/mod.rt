@@ -1,0 +1,4 @@
+//! Tests of the examples: each is run once.
+
+mod each_once;
+mod own_bundle;

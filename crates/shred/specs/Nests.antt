@@ -1,5 +1,5 @@
 -- Plans whose entries are in lists of groups, and what follows of a run of one that holds batches.
-use Rattle.std.specs.Prelude.{◌≡◌, List, All, map}
+use Rattle.std.specs.Prelude.{List, All, map}
 use Rattle.std.proofs.Common.{sym, subst}
 use Rattle.shred_model.specs.Plan as model
 use Rattle.shred_model.specs.Runs.{Answer}

@@ -180,6 +180,20 @@ impl<V, X: Occupant<C, V>, C, L: Drop> DispatcherBuilder<V, X, C, L> {
 impl<V: ResourceValue + Drop, X: Occupant<C, V> + Drop, C, L: Drop> DispatcherBuilder<V, X, C, L> {
     ghost use Rattle.shred.specs.Builders.{built};
 
+    // The stages of a plan without thread-local systems. Refused where there is one.
+    pub(crate) fn into_inner(self) -> Result<StagesBuilder<V, X, C>, AddError>
+        ensures no_local { OnOk result ((built self).locals ≡ []) }
+        ensures plan { IfOk result (λ stages. planned stages ≡ (built self).plan) }
+        ensures states { IfOk result (λ stages. (path : Agent) → builder_states stages path ≡ (built self).states path) }
+        ensures local { OnErr result ((built self).locals ≡ [] → ⊥) }
+        ensures refused { IfErr result (λ e. e ≡ AddError.ThreadLocalInBatch) }
+    {
+        if self.thread_local.len() > 0 {
+            return Err(AddError::ThreadLocalInBatch);
+        }
+        Ok(self.stages)
+    }
+
     // `add`, of a system in any plan that may hold it.
     pub(crate) fn add_system<S: System<V> + Drop>(
         &mut self,
@@ -196,13 +210,9 @@ impl<V: ResourceValue + Drop, X: Occupant<C, V> + Drop, C, L: Drop> DispatcherBu
         ensures unchanged { OnErr result (IsSameBuilt (built self.old) (built self.new)) }
     {
         may_add(&self.names, self.next, name, dependencies)?;
-        let id = SystemId(self.next);
-        let Ok(entry) = kept_entry::<V, X, C, S>(self.alloc, id, system) else {
-            return Err(AddError::OutOfMemory);
-        };
-        match self.accept(entry, name, dependencies) {
-            Ok(()) => Ok(id),
-            Err(_) => Err(AddError::OutOfMemory),
+        match kept_entry::<V, X, C, S>(self.alloc, SystemId(self.next), system) {
+            Ok(entry) => self.accept(entry, name, dependencies),
+            Err(OutOfMemory) => Err(AddError::OutOfMemory),
         }
     }
 
@@ -212,26 +222,28 @@ impl<V: ResourceValue + Drop, X: Occupant<C, V> + Drop, C, L: Drop> DispatcherBu
         entry: SystemEntry<V, X>,
         name: &str,
         dependencies: &[&str],
-    ) -> Result<(), OutOfMemory>
+    ) -> Result<SystemId, AddError>
         requires allowed { MayAdd (built self.old).known (built self.old).next name.now (texts_of dependencies.now) }
         requires own_lists { IsEntryOf X.may_keep entry }
         requires id { (entry_plan entry).id ≡ (built self.old).next }
+        ensures id { IfOk result (λ id. id.0 ≡ (built self.old).next) }
         ensures added { OnOk result (IsEntryAdded (entry_plan entry) (built self.old) (built self.new) name.now (texts_of dependencies.now) entry.system) }
+        ensures refused { IfErr result (λ e. e ≡ AddError.OutOfMemory) }
         ensures unchanged { OnErr result (IsSameBuilt (built self.old) (built self.new)) }
     {
-        let ids = match ids_of(self.alloc, &self.names, dependencies) {
-            Ok(ids) => ids,
-            Err(e) => return Err(e),
+        let id = SystemId(self.next);
+        let Ok(ids) = ids_of(self.alloc, &self.names, dependencies) else {
+            return Err(AddError::OutOfMemory);
         };
-        if let Err(e) = enter(self.alloc, &mut self.names, name, SystemId(self.next)) {
-            return Err(e);
+        if let Err(OutOfMemory) = enter(self.alloc, &mut self.names, name, id) {
+            return Err(AddError::OutOfMemory);
         }
-        if let Err(e) = self.stages.insert_entry(ids.as_slice(), entry) {
+        if let Err(OutOfMemory) = self.stages.insert_entry(ids.as_slice(), entry) {
             forget(&mut self.names, name);
-            return Err(e);
+            return Err(AddError::OutOfMemory);
         }
         self.next += 1;
-        Ok(())
+        Ok(id)
     }
 }
 

@@ -19,7 +19,7 @@ returns-clause-added g c =
       added = is.added;
       from_barrier = is.from_barrier;
       after = stands-after_all (planned old) (names_of c.args.self.now.names) (texts_of c.args.dependencies.now) is.added.place c.args.self.now.known_planned c.requires.allowed.all_known (subst (λ ids. ComesAfter (planned old) ids is.added.place) same is.after);
-      known = c.in_default.ensures.ok;
+      known = c.in_default-enter.ensures.ok;
       barrier = c.insert_entry.ensures.barrier;
       next = refl;
       locals = refl;
@@ -32,13 +32,13 @@ invariant_of-self-2 g c =
     let added = c.in_default-insert_entry.ensures.inserted.added in
     record {
       distinct_names = c.enter.ensures.distinct c.args.self.now.distinct_names;
-      known_planned = known-still (planned c.args.self.now.stages) (planned c.insert_entry.new.self) added.place entry (names_of c.args.self.now.names) (names_of c.enter.new.names) c.args.name.now c.args.self.now.next c.requires.id added.entry_is_new c.in_default.ensures.ok c.args.self.now.known_planned;
-      consistent = entered-consistent _ _ added.place entry c.args.name.now c.requires.id added.entry_is_new c.in_default.ensures.ok refl c.args.self.now.consistent;
+      known_planned = known-still (planned c.args.self.now.stages) (planned c.insert_entry.new.self) added.place entry (names_of c.args.self.now.names) (names_of c.enter.new.names) c.args.name.now c.args.self.now.next c.requires.id added.entry_is_new c.in_default-enter.ensures.ok c.args.self.now.known_planned;
+      consistent = entered-consistent _ _ added.place entry c.args.name.now c.requires.id added.entry_is_new c.in_default-enter.ensures.ok refl c.args.self.now.consistent;
     }
 
 pub invariant_of-self-in-Err-insert_entry : goal.invariant_of-self-in-Err-insert_entry
 invariant_of-self-in-Err-insert_entry g c =
-    let same = known-again (names_of c.args.self.now.names) (names_of c.enter.new.names) (names_of c.forget.new.names) c.args.name.now c.args.self.now.next c.requires.allowed.is_new c.in_default.ensures.ok c.forget.ensures.forgotten in
+    let same = known-again (names_of c.args.self.now.names) (names_of c.enter.new.names) (names_of c.forget.new.names) c.args.name.now c.args.self.now.next c.requires.allowed.is_new c.in_default-enter.ensures.ok c.forget.ensures.forgotten in
     record {
       distinct_names = c.forget.ensures.distinct;
       known_planned = λ name id e. rw c.in-Err-insert_entry.ensures.err (c.args.self.now.known_planned name id (sym (same name) ∙ e));
@@ -47,9 +47,9 @@ invariant_of-self-in-Err-insert_entry g c =
 
 pub invariant_of-self : goal.invariant_of-self
 invariant_of-self g c =
-    let same = c.in-Err-enter.ensures.err in
+    let same = c.in-Err.ensures.err in
     record {
-      distinct_names = c.in-Err-enter.ensures.distinct c.args.self.now.distinct_names;
+      distinct_names = c.in-Err.ensures.distinct c.args.self.now.distinct_names;
       known_planned = λ name id e. c.args.self.now.known_planned name id (sym (same name) ∙ e);
       consistent = still-consistent _ _ refl same refl c.args.self.now.consistent;
     }
@@ -58,7 +58,7 @@ pub returns-in-Err-insert_entry-clause-unchanged : goal.returns-in-Err-insert_en
 returns-in-Err-insert_entry-clause-unchanged g c = record {
   plan = c.in-Err-insert_entry.ensures.err;
   states = c.in-Err-insert_entry.ensures.states;
-  known = known-again (names_of c.args.self.now.names) (names_of c.enter.new.names) (names_of c.forget.new.names) c.args.name.now c.args.self.now.next c.requires.allowed.is_new c.in_default.ensures.ok c.forget.ensures.forgotten;
+  known = known-again (names_of c.args.self.now.names) (names_of c.enter.new.names) (names_of c.forget.new.names) c.args.name.now c.args.self.now.next c.requires.allowed.is_new c.in_default-enter.ensures.ok c.forget.ensures.forgotten;
   barrier = c.insert_entry.ensures.barrier;
   next = refl;
   locals = refl;

@@ -1,5 +1,4 @@
 use Rattle.std.proofs.Common.{sym, subst₂}
-use Rattle.shred_systems.specs.declared.dispatch_error.DispatchError.{DispatchError}
 use Rattle.shred_world.specs.Worlds.{local_held}
 use Rattle.shred_stage.specs.Dispatched.{Dispatched}
 use Rattle.shred.specs.PlanRuns.{PlanRun}

@@ -1,18 +1,28 @@
-//! Tests of the public calls, by what they call, with the values that most of them share.
+//! Tests of worlds, views and bundles, with the values that most tests share.
 #![tactic(auto)]
 
 #[cfg(test)]
-mod batches;
+mod accessor_tests;
 #[cfg(test)]
-mod ended;
+mod bundles;
 #[cfg(test)]
-mod examples;
+mod chosen;
 #[cfg(test)]
-mod locals;
+mod error_tests;
 #[cfg(test)]
-mod plans;
+mod exec_tests;
 #[cfg(test)]
-mod scripts;
+mod lent_calls;
+#[cfg(test)]
+mod parted_in_two;
+#[cfg(test)]
+mod parted_tests;
+#[cfg(test)]
+mod parted_threads;
+#[cfg(test)]
+mod shown;
+#[cfg(test)]
+mod tuples;
 pub mod values;
 #[cfg(test)]
-mod worlds;
+mod world;

@@ -1,0 +1,101 @@
+//! Setups of worlds, and calls with bundles of them.
+use crate::shown::{Answer, count_in, empty, expect_answer, expect_number, world_of};
+use crate::values::{Count, Flag, Value};
+use shred_world::{DataError, Kind, Read, ReadExpect, ResourceId, World, Write};
+use std::process::Abort;
+use std::test::Fail;
+
+fn id(kind: u32) -> ResourceId {
+    ResourceId::from_type_id(Kind(kind))
+}
+
+// The count that was held, which leaves the world.
+fn remove_count(world: &mut World<Value>) -> Option<i64> {
+    match world.remove::<Count>() {
+        Some(count) => Some(count.0),
+        None => None,
+    }
+}
+
+fn set_up(world: &mut World<Value>) -> Answer {
+    match world.setup::<Read<Count>>() {
+        Ok(()) => Ok(None),
+        Err(error) => Err(DataError::from(error)),
+    }
+}
+
+#[test]
+fn a_setup_provides_what_is_not_held(rt: HostRuntime) -> Result<(), Fail> {
+    let mut world = world_of(rt.alloc(), Count(5))?;
+    expect_answer(&rt, set_up(&mut world), Ok(None));
+    expect_number(&rt, remove_count(&mut world), Some(5));
+    expect_answer(&rt, set_up(&mut world), Ok(None));
+    expect_number(&rt, count_in(&world), Some(0));
+    Ok(())
+}
+
+// Leaves these, and gives what was there.
+fn exchange_both(
+    world: &mut World<Value>,
+    number: i64,
+    is_set: bool,
+) -> Result<(i64, bool), DataError> {
+    world.exec::<(Write<Flag>, Write<Count>), _, _>(|(flag, count)| {
+        let found = (count.0, flag.0);
+        flag.0 = is_set;
+        count.0 = number;
+        found
+    })
+}
+
+fn expect_both(rt: &impl Abort, world: &mut World<Value>, number: i64, is_set: bool) {
+    assert_eq!(rt; exchange_both(world, 43, true), Ok((number, is_set)));
+}
+
+#[test]
+fn what_one_call_writes_the_next_one_reads(rt: HostRuntime) {
+    let mut world = empty(rt.alloc());
+    expect_both(&rt, &mut world, 0, false);
+    expect_both(&rt, &mut world, 43, true);
+    expect_number(&rt, count_in(&world), Some(43));
+}
+
+// What a call was refused for, where its closure was not called.
+fn refusal_without_call(answer: Result<(), DataError>, called: bool) -> Answer {
+    match answer {
+        Err(error) if !called => Err(error),
+        _ => Ok(None),
+    }
+}
+
+fn call_with_count_twice(world: &mut World<Value>) -> Answer {
+    let mut called = false;
+    let answer = world.exec::<(Write<Count>, Write<Count>), _, _>(|_| {
+        called = true;
+    });
+    refusal_without_call(answer, called)
+}
+
+#[test]
+fn a_call_with_one_id_twice_is_refused(rt: HostRuntime) {
+    let mut world = empty(rt.alloc());
+    let taken = Err(DataError::Taken(id(0)));
+    expect_answer(&rt, call_with_count_twice(&mut world), taken);
+    expect_number(&rt, count_in(&world), Some(0));
+}
+
+fn call_with_count(world: &mut World<Value>) -> Answer {
+    let mut called = false;
+    let answer = world.exec::<ReadExpect<Count>, _, _>(|_| {
+        called = true;
+    });
+    refusal_without_call(answer, called)
+}
+
+#[test]
+fn a_call_without_what_it_expects_is_refused(rt: HostRuntime) {
+    let mut world = empty(rt.alloc());
+    let missing = Err(DataError::Missing(id(0)));
+    expect_answer(&rt, call_with_count(&mut world), missing);
+    expect_number(&rt, count_in(&world), None);
+}

@@ -1,0 +1,282 @@
+//! Systems of an inner plan that wait for each other.
+ghost use Rattle.std.specs.Prelude.{[]};
+ghost use Rattle.shred_group.specs.declared.system.RunningTime.TheVariants.{Average, VeryLong};
+
+use crate::ended::{DONE, Ended, ended, run_ended};
+use shred::{
+    AddError, BatchBuilder, BatchController, BatchDispatcher, DispatcherBuilder, Fault, Now,
+    OutOfMemory, RunningTime, System, View, World,
+};
+use shredtest::values::Value;
+use std::alloc::Global;
+use std::process::Abort;
+use std::sync::atomic::{AtomicBool, Ordering};
+use std::test::Fail;
+use std::thread;
+use std::thread::Threads;
+
+/// Raises its flag, looks so often at most whether the other one is raised, and refuses if it never sees that. After each look
+/// it lets others run.
+#[derive(Drop)]
+struct Meets<'f> {
+    own: &'f AtomicBool,
+    other: &'f AtomicBool,
+    turns: u32,
+}
+
+impl<'f> System<Value> for Meets<'f> {
+    type Error = u8;
+
+    type Accessor = ();
+
+    ghost reads = { λ system. [] };
+
+    ghost writes = { λ system. [] };
+
+    ghost time = { λ system. Average };
+
+    ghost step = { λ _ _ _ _ _. Unit {0} };
+
+    ghost sets_up = { λ _ _ _ _ _. Unit {0} };
+
+    ghost disposes = { λ _ _ _ _. Unit {0} };
+
+    fn run(&mut self, _view: &mut View<Value>) -> Result<(), Fault<u8>> {
+        self.own.store(true, Ordering::SeqCst);
+        for _ in 0..self.turns {
+            if self.other.load(Ordering::SeqCst) {
+                return Ok(());
+            }
+            thread::yield_now();
+        }
+        Err(Fault::Refused(1))
+    }
+
+    fn running_time(&self) -> RunningTime {
+        RunningTime::Average
+    }
+
+    fn accessor(&self, _alloc: Global) -> Result<(), OutOfMemory> {
+        Ok(())
+    }
+
+    fn setup(&mut self, _world: &mut World<Value>) -> Result<(), Fault<u8>> {
+        Ok(())
+    }
+
+    fn dispose(self, _world: &mut World<Value>) -> Result<(), Fault<u8>> {
+        Ok(())
+    }
+}
+
+/// Runs its plan once.
+#[derive(Drop)]
+struct Once;
+
+impl BatchController<Value> for Once {
+    type Error = u8;
+
+    type Accessor = ();
+
+    ghost reads = { λ controller. [] };
+
+    ghost writes = { λ controller. [] };
+
+    ghost time = { λ controller. VeryLong };
+
+    ghost begins = { λ _ _ _ _ _. Unit {0} };
+
+    ghost asks = { λ _ _ _ _ _. Unit {0} };
+
+    ghost sets_up = { λ _ _ _ _ _. Unit {0} };
+
+    fn begin(&mut self, _view: &mut View<Value>) -> Result<usize, Fault<u8>> {
+        Ok(1)
+    }
+
+    fn again(&mut self, _view: &mut View<Value>) -> Result<bool, Fault<u8>> {
+        Ok(true)
+    }
+
+    fn running_time(&self) -> RunningTime {
+        RunningTime::VeryLong
+    }
+
+    fn accessor(&self, _alloc: Global) -> Result<(), OutOfMemory> {
+        Ok(())
+    }
+
+    fn setup(&mut self, _world: &mut World<Value>) -> Result<(), Fault<u8>> {
+        Ok(())
+    }
+}
+
+type Builder<'f> = BatchBuilder<Value, Meets<'f>, Once, Now<Meets<'f>>>;
+
+type Dispatcher<'f> = BatchDispatcher<Value, Meets<'f>, Once, Now<Meets<'f>>>;
+
+/// By which call a plan is run.
+#[derive(Clone, Copy)]
+enum Call {
+    Dispatch,
+    DispatchPar,
+    RunNow,
+}
+
+/// Systems that wait in a ring, each for the next, in the innermost of so many batches, and on how many workers.
+#[derive(Clone, Copy)]
+struct Ring {
+    systems: usize,
+    levels: usize,
+    workers: usize,
+    /// What the inner builder sets, which does not count.
+    inner_workers: usize,
+    /// Whether another system stands beside the outermost batch, in a group of its own.
+    beside: bool,
+    turns: u32,
+}
+
+fn ring_of(alloc: Global, flags: &[AtomicBool; 4], ring: Ring) -> Result<Builder<'_>, AddError> {
+    let mut builder: Builder = DispatcherBuilder::empty(alloc);
+    for place in 0..ring.systems.min(4) {
+        let meets = Meets {
+            own: &flags[place],
+            other: &flags[(place + 1) % ring.systems.min(4)],
+            turns: ring.turns,
+        };
+        builder.add(meets, "", &[])?;
+    }
+    Ok(builder.with_pool(ring.inner_workers))
+}
+
+fn inside<'f>(alloc: Global, inner: Builder<'f>) -> Result<Builder<'f>, AddError> {
+    let builder: Builder = DispatcherBuilder::empty(alloc);
+    builder.with_batch(Once, inner, "", &[])
+}
+
+// What meets itself, and the batch, and on how many workers both run.
+fn outermost<'f>(
+    alloc: Global,
+    alone: &'f AtomicBool,
+    batch: Builder<'f>,
+    ring: Ring,
+) -> Result<Builder<'f>, AddError> {
+    let mut builder: Builder = DispatcherBuilder::empty(alloc);
+    if ring.beside {
+        let meets = Meets {
+            own: alone,
+            other: alone,
+            turns: 1,
+        };
+        builder.add(meets, "", &[])?;
+    }
+    builder.add_batch(Once, batch, "", &[])?;
+    Ok(builder.with_pool(ring.workers))
+}
+
+fn called<'f>(
+    rt: &(impl Threads + Sync),
+    dispatcher: &mut Dispatcher<'f>,
+    world: &mut World<Value>,
+    call: Call,
+) -> Ended {
+    match call {
+        Call::Dispatch => ended(dispatcher.dispatch(rt, world)),
+        Call::DispatchPar => ended(dispatcher.dispatch_par(rt, world)),
+        Call::RunNow => run_ended(dispatcher.run_now(rt, world.local())),
+    }
+}
+
+/// The plan with this ring, run by this call, ends so.
+fn expect_meeting(
+    rt: &(impl Abort + AllocGlobal + Threads + Sync),
+    ring: Ring,
+    call: Call,
+    end: Ended,
+) -> Result<(), Fail> {
+    let flags = [
+        AtomicBool::new(false),
+        AtomicBool::new(false),
+        AtomicBool::new(false),
+        AtomicBool::new(false),
+    ];
+    let alone = AtomicBool::new(false);
+    let alloc = rt.alloc();
+    let mut builder = ring_of(alloc, &flags, ring)?;
+    for _ in 1..ring.levels {
+        builder = inside(alloc, builder)?;
+    }
+    let mut dispatcher = outermost(alloc, &alone, builder, ring)?.build();
+    let mut world: World<Value> = World::empty(alloc);
+    assert_eq!(rt; called(rt, &mut dispatcher, &mut world, call), end);
+    Ok(())
+}
+
+const CALLS: [Call; 3] = [Call::Dispatch, Call::DispatchPar, Call::RunNow];
+
+/// Two in the plan of one batch, whose own builder sets one worker.
+const TWO: Ring = Ring {
+    systems: 2,
+    levels: 1,
+    workers: 2,
+    inner_workers: 1,
+    beside: false,
+    turns: 100_000_000,
+};
+
+#[test]
+fn gate_batch(rt: HostRuntime) -> Result<(), Fail> {
+    for call in CALLS {
+        expect_meeting(&rt, TWO, call, DONE)?;
+        expect_meeting(
+            &rt,
+            Ring {
+                beside: true,
+                ..TWO
+            },
+            call,
+            DONE,
+        )?;
+    }
+    Ok(())
+}
+
+#[test]
+fn gate_batch_in_two_batches(rt: HostRuntime) -> Result<(), Fail> {
+    let ring = Ring {
+        systems: 4,
+        levels: 3,
+        workers: 4,
+        ..TWO
+    };
+    for call in CALLS {
+        expect_meeting(&rt, ring, call, DONE)?;
+    }
+    Ok(())
+}
+
+#[test]
+fn gate_batch_on_too_few_workers(rt: HostRuntime) -> Result<(), Fail> {
+    // No number of looks would do: the next one has not begun.
+    let one = Ring {
+        workers: 1,
+        inner_workers: 2,
+        turns: 1_000,
+        ..TWO
+    };
+    let two = Ring {
+        systems: 4,
+        workers: 2,
+        inner_workers: 4,
+        ..one
+    };
+    for ring in [
+        one,
+        Ring { levels: 3, ..one },
+        two,
+        Ring { levels: 3, ..two },
+    ] {
+        expect_meeting(&rt, ring, Call::Dispatch, ("system", 0, 1))?;
+    }
+    Ok(())
+}

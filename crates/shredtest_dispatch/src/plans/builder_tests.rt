@@ -1,0 +1,124 @@
+//! The builder of dispatchers: names, refusals and the printed plan.
+
+use crate::plans::builder_rows::{Add, FIVE, FIVE_PRINTED, ROWS, Row};
+use crate::plans::calls::{built_with_names, expect_add, print_built};
+use crate::plans::planned_system::{OnlyPlanned, PLAIN, system_of};
+use crate::plans::stopping::{Stop, StoppingWriter};
+use shred::{AddError, DispatcherBuilder, PrintError, SystemId, ToWriter};
+use shredtest::values::Value;
+use std::alloc::Global;
+use std::process::Abort;
+use std::test::Fail;
+
+type Builder = DispatcherBuilder<Value, OnlyPlanned>;
+
+/// A builder after these calls.
+fn built(rt: &impl Abort, alloc: Global, adds: &[Add]) -> Result<Builder, Fail> {
+    let mut builder = Builder::default(alloc);
+    for add in adds {
+        let system = system_of(alloc, add.case)?;
+        expect_add(
+            rt,
+            &mut builder,
+            system,
+            add.name,
+            add.dependencies,
+            add.answer,
+        );
+    }
+    Ok(builder)
+}
+
+/// A writer that takes a byte a call and may stop has these bytes of the printed plan, and the printing ends so.
+fn expect_printed(
+    rt: &impl Abort,
+    alloc: Global,
+    builder: &Builder,
+    stop: Option<(usize, Stop)>,
+    bytes: &[u8],
+    ended: Result<(), PrintError>,
+) {
+    let mut writer = StoppingWriter::new(alloc, stop);
+    let mut sink = ToWriter::new(&mut writer);
+    assert_eq!(rt; builder.print_par_seq(&mut sink), ended);
+    drop(sink);
+    assert_eq!(rt; writer.written(), bytes);
+}
+
+/// The dispatcher of the builder prints so too.
+fn expect_built(rt: &impl Abort, alloc: Global, builder: Builder, row: &Row) {
+    let (dispatcher, names) = built_with_names(builder);
+    let mut writer = StoppingWriter::new(alloc, None);
+    let mut sink = ToWriter::new(&mut writer);
+    assert_eq!(rt; print_built(&dispatcher, &mut sink, &names), row.ended);
+    drop(sink);
+    assert_eq!(rt; writer.written(), row.printed.as_bytes());
+    assert_eq!(rt; dispatcher.max_threads(), row.threads);
+}
+
+#[test]
+fn calls_are_answered_and_their_plan_is_printed(rt: HostRuntime) -> Result<(), Fail> {
+    let alloc = rt.alloc();
+    for row in ROWS {
+        let builder = built(&rt, alloc, row.adds)?;
+        expect_printed(
+            &rt,
+            alloc,
+            &builder,
+            None,
+            row.printed.as_bytes(),
+            row.ended,
+        );
+        expect_built(&rt, alloc, builder, row);
+    }
+    Ok(())
+}
+
+#[test]
+fn a_dispatcher_has_the_names_of_its_builder(rt: HostRuntime) -> Result<(), Fail> {
+    let (_, names) = built_with_names(built(&rt, rt.alloc(), FIVE)?);
+    assert_eq!(rt; names.id_of("c"), Some(SystemId(2)));
+    assert_eq!(rt; names.name_of(SystemId(0)), Some("a"));
+    Ok(())
+}
+
+#[test]
+fn nothing_is_put_after_a_failure(rt: HostRuntime) -> Result<(), Fail> {
+    let builder = built(&rt, rt.alloc(), FIVE)?;
+    let text = FIVE_PRINTED.as_bytes();
+    for place in 0..text.len() {
+        let (beginning, _) = text.split_at(place);
+        for stop in [Stop::TakesNothing, Stop::Fails, Stop::IsInterrupted] {
+            let stop = Some((place, stop));
+            let failed = Err(PrintError::Write);
+            expect_printed(&rt, rt.alloc(), &builder, stop, beginning, failed);
+        }
+    }
+    Ok(())
+}
+
+/// `with`, with a system that touches nothing.
+fn with_plain(
+    alloc: Global,
+    builder: Builder,
+    name: &str,
+    dependencies: &[&str],
+) -> Result<Builder, AddError> {
+    match system_of(alloc, PLAIN) {
+        Ok(system) => builder.with(system, name, dependencies),
+        Err(_) => Err(AddError::OutOfMemory),
+    }
+}
+
+#[test]
+fn a_builder_is_handed_on(rt: HostRuntime) -> Result<(), Fail> {
+    let alloc = rt.alloc();
+    let builder = with_plain(alloc, Builder::new(alloc), "a", &[])?;
+    let builder = with_plain(alloc, builder.with_barrier(), "b", &["a"])?;
+    let text =
+        "seq![\n\tpar![\n\t\tseq![\n\t\t\ta,\n\t\t],\n\t],\n\tpar![\n\t\tseq![\n\t\t\tb,\n\t\t],\n\t],\n]\n\n";
+    expect_printed(&rt, alloc, &builder, None, text.as_bytes(), Ok(()));
+    let refused = with_plain(alloc, builder, "a", &[]);
+    assert!(rt; matches!(&refused, Err(AddError::NameTaken)));
+    Ok(())
+}

@@ -9,8 +9,8 @@ ghost use Rattle.shred_world.specs.Worlds.{world_held};
 use crate::rounds::within;
 use crate::settled::DisposeOf;
 use crate::work::{Batch, Nested, Tier, Work};
+use shred_fork::first::first;
 use shred_group::dispatch::entry::{Group, SystemEntry};
-use shred_group::dispatch::run::first;
 use shred_group::{Fault, StageFault};
 use shred_world::{ResourceValue, World};
 

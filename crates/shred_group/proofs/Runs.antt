@@ -12,4 +12,3 @@ pub mod TakenTurns
 pub mod Viewed
 pub mod Zips
 pub mod Alone
-pub mod Called

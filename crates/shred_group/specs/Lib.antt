@@ -6,7 +6,6 @@ pub mod Kept
 pub mod Hands
 pub mod OwnLists
 pub mod OwnSlots
-pub mod Calls
 pub mod Lanes
 pub mod Sides
 pub mod Steps

@@ -2,11 +2,11 @@
 ghost use Rattle.std.specs.Prelude.{◌≡◌, ◌++◌, ◌∷◌, [], length, OnOk, OnErr};
 ghost use Rattle.shred_group.specs.Alone.{KeepsKinds};
 ghost use Rattle.shred_systems.specs.LocalRuns.{LocalDisposal, LocalRun, LocalSetup, LocalsDisposal, LocalsRun, LocalsSetup};
-ghost use Rattle.shred_model.specs.Runs.{first_fault};
 ghost use Rattle.shred_world.specs.Worlds.{local_held, world_held};
 
 use crate::dispatch_error::DispatchError;
 use crate::run_now::RunNow;
+use shred_fork::first::first;
 use shred_world::{LocalWorld, OutOfMemory, ResourceValue, World};
 use std::alloc::Global;
 use std::thread::Threads;
@@ -146,19 +146,6 @@ fn set_up_each<V: ResourceValue, L: RunNow<V>>(
         }
     }
     Ok(())
-}
-
-// The first answer that is not Done.
-fn first<E: Drop>(
-    a: Result<(), DispatchError<E>>,
-    b: Result<(), DispatchError<E>>,
-) -> Result<(), DispatchError<E>>
-    ensures { result ≡ first_fault a b }
-{
-    match a {
-        Ok(()) => b,
-        Err(error) => Err(error),
-    }
 }
 
 // The disposal of the system at this place.

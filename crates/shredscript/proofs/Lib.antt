@@ -1,7 +1,5 @@
-pub mod Changed
-pub mod Declares
 pub mod Lines
+pub mod NotRun
 pub mod Runs
-pub mod InOrder
 pub mod Rounds
 pub mod SetUp

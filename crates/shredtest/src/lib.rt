@@ -20,6 +20,8 @@ mod parted_tests;
 #[cfg(test)]
 mod parted_threads;
 #[cfg(test)]
+mod refusals;
+#[cfg(test)]
 mod shown;
 #[cfg(test)]
 mod tuples;

@@ -5,7 +5,6 @@ ghost use Rattle.shred_systems.specs.LocalRuns.{LocalsRun};
 ghost use Rattle.shred_systems.specs.ThreadLocals.{systems_of};
 ghost use Rattle.shred_model.specs.Plan.{plan_ids};
 ghost use Rattle.shred_model.specs.Record.{Agent};
-ghost use Rattle.shred_model.specs.Runs.{first_fault};
 ghost use Rattle.shred_stage.specs.Dispatched.{Dispatched, stages_with};
 ghost use Rattle.shred.specs.Dispatchers.{dispatcher_locals, dispatcher_over, dispatcher_plan, dispatcher_states, dispatcher_with, dispatcher_workers};
 ghost use Rattle.shred.specs.FullRuns.{FullyDispatched, IsRefusedBy, RunsNow, RunsTold, whole_over, whole_with};
@@ -21,6 +20,7 @@ ghost use Rattle.shred_world.specs.Worlds.{local_held, world_held};
 
 use crate::dispatch::names::SystemNames;
 use crate::dispatch::nests::Nests;
+use shred_fork::first::first;
 use shred_stage::dispatch::printing::print;
 use shred_stage::{
     Fault, NoBatch, Occupant, PlanSink, PrintError, RunsInOrder, Settles, Stage, StageFault, System,
@@ -154,19 +154,6 @@ fn set_up_stages<V: ResourceValue + Drop, X: Settles<C, V, Error = E> + Drop, C,
         }
     }
     Ok(())
-}
-
-// The first answer that is not Done.
-fn first<E: Drop>(
-    a: Result<(), DispatchError<E>>,
-    b: Result<(), DispatchError<E>>,
-) -> Result<(), DispatchError<E>>
-    ensures { result ≡ first_fault a b }
-{
-    match a {
-        Ok(()) => b,
-        Err(error) => Err(error),
-    }
 }
 
 // The disposal of the stage at this place.

@@ -11,10 +11,10 @@ ghost use Rattle.shred_group.specs.PlanOf.{groups_plan};
 ghost use Rattle.shred_group.specs.Turns.{TookTurn};
 
 use crate::dispatch::entry::Group;
-use crate::dispatch::fork::{run_each, run_lanes};
 use crate::dispatch::hands::{move_all_back, move_all_out};
 use crate::dispatch::run::{StageFault, run_entries};
 use crate::dispatch::stepper::Stepper;
+use shred_fork::fork::{run_each, run_lanes};
 use shred_world::{ResourceValue, Shelf, Table};
 use std::thread::Threads;
 

@@ -3,7 +3,6 @@
 pub mod alone;
 pub mod beside;
 pub mod entry;
-pub mod fork;
 pub mod hands;
 pub mod run;
 pub mod settles;

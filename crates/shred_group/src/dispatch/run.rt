@@ -2,7 +2,7 @@
 //! back to the steps of its inner plan.
 ghost use Rattle.std.specs.Prelude.{◌≡◌, false, map, All};
 ghost use Rattle.std.specs.Option.{option_map};
-ghost use Rattle.shred_model.specs.Runs.{Ran, first_fault};
+ghost use Rattle.shred_model.specs.Runs.{Ran};
 ghost use Rattle.shred_model.specs.States.{configuration_of, listed_states};
 ghost use Rattle.shred_group.specs.Entries.{EntryRun, GroupRun, entry_states};
 ghost use Rattle.shred_group.specs.Hands.{HasEntryRoom, HasPlace};
@@ -247,17 +247,4 @@ pub(crate) fn run_entries<V: ResourceValue + Drop, X, E, T: Stepper<V, X, E>>(
         }
     }
     Ok(())
-}
-
-// The first answer that is not Done.
-pub fn first<E: Drop>(
-    a: Result<(), StageFault<E>>,
-    b: Result<(), StageFault<E>>,
-) -> Result<(), StageFault<E>>
-    ensures { result ≡ first_fault a b }
-{
-    match a {
-        Ok(()) => b,
-        Err(fault) => Err(fault),
-    }
 }

@@ -7,8 +7,9 @@ ghost use Rattle.shred_group.specs.PlanOf.{entry_plan, group_plan};
 ghost use Rattle.shred_group.specs.Setups.{AreSetUp, EntriesSetup, EntryDisposal, EntrySetup, GroupDisposal, GroupSetup, GroupsDisposal};
 
 use crate::dispatch::entry::{Group, SystemEntry};
-use crate::dispatch::run::{StageFault, first};
+use crate::dispatch::run::StageFault;
 use crate::dispatch::settles::Settles;
+use shred_fork::first::first;
 use shred_world::{ResourceValue, World};
 
 // Sets up what stands in the entry.

@@ -3,7 +3,7 @@
 use crate::batches::adds::{Adds, adds_to};
 use crate::batches::bounds::{Bounds, times};
 use crate::batches::plans::{Builder, add_batch, around, plan_of};
-use shred::{AddError, DispatcherBuilder, Now, SystemId};
+use shred::{AddError, DispatcherBuilder, SystemId};
 use std::alloc::Global;
 use std::process::Abort;
 use std::test::Fail;
@@ -11,16 +11,6 @@ use std::test::Fail;
 fn named(alloc: Global, system: Adds) -> Result<Builder, AddError> {
     let builder: Builder = DispatcherBuilder::empty(alloc);
     builder.with(system, "a", &[])
-}
-
-#[test]
-fn thread_local_systems_are_refused_before_all_else(rt: HostRuntime) -> Result<(), Fail> {
-    let mut builder = named(rt.alloc(), adds_to(0, 1))?;
-    let mut inner = named(rt.alloc(), adds_to(1, 1))?;
-    inner.add_thread_local(Now(adds_to(2, 1)))?;
-    let answer = add_batch(&mut builder, times(3, 1), inner, "a", &["x"]);
-    assert_eq!(rt; answer, Err(AddError::ThreadLocalInBatch));
-    Ok(())
 }
 
 /// The builder answers so to a batch of this name.
@@ -47,6 +37,28 @@ fn a_refused_batch_leaves_the_builder(rt: HostRuntime) -> Result<(), Fail> {
     expect_added(&rt, &mut builder, "a", &[], Err(AddError::NameTaken))?;
     expect_added(&rt, &mut builder, "b", &["a"], Ok(SystemId(1)))?;
     Ok(())
+}
+
+fn add_behind(alloc: Global, builder: &mut Builder) -> Result<SystemId, AddError> {
+    let inner = named(alloc, adds_to(1, 1))?;
+    add_batch(builder, times(3, 1), inner, "b", &["a"])
+}
+
+// Whether a batch is added, or memory is wanting. A refusal leaves the builder, and the next try has the id that this one would
+// have had.
+fn adds_or_wants_memory(alloc: Global) -> bool {
+    let Ok(mut builder) = named(alloc, adds_to(0, 1)) else {
+        return true;
+    };
+    match add_behind(alloc, &mut builder) {
+        Err(AddError::OutOfMemory) => add_behind(alloc, &mut builder) == Ok(SystemId(1)),
+        answer => answer == Ok(SystemId(1)),
+    }
+}
+
+#[test]
+fn a_batch_is_added_or_memory_is_wanting(rt: HostRuntime) {
+    assert!(rt; adds_or_wants_memory(rt.alloc()));
 }
 
 // Whether a system that touches these stands beside a batch whose controller reads 0 and writes 1, and whose system reads 2 and

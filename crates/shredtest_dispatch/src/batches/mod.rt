@@ -4,7 +4,6 @@ mod adding;
 mod adds;
 mod bounds;
 mod gate;
-mod multi;
 mod plans;
 mod rounds;
 mod settled;

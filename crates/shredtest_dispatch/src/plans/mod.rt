@@ -6,7 +6,6 @@ mod builder_tests;
 mod calls;
 mod error_tests;
 mod gate;
-mod last_id;
 mod named_stages;
 mod plan_rows;
 mod planned_system;

@@ -1,6 +1,9 @@
-use Rattle.std.proofs.Common.{subst}
+use Rattle.std.proofs.Common.{subst, ap, ◌∙◌, Err, arith}
 use Rattle.std.specs.Io.KnownBytes.{Appends}
 use Rattle.shred_stage.specs.Sinks.{AppendsBeginning}
+use Rattle.shredscript_text.specs.Input.{IsLineError, IsReadError}
+use Rattle.shredscript.specs.Runs.{IsNotRun}
+use Rattle.shredscript.proofs.NotRun.{read-whole, unread, untold}
 use Rattle.shredscript.proofs.engine.run_script.Goals as goal
 
 pub returns-in-Ok-print-clause-reported : goal.returns-in-Ok-print-clause-reported
@@ -19,3 +22,25 @@ returns-in-Ok-run_plan-clause-reported g c = (
   c.in-Ok-run_plan.ensures.run,
   subst (λ t. AppendsBeginning (g.O.Write.contents c.args.out.now) (g.O.Write.contents c.print.new.out) t) c.as_slice-in-Ok-run_plan.ensures.value c.in-Err-print.ensures.beginning,
 )
+
+pub returns-in-Err-clause-read : goal.returns-in-Err-clause-read
+returns-in-Err-clause-read g c = unread c.in-Err.error (g.R.Read.remaining c.args.reader.now) (g.R.Read.remaining c.read_text.new.reader) c.in-Err.ensures.err (λ e. c.read_text.ensures.too_long (c.in-Err.is ∙ ap Err e))
+
+pub returns-in-Err-clause-reported : goal.returns-in-Err-clause-reported
+returns-in-Err-clause-reported g c = untold c.in-Err.error (g.O.Write.contents c.args.out.now) (λ e. subst IsReadError e c.in-Err.ensures.err)
+
+pub returns-in-Err-parse-clause-read : goal.returns-in-Err-parse-clause-read
+returns-in-Err-parse-clause-read g c =
+    read-whole c.in-Err-parse.error (g.R.Read.remaining c.args.reader.now) (g.R.Read.remaining c.read_text.new.reader)
+    (c.in-Ok.text.items, (let few = c.in-Ok.ensures.length in let len = c.in-Ok.text.ok in omega (arith, few, len)), c.in-Ok.ensures.text, c.in-Ok.ensures.end) (λ e. subst IsLineError e c.in-Err-parse.ensures)
+
+pub returns-in-Err-parse-clause-reported : goal.returns-in-Err-parse-clause-reported
+returns-in-Err-parse-clause-reported g c = untold c.in-Err-parse.error (g.O.Write.contents c.args.out.now) (λ e. subst IsLineError e c.in-Err-parse.ensures)
+
+pub returns-clause-read : goal.returns-clause-read
+returns-clause-read g c =
+    read-whole c.in-Err-run_plan.error (g.R.Read.remaining c.args.reader.now) (g.R.Read.remaining c.read_text.new.reader)
+    (c.in-Ok.text.items, (let few = c.in-Ok.ensures.length in let len = c.in-Ok.text.ok in omega (arith, few, len)), c.in-Ok.ensures.text, c.in-Ok.ensures.end) (λ e. subst (IsNotRun c.in-Ok-parse.script) e c.in-Err-run_plan.ensures.not_run)
+
+pub returns-clause-reported : goal.returns-clause-reported
+returns-clause-reported g c = untold c.in-Err-run_plan.error (g.O.Write.contents c.args.out.now) (λ e. subst (IsNotRun c.in-Ok-parse.script) e c.in-Err-run_plan.ensures.not_run)

@@ -1,7 +1,7 @@
 use Rattle.std.proofs.Common.{sym, subst, arith}
 use Rattle.shred_world.specs.Views.{lent_slot}
 use Rattle.shred_group.specs.Lanes.{GroupWent, IsReady}
-use Rattle.shred_group.proofs.Runs.Called.{AllWent-called}
+use Rattle.shred_fork.proofs.Called.{AllWent-called}
 use Rattle.shred_group.proofs.dispatch.beside.run_in_order.Goals as goal
 
 pub run_each-requires : goal.run_each-requires

@@ -1,0 +1,3 @@
+pub mod Changed
+pub mod Declares
+pub mod InOrder

@@ -70,36 +70,6 @@ impl<
     E,
 > DispatcherBuilder<V, Work<S, Nested<V, S, C>>, Batched<C>, L> {
     ghost use Rattle.shred.specs.Builders.{built};
-    ghost use Rattle.shred_batch.specs.declared.work.Work.TheVariants.{System as ASystem};
-
-    /// As of a plan of systems alone.
-    pub fn add(
-        &mut self,
-        system: S,
-        name: &str,
-        dependencies: &[&str],
-    ) -> Result<SystemId, AddError>
-        ensures id { IfOk result (λ id. id.0 ≡ (built self.old).next) }
-        ensures allowed { OnOk result (MayAdd (built self.old).known (built self.old).next name.now (texts_of dependencies.now)) }
-        ensures added { OnOk result (IsAddition (built self.old) (built self.new) name.now (texts_of dependencies.now) (S.reads system) (S.writes system) (S.time system) (ASystem system)) }
-        ensures refused { IfErr result (IsRefusal (built self.old).known (built self.old).next name.now (texts_of dependencies.now)) }
-        ensures unchanged { OnErr result (IsSameBuilt (built self.old) (built self.new)) }
-    {
-        self.add_system(system, name, dependencies)
-    }
-
-    /// `add`, on a builder that is handed on. After a refusal the builder is dropped.
-    pub fn with(self, system: S, name: &str, dependencies: &[&str]) -> Result<Self, AddError>
-        ensures allowed { OnOk result (MayAdd (built self).known (built self).next name.now (texts_of dependencies.now)) }
-        ensures added { IfOk result (λ after. IsAddition (built self) (built after) name.now (texts_of dependencies.now) (S.reads system) (S.writes system) (S.time system) (ASystem system)) }
-        ensures refused { IfErr result (IsRefusal (built self).known (built self).next name.now (texts_of dependencies.now)) }
-    {
-        let mut builder = self;
-        match builder.add(system, name, dependencies) {
-            Ok(_) => Ok(builder),
-            Err(e) => Err(e),
-        }
-    }
 
     /// Places a batch of this controller and of the plan of `inner` with the next id, and enters its name unless that is
     /// empty. Its lists are those of the controller joined with those of the plan, its time the controller's. Refused as

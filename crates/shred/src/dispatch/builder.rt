@@ -194,8 +194,10 @@ impl<V: ResourceValue + Drop, X: Occupant<C, V> + Drop, C, L: Drop> DispatcherBu
         Ok(self.stages)
     }
 
-    // `add`, of a system in any plan that may hold it.
-    pub(crate) fn add_system<S: System<V> + Drop>(
+    /// Places the system in the plan with the next id, and enters its name unless that is empty. What it depends on stands
+    /// in an earlier stage, or earlier in the same group. Tested in this order: each dependency is a known name, the name is
+    /// new, an id is left, memory is there. After a refusal the builder is as before, and the system is dropped.
+    pub fn add<S: System<V> + Drop>(
         &mut self,
         system: S,
         name: &str,
@@ -213,6 +215,26 @@ impl<V: ResourceValue + Drop, X: Occupant<C, V> + Drop, C, L: Drop> DispatcherBu
         match kept_entry::<V, X, C, S>(self.alloc, SystemId(self.next), system) {
             Ok(entry) => self.accept(entry, name, dependencies),
             Err(OutOfMemory) => Err(AddError::OutOfMemory),
+        }
+    }
+
+    /// `add`, on a builder that is handed on. After a refusal the builder is dropped.
+    pub fn with<S: System<V> + Drop>(
+        self,
+        system: S,
+        name: &str,
+        dependencies: &[&str],
+    ) -> Result<Self, AddError>
+    where
+        X: Holds<C, V, S>,
+        ensures allowed { OnOk result (MayAdd (built self).known (built self).next name.now (texts_of dependencies.now)) }
+        ensures added { IfOk result (λ after. IsAddition (built self) (built after) name.now (texts_of dependencies.now) (S.reads system) (S.writes system) (S.time system) (X.holds system)) }
+        ensures refused { IfErr result (IsRefusal (built self).known (built self).next name.now (texts_of dependencies.now)) }
+    {
+        let mut builder = self;
+        match builder.add(system, name, dependencies) {
+            Ok(_) => Ok(builder),
+            Err(e) => Err(e),
         }
     }
 
@@ -262,42 +284,5 @@ impl<V: ResourceValue, S: System<V>, L: Drop> DispatcherBuilder<V, S, NoBatch, L
         ensures { IsNewBuilt (built result) }
     {
         Self::empty(alloc)
-    }
-
-    /// Places the system in the plan with the next id, and enters its name unless that is empty. What it depends on stands
-    /// in an earlier stage, or earlier in the same group. Tested in this order: each dependency is a known name, the name is
-    /// new, an id is left, memory is there. After a refusal the builder is as before, and the system is dropped.
-    pub fn add(
-        &mut self,
-        system: S,
-        name: &str,
-        dependencies: &[&str],
-    ) -> Result<SystemId, AddError>
-    where
-        V: Drop,
-        S: Drop,
-        ensures id { IfOk result (λ id. id.0 ≡ (built self.old).next) }
-        ensures allowed { OnOk result (MayAdd (built self.old).known (built self.old).next name.now (texts_of dependencies.now)) }
-        ensures added { OnOk result (IsAddition (built self.old) (built self.new) name.now (texts_of dependencies.now) (S.reads system) (S.writes system) (S.time system) system) }
-        ensures refused { IfErr result (IsRefusal (built self.old).known (built self.old).next name.now (texts_of dependencies.now)) }
-        ensures unchanged { OnErr result (IsSameBuilt (built self.old) (built self.new)) }
-    {
-        self.add_system(system, name, dependencies)
-    }
-
-    /// `add`, on a builder that is handed on. After a refusal the builder is dropped.
-    pub fn with(self, system: S, name: &str, dependencies: &[&str]) -> Result<Self, AddError>
-    where
-        V: Drop,
-        S: Drop,
-        ensures allowed { OnOk result (MayAdd (built self).known (built self).next name.now (texts_of dependencies.now)) }
-        ensures added { IfOk result (λ after. IsAddition (built self) (built after) name.now (texts_of dependencies.now) (S.reads system) (S.writes system) (S.time system) system) }
-        ensures refused { IfErr result (IsRefusal (built self).known (built self).next name.now (texts_of dependencies.now)) }
-    {
-        let mut builder = self;
-        match builder.add(system, name, dependencies) {
-            Ok(_) => Ok(builder),
-            Err(e) => Err(e),
-        }
     }
 }

@@ -1,7 +1,7 @@
 use Rattle.std.proofs.Common.{refl}
 use Rattle.std.proofs.lemmas.Result.{on_ok_weaker}
 use Rattle.shred_group.specs.PlanOf.{entry_plan}
-use Rattle.shred.proofs.dispatch.builder.DispatcherBuilder.add_system.Goals as goal
+use Rattle.shred.proofs.dispatch.builder.DispatcherBuilder.add.Goals as goal
 
 pub returns-in-Err-clause-unchanged : goal.returns-in-Err-clause-unchanged
 returns-in-Err-clause-unchanged g c = record { plan = refl; states = λ agent. refl; known = λ name. refl; barrier = refl; next = refl; locals = refl; workers = refl }

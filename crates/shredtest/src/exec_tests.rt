@@ -1,13 +1,9 @@
 //! Setups of worlds, and calls with bundles of them.
 use crate::shown::{Answer, count_in, empty, expect_answer, expect_number, world_of};
 use crate::values::{Count, Flag, Value};
-use shred_world::{DataError, Kind, Read, ReadExpect, ResourceId, World, Write};
+use shred_world::{DataError, Read, World, Write};
 use std::process::Abort;
 use std::test::Fail;
-
-fn id(kind: u32) -> ResourceId {
-    ResourceId::from_type_id(Kind(kind))
-}
 
 // The count that was held, which leaves the world.
 fn remove_count(world: &mut World<Value>) -> Option<i64> {
@@ -58,44 +54,4 @@ fn what_one_call_writes_the_next_one_reads(rt: HostRuntime) {
     expect_both(&rt, &mut world, 0, false);
     expect_both(&rt, &mut world, 43, true);
     expect_number(&rt, count_in(&world), Some(43));
-}
-
-// What a call was refused for, where its closure was not called.
-fn refusal_without_call(answer: Result<(), DataError>, called: bool) -> Answer {
-    match answer {
-        Err(error) if !called => Err(error),
-        _ => Ok(None),
-    }
-}
-
-fn call_with_count_twice(world: &mut World<Value>) -> Answer {
-    let mut called = false;
-    let answer = world.exec::<(Write<Count>, Write<Count>), _, _>(|_| {
-        called = true;
-    });
-    refusal_without_call(answer, called)
-}
-
-#[test]
-fn a_call_with_one_id_twice_is_refused(rt: HostRuntime) {
-    let mut world = empty(rt.alloc());
-    let taken = Err(DataError::Taken(id(0)));
-    expect_answer(&rt, call_with_count_twice(&mut world), taken);
-    expect_number(&rt, count_in(&world), Some(0));
-}
-
-fn call_with_count(world: &mut World<Value>) -> Answer {
-    let mut called = false;
-    let answer = world.exec::<ReadExpect<Count>, _, _>(|_| {
-        called = true;
-    });
-    refusal_without_call(answer, called)
-}
-
-#[test]
-fn a_call_without_what_it_expects_is_refused(rt: HostRuntime) {
-    let mut world = empty(rt.alloc());
-    let missing = Err(DataError::Missing(id(0)));
-    expect_answer(&rt, call_with_count(&mut world), missing);
-    expect_number(&rt, count_in(&world), None);
 }

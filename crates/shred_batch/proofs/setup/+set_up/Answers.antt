@@ -12,6 +12,7 @@ use Rattle.shred_group.specs.PlanOf.{entry_plan, group_numbers, group_plan, numb
 use Rattle.shred_group.specs.Setups.{EntrySetup, GroupSetup}
 use Rattle.shred_group.proofs.Groups.GrownGroups.{room-kept}
 use Rattle.shred_batch.specs.Depths.{Owns}
+use Rattle.shred_batch.specs.Owned.{HasOwnGroups}
 use Rattle.shred_batch.specs.Works.{tier_numbers, tiers_plan}
 use Rattle.shred_batch.specs.declared.work.Nested.{Nested}
 use Rattle.shred_batch.specs.declared.work.Nested.TheViews.{roll-Nested, out-roll-Nested}
@@ -203,3 +204,45 @@ set_up_entries-returns-in-Err-clause-owns g c = λ x.
 
 pub set_up_entries-returns-clause-set_up : goal.set_up_entries-returns-clause-set_up
 set_up_entries-returns-clause-set_up g c = λ x. Turns-end (λ place. EntrySetup (WorkSetup g.S.SetUp.setup g.C.ControlSetUp.setup x.args.depth)) x.loop-entry.invariant.turns (omega arith)
+
+pub set_up_batch-set_up_tiers-requires : goal.set_up_batch-set_up_tiers-requires
+set_up_batch-set_up_tiers-requires g c = λ x κs within.
+    (omega arith, (within.0, (within.1.0, (within.1.1.0, (within.1.1.1, subst (All (HasOwnGroups (Owns (record { reads = g.S.SetUp.its_reads; writes = g.S.SetUp.its_writes; control_reads = g.C.ControlSetUp.its_reads; control_writes = g.C.ControlSetUp.its_writes }) x.args.less))) (sym x.as_mut_slice.ensures.value) x.requires.tiers)))))
+
+pub set_up_batch-returns-in-Ok-clause-tiers : goal.set_up_batch-returns-in-Ok-clause-tiers
+set_up_batch-returns-in-Ok-clause-tiers g c = λ x.
+    let was = x.args.batch.now.tiers in
+    let put = with_items_is was x.set_up_tiers.new.tiers (x.set_up_tiers.auto.tiers ∙ x.as_mut_slice.ensures.len) in
+    let stay = x.in-Ok.ensures.stay in
+    record {
+      plan = ap tiers_plan put ∙ stay.plan ∙ ap tiers_plan x.as_mut_slice.ensures.value;
+      ids = ap (map tier_numbers) put ∙ stay.ids ∙ ap (map tier_numbers) x.as_mut_slice.ensures.value;
+      groups = subst (All (HasOwnGroups (Owns (record { reads = g.S.SetUp.its_reads; writes = g.S.SetUp.its_writes; control_reads = g.C.ControlSetUp.its_reads; control_writes = g.C.ControlSetUp.its_writes }) x.args.less))) (sym put) stay.groups;
+    }
+
+pub set_up_batch-returns-in-Err-set_up_tiers-clause-tiers : goal.set_up_batch-returns-in-Err-set_up_tiers-clause-tiers
+set_up_batch-returns-in-Err-set_up_tiers-clause-tiers g c = λ x.
+    let was = x.args.batch.now.tiers in
+    let put = with_items_is was x.set_up_tiers.new.tiers (x.set_up_tiers.auto.tiers ∙ x.as_mut_slice.ensures.len) in
+    let stay = x.in-Err-set_up_tiers.ensures.stay in
+    record {
+      plan = ap tiers_plan put ∙ stay.plan ∙ ap tiers_plan x.as_mut_slice.ensures.value;
+      ids = ap (map tier_numbers) put ∙ stay.ids ∙ ap (map tier_numbers) x.as_mut_slice.ensures.value;
+      groups = subst (All (HasOwnGroups (Owns (record { reads = g.S.SetUp.its_reads; writes = g.S.SetUp.its_writes; control_reads = g.C.ControlSetUp.its_reads; control_writes = g.C.ControlSetUp.its_writes }) x.args.less))) (sym put) stay.groups;
+    }
+
+pub set_up_entries-set_up_work-requires : goal.set_up_entries-set_up_work-requires
+set_up_entries-set_up_work-requires g c = λ x κs within.
+    let was = get_or x.loop-entry.entries x.loop-entry.entry-index x.entry-item.result in
+    let one = x.loop-entry.invariant.owns x.loop-entry.entry-index x.entry-item.result (omega arith) in
+    (omega arith, (within.0, (within.1.0, (within.1.1.0, (within.1.1.1, record { reads = was.reads.items; writes = was.writes.items; owns = one.lists })))))
+
+pub set_up_group-returns-clause-plan : goal.set_up_group-returns-clause-plan
+set_up_group-returns-clause-plan g c = λ x.
+    let put = with_items_is x.args.group.now.entries x.set_up_entries.new.entries (x.set_up_entries.auto.entries ∙ x.as_mut_slice.ensures.len) in
+    ap (map entry_plan) put ∙ x.set_up_entries.ensures.plan ∙ ap (map entry_plan) x.as_mut_slice.ensures.value
+
+pub set_up_group-returns-clause-owns : goal.set_up_group-returns-clause-owns
+set_up_group-returns-clause-owns g c = λ x.
+    let put = with_items_is x.args.group.now.entries x.set_up_entries.new.entries (x.set_up_entries.auto.entries ∙ x.as_mut_slice.ensures.len) in
+    subst (All (IsEntryOf (Owns (record { reads = g.S.SetUp.its_reads; writes = g.S.SetUp.its_writes; control_reads = g.C.ControlSetUp.its_reads; control_writes = g.C.ControlSetUp.its_writes }) x.args.depth))) (sym put) x.set_up_entries.ensures.owns

@@ -1,4 +1,8 @@
 //! From a script's bytes to its outcome's.
+ghost use Rattle.std.specs.Prelude.{◌≡◌, IfErr, IfOk};
+ghost use Rattle.std.specs.Io.KnownBytes.{Appends};
+ghost use Rattle.shred_stage.specs.Sinks.{AppendsBeginning};
+ghost use Rattle.shredscript_text.specs.declared.error.ScriptError.TheVariants.{OutputFailed};
 ghost use Rattle.shredscript.specs.Runs.{HasEnded, IsReadFor, IsReported};
 
 use crate::run_plan::run_plan;
@@ -51,10 +55,22 @@ fn run_script<T: Threads + Sync, R: Read, O: Write>(
         Err(error) => return Err(error),
     };
     match run_plan(rt, alloc, script) {
-        Ok((outcome, report)) => match print(out, report.as_slice()) {
-            Ok(()) => Ok(outcome),
-            Err(_) => Err(ScriptError::OutputFailed),
-        },
+        Ok((outcome, report)) => print_report(out, outcome, report.as_slice()),
         Err(error) => Err(error),
+    }
+}
+
+// Prints the report of a run that ended so.
+fn print_report<O: Write>(
+    out: &mut O,
+    outcome: Outcome,
+    report: &[u8],
+) -> Result<Outcome, ScriptError>
+    ensures whole { IfOk result (λ told. (told ≡ outcome) × Appends (O.contents out.old) (O.contents out.new) report.now) }
+    ensures beginning { IfErr result (λ error. (error ≡ OutputFailed) × AppendsBeginning (O.contents out.old) (O.contents out.new) report.now) }
+{
+    match print(out, report) {
+        Ok(()) => Ok(outcome),
+        Err(_) => Err(ScriptError::OutputFailed),
     }
 }

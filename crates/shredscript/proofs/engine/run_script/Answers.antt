@@ -1,27 +1,29 @@
-use Rattle.std.proofs.Common.{subst, ap, ◌∙◌, Err, arith}
+use Rattle.std.proofs.Common.{◌≡◌, subst, ap, ◌∙◌, Err, arith}
+use Rattle.std.specs.Prelude.{IfErr, IfOk}
 use Rattle.std.specs.Io.KnownBytes.{Appends}
 use Rattle.shred_stage.specs.Sinks.{AppendsBeginning}
 use Rattle.shredscript_text.specs.Input.{IsLineError, IsReadError}
 use Rattle.shredscript.specs.Runs.{IsNotRun}
+use Rattle.shredscript_text.specs.declared.error.ScriptError.TheVariants.{OutputFailed}
 use Rattle.shredscript.proofs.NotRun.{read-whole, unread, untold}
+use Rattle.shredscript.proofs.Printed.{read, reported}
 use Rattle.shredscript.proofs.engine.run_script.Goals as goal
 
-pub returns-in-Ok-print-clause-reported : goal.returns-in-Ok-print-clause-reported
-returns-in-Ok-print-clause-reported g c = (
-  c.in-Ok-parse.script,
-  c.in-Ok-run_plan.report.items,
-  c.in-Ok-run_plan.ensures.run,
-  subst (λ t. Appends (g.O.Write.contents c.args.out.now) (g.O.Write.contents c.print.new.out) t) c.as_slice-in-Ok-run_plan.ensures.value c.in-Ok-print.ensures.whole,
-)
+pub returns-in-Ok-run_plan-clause-read : goal.returns-in-Ok-run_plan-clause-read
+returns-in-Ok-run_plan-clause-read g c =
+    read (AppendsBeginning (g.O.Write.contents c.args.out.now) (g.O.Write.contents c.print_report.new.out) c.as_slice-in-Ok-run_plan.result.now)
+    (g.R.Read.remaining c.args.reader.now) (g.R.Read.remaining c.read_text.new.reader) c.print_report.result
+    (c.in-Ok.text.items, (let few = c.in-Ok.ensures.length in let len = c.in-Ok.text.ok in omega (arith, few, len)), c.in-Ok.ensures.text, c.in-Ok.ensures.end) c.print_report.ensures.beginning
 
 pub returns-in-Ok-run_plan-clause-reported : goal.returns-in-Ok-run_plan-clause-reported
-returns-in-Ok-run_plan-clause-reported g c = (
-  c.in-Ok-parse.script,
-  c.in-Ok-run_plan.outcome,
-  c.in-Ok-run_plan.report.items,
-  c.in-Ok-run_plan.ensures.run,
-  subst (λ t. AppendsBeginning (g.O.Write.contents c.args.out.now) (g.O.Write.contents c.print.new.out) t) c.as_slice-in-Ok-run_plan.ensures.value c.in-Err-print.ensures.beginning,
-)
+returns-in-Ok-run_plan-clause-reported g c =
+    let outcome = c.in-Ok-run_plan.outcome in
+    let old = g.O.Write.contents c.args.out.now in
+    let new = g.O.Write.contents c.print_report.new.out in
+    let same = c.as_slice-in-Ok-run_plan.ensures.value in
+    reported c.in-Ok-parse.script outcome c.in-Ok-run_plan.report.items old new c.print_report.result c.in-Ok-run_plan.ensures.run
+    (subst (λ t. IfOk c.print_report.result (λ told. (told ≡ outcome) × Appends old new t)) same c.print_report.ensures.whole)
+    (subst (λ t. IfErr c.print_report.result (λ error. (error ≡ OutputFailed) × AppendsBeginning old new t)) same c.print_report.ensures.beginning)
 
 pub returns-in-Err-clause-read : goal.returns-in-Err-clause-read
 returns-in-Err-clause-read g c = unread c.in-Err.error (g.R.Read.remaining c.args.reader.now) (g.R.Read.remaining c.read_text.new.reader) c.in-Err.ensures.err (λ e. c.read_text.ensures.too_long (c.in-Err.is ∙ ap Err e))

@@ -1,5 +1,4 @@
-//! Tests of plans and dispatches, by what they call: the planner and the builder, thread-local systems, batches, the
-//! examples, and runs of scripts.
+//! Tests of dispatches, by what they call: thread-local systems, batches, the examples, and runs of scripts.
 #![tactic(auto)]
 
 #[cfg(test)]
@@ -10,7 +9,5 @@ mod ended;
 mod examples;
 #[cfg(test)]
 mod locals;
-#[cfg(test)]
-mod plans;
 #[cfg(test)]
 mod scripts;

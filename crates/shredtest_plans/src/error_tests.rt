@@ -1,5 +1,5 @@
 //! The errors of plans and dispatches as std's `Error`, and their texts.
-use crate::plans::calls::text_of;
+use crate::calls::text_of;
 use shred::{
     AddError, DataError, DispatchError, Fault, PrintError, SinkFailed, StageFault, SystemId,
 };

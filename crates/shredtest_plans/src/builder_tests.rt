@@ -1,9 +1,9 @@
 //! The builder of dispatchers: names, refusals and the printed plan.
 
-use crate::plans::builder_rows::{Add, FIVE, FIVE_PRINTED, ROWS, Row};
-use crate::plans::calls::{built_with_names, expect_add, print_built};
-use crate::plans::planned_system::{OnlyPlanned, PLAIN, system_of};
-use crate::plans::stopping::{Stop, StoppingWriter};
+use crate::builder_rows::{Add, FIVE, FIVE_PRINTED, ROWS, Row};
+use crate::calls::{built_with_names, expect_add, print_built};
+use crate::planned_system::{OnlyPlanned, PLAIN, system_of};
+use crate::stopping::{Stop, StoppingWriter};
 use shred::{AddError, DispatcherBuilder, PrintError, SystemId, ToWriter};
 use shredtest::values::Value;
 use std::alloc::Global;

@@ -2,7 +2,7 @@
 ghost use Rattle.std.specs.Prelude.{[]};
 ghost use Rattle.shred_group.specs.declared.system.RunningTime.TheVariants.{Average};
 
-use crate::plans::calls::{dispatched, dispatcher_of};
+use crate::calls::{dispatched, dispatcher_of};
 use shred::{Fault, OutOfMemory, RunningTime, System, View, World};
 use shredtest::values::Value;
 use std::alloc::{AllocError, Global};

@@ -1,6 +1,6 @@
 //! Calls of a builder of dispatchers, with their answers and the printed plan, worked out by hand.
 
-use crate::plans::planned_system::{Case, PLAIN};
+use crate::planned_system::{Case, PLAIN};
 use shred::{AddError, PrintError, RunningTime, SystemId};
 
 /// A call of `add`, and its answer.

@@ -1,8 +1,8 @@
 //! The planner, on plans that were worked out by hand.
 
-use crate::plans::calls::insert;
-use crate::plans::plan_rows::{BY_ACCESS, BY_DEPENDENCY, Call, Row, UNSORTED};
-use crate::plans::planned_system::{OnlyPlanned, expect_ids, system_of};
+use crate::calls::insert;
+use crate::plan_rows::{BY_ACCESS, BY_DEPENDENCY, Call, Row, UNSORTED};
+use crate::planned_system::{OnlyPlanned, expect_ids, system_of};
 use shred::{Stage, StagesBuilder, SystemId};
 use shredtest::values::Value;
 use std::alloc::{AllocError, Global};

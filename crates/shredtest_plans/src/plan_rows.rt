@@ -1,6 +1,6 @@
 //! Calls of a builder of stages, with the plans that they make, worked out by hand from the rules of the planner.
 
-use crate::plans::planned_system::{Case, PLAIN};
+use crate::planned_system::{Case, PLAIN};
 use shred::RunningTime;
 
 /// A call of a builder. Systems are numbered from 0, and depend on those of the numbers.

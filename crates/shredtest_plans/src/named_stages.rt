@@ -1,9 +1,9 @@
 //! Stages that are written with names of the caller's.
 
-use crate::plans::plan_rows::Call;
-use crate::plans::planned_system::PLAIN;
-use crate::plans::planner_tests::quickly;
-use crate::plans::stopping::{Stop, StoppingWriter};
+use crate::plan_rows::Call;
+use crate::planned_system::PLAIN;
+use crate::planner_tests::quickly;
+use crate::stopping::{Stop, StoppingWriter};
 use shred::{PrintError, SystemId, ToWriter};
 use std::alloc::Global;
 use std::collections::HashMap;

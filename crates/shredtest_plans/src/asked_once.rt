@@ -2,7 +2,7 @@
 ghost use Rattle.std.specs.Prelude.{[]};
 ghost use Rattle.shred_group.specs.declared.system.RunningTime.TheVariants.{Average};
 
-use crate::plans::calls::expect_add;
+use crate::calls::expect_add;
 use shred::{
     Accessor, AddError, DispatcherBuilder, Fault, OutOfMemory, ResourceId, RunningTime, System,
     SystemId, View, World,

@@ -1,4 +1,4 @@
-use Rattle.std.proofs.Common.{◌≡◌, ◌-◌, suc, [], ◌∷◌, ◌++◌, length, sym, ◌∙◌, ap, subst, arith, append_assoc, append-nil, rules}
+use Rattle.std.proofs.Common.{◌≡◌, ◌-◌, Err, suc, [], ◌∷◌, ◌++◌, length, sym, ◌∙◌, ap, subst, arith, append_assoc, append-nil}
 use Rattle.std.specs.Vec.Iter.{into_iter_items}
 use Rattle.std.proofs.lemmas.List.{nil_from_length}
 use Rattle.shred_model.proofs.Joined.InTurn.{AllInTurn-more}
@@ -6,7 +6,7 @@ use Rattle.shred_model.specs.InTurn.{AllInTurn}
 use Rattle.shred_world.specs.Worlds.{world_held}
 use Rattle.shred_group.specs.Setups.{EntryDisposal, GroupDisposal}
 use Rattle.shred_batch.specs.Nesting.{EntryNests, GroupNests, TierNests}
-use Rattle.shred_batch.specs.Setups.{TierDisposal, WorkDisposal}
+use Rattle.shred_batch.specs.Setups.{TierDisposal, WorkDisposal, outcome_within}
 use Rattle.shred_group.proofs.Groups.Walked.{at-next}
 use Rattle.shred_batch.proofs.Disposals.{batch-disposal, nests-deep, nests-inside, system-disposal}
 use Rattle.shred_batch.proofs.dispose.+dispose.Goals as goal
@@ -37,7 +37,7 @@ pub dispose_of_batch-dispose_of_tiers-requires : goal.dispose_of_batch-dispose_o
 dispose_of_batch-dispose_of_tiers-requires g c = λ x κs within. (omega arith, (within.0, (within.1.0, (within.1.1.0, (within.1.1.1, x.requires)))))
 
 pub dispose_of_batch-returns : goal.dispose_of_batch-returns
-dispose_of_batch-returns g c = λ x. search rules
+dispose_of_batch-returns g c = λ x. (x.dispose_of_tiers.result, x.dispose_of_tiers.ensures, ap Err x.within.ensures ∙ ap outcome_within (sym x.in-Err.is))
 
 pub dispose_of_entry-dispose_of_work-requires : goal.dispose_of_entry-dispose_of_work-requires
 dispose_of_entry-dispose_of_work-requires g c = λ x κs within. (omega arith, (within.0, (within.1.0, (within.1.1.0, (within.1.1.1, x.requires)))))

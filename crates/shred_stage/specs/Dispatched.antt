@@ -1,8 +1,8 @@
--- What a dispatch promises: the theorem of the library.
+-- What the stages of a dispatch promise, and a stage alone, with a batch as one record.
 --
 -- Before a dispatch there are a plan, the states of the plan's systems and what a world holds; after it there are an answer and all these again. There is a list of records, each one step of one system, that is a run of the plan with that answer. Taken in its order it leads from the states and values before to those after, and so it does in every other order that keeps the order of any two records of one system and of any two whose accesses conflict: the dispatch left what one thread leaves. The plan is the same after, and so are the ids under which the world holds values and the kinds of these values.
 --
--- `Stage::execute_seq` and `execute` ensure this of a stage and its turn (`Plans`: `StageTurn`), `Dispatcher::dispatch_seq` and `dispatch_par`, in the crate `shred`, of a dispatcher and its run (`PlanRuns`: `PlanRun`).
+-- `Stage::execute_seq` and `execute` ensure this of a stage and its turn (`StageTurn`, of the crate `shred_group`), `Dispatcher::dispatch_seq` and `dispatch_par`, in the crate `shred`, of a dispatcher and its run (`PlanRuns`: `PlanRun`).
 use Rattle.std.specs.Prelude.{◌≡◌, List, Option}
 use Rattle.std.specs.Option.{option_map}
 use Rattle.shred_model.specs.Serializable.{IsSerializable}

@@ -1,4 +1,4 @@
-//! Tests of dispatches, by what they call: thread-local systems, batches, the examples, and runs of scripts.
+//! Tests of dispatches, by what they call: thread-local systems and batches.
 #![tactic(auto)]
 
 #[cfg(test)]
@@ -6,8 +6,4 @@ mod batches;
 #[cfg(test)]
 mod ended;
 #[cfg(test)]
-mod examples;
-#[cfg(test)]
 mod locals;
-#[cfg(test)]
-mod scripts;

@@ -1,4 +1,4 @@
-//! Tests of plans: the planner, the builder, what they print, and dispatches of a plan.
+//! Tests of plans: the planner, the builder, what they print, dispatches of a plan, and what is made of them: the examples, and runs of scripts.
 #![tactic(auto)]
 
 #[cfg(test)]
@@ -12,6 +12,8 @@ mod calls;
 #[cfg(test)]
 mod error_tests;
 #[cfg(test)]
+mod examples;
+#[cfg(test)]
 mod gate;
 #[cfg(test)]
 mod named_stages;
@@ -21,5 +23,7 @@ mod plan_rows;
 mod planned_system;
 #[cfg(test)]
 mod planner_tests;
+#[cfg(test)]
+mod scripts;
 #[cfg(test)]
 mod stopping;

@@ -9,6 +9,7 @@ use Rattle.shred_batch.specs.Depths.{batch_of}
 use Rattle.shred_batch.specs.KeptControllers.{control_access}
 use Rattle.shred_batch.specs.Works.{tiers_plan}
 use Rattle.shred_batch.specs.declared.work.Nested.{Nested}
+use Rattle.shred_batch.specs.declared.work.Tier.{Tier}
 use Rattle.shred_batch.specs.declared.work.Work.{Work}
 use Rattle.shred_batch.specs.declared.work.Work.TheVariants.{Batch}
 use Rattle.shred_batch.specs.Batches.{IsKeptBatch, IsOneDeeper, joined_access}
@@ -32,3 +33,8 @@ pub record IsBatchAddition {V S C L : Type 0} (old new : Built (Work S (Nested V
   pub batch : Work S (Nested V S C)
   pub is_batch : IsBatchWith controller declared inner.plan inner.states batch
   pub entry_added : IsEntryAdded entry old new name dependencies batch
+
+-- A batch of these tiers is added, whatever inner builder has their plan and their states.
+abbrev pub IsTiersAddition : {V S C L : Type 0} → Built (Work S (Nested V S C)) L → Built (Work S (Nested V S C)) L → List ℕ → List (List ℕ) → Access ResourceId → RunningTime → C → List (Tier V (Work S (Nested V S C))) → Type 0
+IsTiersAddition {V} {S} {C} {L} old new name dependencies declared time controller tiers =
+    (inner : Built (Work S (Nested V S C)) L) → tiers_plan tiers ≡ inner.plan → ((path : Agent) → tiers_states tiers path ≡ inner.states path) → IsBatchAddition old new name dependencies declared time controller inner

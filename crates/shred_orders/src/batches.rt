@@ -53,5 +53,5 @@ pub fn run_batches_now<
 ) -> Result<(), Fault<DispatchError<E>>>
     ensures { RunsAtEveryDepth V.kind_of (record { steps = S.step; begins = C.begins; asks = C.asks }) L.runs (nested_whole_with dispatcher.old (local_held V.kind_of world.old)) result (nested_whole_with dispatcher.new (local_held V.kind_of world.new)) }
 {
-    RunNow::run_now(dispatcher, rt, world)
+    dispatcher.run_now_seq(rt, world)
 }

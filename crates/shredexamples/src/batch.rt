@@ -4,8 +4,9 @@ ghost use Rattle.shredexamples.specs.Numbers.{number_id};
 
 use crate::enum_of_systems::Add;
 use shred::{
-    BatchAccessor, BatchBuilder, DataError, DispatcherBuilder, Fault, MultiDispatchController,
-    MultiDispatcher, Now, Only, OutOfMemory, Plain, View, World, only_id,
+    AddError, BatchAccessor, BatchBuilder, BatchDispatcher, DataError, DispatchError,
+    DispatcherBuilder, Fault, MultiDispatchController, MultiDispatcher, Now, Only, OutOfMemory,
+    Plain, View, World, WorldError, only_id,
 };
 use std::alloc::Global;
 
@@ -48,17 +49,46 @@ type Rounds = MultiDispatcher<AsOften>;
 
 type Builder = BatchBuilder<Only<i64>, Plain<Add>, Rounds, Now<Plain<Add>>>;
 
+type Dispatcher = BatchDispatcher<Only<i64>, Plain<Add>, Rounds, Now<Plain<Add>>>;
+
+// A world with 5 at place 0 and the number of rounds at place 1.
+fn world_of_rounds(alloc: Global, rounds: i64) -> Result<World<Only<i64>>, WorldError> {
+    let mut world = World::empty(alloc);
+    world.insert_by_id(only_id(0), 5i64)?;
+    world.insert_by_id(only_id(1), rounds)?;
+    Ok(world)
+}
+
+// A plan in which nothing stands.
+fn empty_plan(alloc: Global) -> Builder {
+    DispatcherBuilder::empty(alloc)
+}
+
+// The plan of a round, which adds 3 at place 0.
+fn plan_of_round(alloc: Global) -> Result<Builder, AddError> {
+    empty_plan(alloc).with(Plain(Add { to: 0, amount: 3 }), "add", &[])
+}
+
+// The dispatcher of a batch of that plan, which runs as often as place 1 says.
+fn dispatcher_of_rounds(alloc: Global) -> Result<Dispatcher, AddError> {
+    let round = plan_of_round(alloc)?;
+    let controller = MultiDispatcher::new(AsOften { at: 1 });
+    let plan = empty_plan(alloc).with_batch(controller, round, "rounds", &[])?;
+    Ok(plan.build())
+}
+
+// A dispatch on the caller's thread.
+fn dispatched(
+    dispatcher: &mut Dispatcher,
+    world: &mut World<Only<i64>>,
+) -> Result<(), DispatchError<DataError>> {
+    dispatcher.dispatch_seq(world)
+}
+
 /// What is left at place 0, where 3 is added to the 5 there in so many rounds; none where something was refused.
 pub fn added_in_rounds(alloc: Global, rounds: i64) -> Option<i64> {
-    let mut inner: Builder = DispatcherBuilder::empty(alloc);
-    let add = Plain(Add { to: 0, amount: 3 });
-    inner.add(add, "add", &[]).ok()?;
-    let mut builder: Builder = DispatcherBuilder::empty(alloc);
-    let controller = MultiDispatcher::new(AsOften { at: 1 });
-    builder.add_batch(controller, inner, "rounds", &[]).ok()?;
-    let mut world: World<Only<i64>> = World::empty(alloc);
-    world.insert_by_id(only_id(0), 5i64).ok()?;
-    world.insert_by_id(only_id(1), rounds).ok()?;
-    builder.build().dispatch_seq(&mut world).ok()?;
+    let mut dispatcher = dispatcher_of_rounds(alloc).ok()?;
+    let mut world = world_of_rounds(alloc, rounds).ok()?;
+    dispatched(&mut dispatcher, &mut world).ok()?;
     world.remove_by_id::<i64>(only_id(0)).ok()?
 }

@@ -1,19 +1,16 @@
 //! Batches in builders, and dispatches on threads of plans that hold them.
-ghost use Rattle.std.specs.Prelude.{◌≡◌, IfErr, IfOk, OnErr, OnOk, [], List};
-ghost use Rattle.shred_batch.specs.Batches.{IsKeptBatch, joined_access};
+ghost use Rattle.std.specs.Prelude.{◌≡◌, All, IfErr, IfOk, OnErr, OnOk, [], List};
+ghost use Rattle.shred_batch.specs.Batches.{IsTierOf};
 ghost use Rattle.shred_batch.specs.Depths.{Related};
 ghost use Rattle.shred_group.specs.Alone.{KeepsKinds};
-ghost use Rattle.shred_group.specs.OwnLists.{IsEntryOf};
-ghost use Rattle.shred_group.specs.PlanOf.{entry_plan};
 ghost use Rattle.shred_model.specs.Access.{Access};
 ghost use Rattle.shred_names.specs.Refusals.{IsBatchRefusal, IsRefusal, MayAdd};
-ghost use Rattle.shred_stage.specs.BuilderPlan.{builder_states, planned};
 ghost use Rattle.shred_stage.specs.Dispatched.{Dispatched, stages_with};
 ghost use Rattle.shred_stage.specs.Known.{texts_of};
 ghost use Rattle.shred_batch.specs.OwnDepth.{OwnStep, OwnsItself};
 ghost use Rattle.shred_world.specs.Worlds.{local_held, world_held};
 ghost use Rattle.shred.specs.AtEveryDepth.{FullyLeavesAtEveryDepth, LeavesAtEveryDepth, RunsAtEveryDepth, nested_over, nested_whole_over, nested_whole_with};
-ghost use Rattle.shred.specs.Batches.{IsBatchAddition, IsBatchWith};
+ghost use Rattle.shred.specs.Batches.{IsBatchAddition, IsTiersAddition};
 ghost use Rattle.shred.specs.Built.{IsAddition, IsSameBuilt};
 ghost use Rattle.shred.specs.Dispatchers.{dispatcher_locals, dispatcher_over, dispatcher_workers};
 ghost use Rattle.shred.specs.FullRuns.{FullyDispatched, RunsNow, whole_over, whole_with};
@@ -22,16 +19,12 @@ ghost use Rattle.shred.specs.PlanRuns.{PlanRun};
 use crate::dispatch::builder::DispatcherBuilder;
 use crate::dispatch::dispatcher::{Dispatcher, as_run, at_stage};
 use shred_batch::kept::batch_entry;
-use shred_batch::{BatchController, Nested, Work};
-use shred_group::dispatch::entry::SystemEntry;
+use shred_batch::{BatchController, Nested, Tier, Work};
 use shred_names::AddError;
-use shred_names::look_up::may_add;
-use shred_stage::dispatch::inner::tiers_of;
-use shred_stage::{Fault, Stage, StagesBuilder, System, SystemId};
+use shred_stage::{Fault, Stage, System, SystemId};
 use shred_systems::{DispatchError, RunNow};
 use shred_works::Batched;
 use shred_world::{LocalWorld, OutOfMemory, ResourceValue, World};
-use std::alloc::Global;
 use std::thread::Threads;
 
 /// A builder of plans over systems `S`, batches with controllers `C`, and thread-local systems `L`.
@@ -39,28 +32,6 @@ pub type BatchBuilder<V, S, C, L> = DispatcherBuilder<V, Work<S, Nested<V, S, C>
 
 /// The dispatcher of such a plan.
 pub type BatchDispatcher<V, S, C, L> = Dispatcher<V, Work<S, Nested<V, S, C>>, Batched<C>, L>;
-
-// The entry of a batch of this controller and of the plan of these stages.
-fn entry_of_batch<
-    V: ResourceValue + Drop,
-    S: System<V, Error = E> + Drop,
-    C: BatchController<V, Error = E> + Drop,
-    E,
->(
-    alloc: Global,
-    id: SystemId,
-    controller: C,
-    stages: StagesBuilder<V, Work<S, Nested<V, S, C>>, Batched<C>>,
-) -> Result<SystemEntry<V, Work<S, Nested<V, S, C>>>, OutOfMemory>
-    ensures kept { IfOk result (λ entry. IsKeptBatch id.0 (joined_access (record { reads = C.reads controller; writes = C.writes controller }) (planned stages)) (C.time controller) (entry_plan entry)) }
-    ensures batch { IfOk result (λ entry. IsBatchWith controller (record { reads = C.reads controller; writes = C.writes controller }) (planned stages) (builder_states stages) entry.system) }
-    ensures own_lists { IfOk result (IsEntryOf (OwnsItself (record { reads = S.reads; writes = S.writes; control_reads = C.reads; control_writes = C.writes }))) }
-{
-    match tiers_of(alloc, stages.build()) {
-        Ok(tiers) => batch_entry(alloc, id, controller, tiers),
-        Err(e) => Err(e),
-    }
-}
 
 impl<
     V: ResourceValue + Drop,
@@ -89,9 +60,28 @@ impl<
         ensures refused { IfErr result (IsBatchRefusal (built inner).locals (built self.old).known (built self.old).next name.now (texts_of dependencies.now)) }
         ensures unchanged { OnErr result (IsSameBuilt (built self.old) (built self.new)) }
     {
-        let stages = inner.into_inner()?;
-        may_add(&self.names, self.next, name, dependencies)?;
-        match entry_of_batch(self.alloc, SystemId(self.next), controller, stages) {
+        match self.inner_tiers(inner, name, dependencies) {
+            Ok(tiers) => self.place_batch(controller, tiers, name, dependencies),
+            Err(e) => Err(e),
+        }
+    }
+
+    // Places a batch of this controller and of the plan of these tiers, where it may be added under this name.
+    fn place_batch(
+        &mut self,
+        controller: C,
+        tiers: Vec<Tier<V, Work<S, Nested<V, S, C>>>>,
+        name: &str,
+        dependencies: &[&str],
+    ) -> Result<SystemId, AddError>
+        requires allowed { MayAdd (built self.old).known (built self.old).next name.now (texts_of dependencies.now) }
+        requires own_lists { All (IsTierOf (OwnsItself (record { reads = S.reads; writes = S.writes; control_reads = C.reads; control_writes = C.writes }))) tiers.items }
+        ensures id { IfOk result (λ id. id.0 ≡ (built self.old).next) }
+        ensures added { OnOk result (IsTiersAddition (built self.old) (built self.new) name.now (texts_of dependencies.now) (record { reads = C.reads controller; writes = C.writes controller }) (C.time controller) controller tiers.items) }
+        ensures refused { IfErr result (λ e. e ≡ AddError.OutOfMemory) }
+        ensures unchanged { OnErr result (IsSameBuilt (built self.old) (built self.new)) }
+    {
+        match batch_entry(self.alloc, SystemId(self.next), controller, tiers) {
             Ok(entry) => self.accept(entry, name, dependencies),
             Err(OutOfMemory) => Err(AddError::OutOfMemory),
         }

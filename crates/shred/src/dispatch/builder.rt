@@ -1,19 +1,22 @@
 //! The builder of dispatchers.
 ghost use Rattle.std.specs.HashMap.{IsUnique};
-ghost use Rattle.std.specs.Prelude.{◌≡◌, ◌++◌, ℕ, List, [], None, Some, true, IfOk, OnOk, OnErr, IfErr};
+ghost use Rattle.std.specs.Prelude.{◌≡◌, ◌++◌, ℕ, List, [], None, Some, true, All, IfOk, OnOk, OnErr, IfErr};
 ghost use Rattle.std.specs.String.{string_eq};
 ghost use Rattle.std.proofs.Props.{props};
+ghost use Rattle.shred_batch.specs.Batches.{IsTierOf};
+ghost use Rattle.shred_batch.specs.Works.{tiers_plan};
 ghost use Rattle.shred_model.specs.Plan.{plan_ids};
 ghost use Rattle.shred_model.specs.Record.{Agent};
 ghost use Rattle.shred_stage.specs.BuilderPlan.{planned, barrier_of, builder_states};
 ghost use Rattle.shred.specs.Built.{IsAddition, IsBarrierSet, IsConsistent, IsEntryAdded, IsLocalAdded, IsNewBuilt, IsPoolSet, IsSameBuilt};
 ghost use Rattle.shred_group.specs.OwnLists.{IsEntryOf};
 ghost use Rattle.shred_group.specs.PlanOf.{entry_plan};
-ghost use Rattle.shred_names.specs.Refusals.{IsRefusal, MayAdd};
+ghost use Rattle.shred_names.specs.Refusals.{IsBatchRefusal, IsRefusal, MayAdd};
 ghost use Rattle.shred.specs.Dispatchers.{dispatcher_locals, dispatcher_plan, dispatcher_states, dispatcher_workers};
 ghost use Rattle.shred.specs.SystemNames.{names_known, names_pairs};
 ghost use Rattle.shred_systems.specs.ThreadLocals.{systems_of};
 ghost use Rattle.shred_stage.specs.Earlier.{plan_has};
+ghost use Rattle.shred_stage.specs.Inner.{tiers_states};
 ghost use Rattle.shred_stage.specs.Known.{texts_of};
 ghost use Rattle.shred_stage.specs.Names.{AreNames, first_unnamed, names_of};
 ghost use Rattle.shred_stage.specs.Printed.{line_feed, plan_text};
@@ -21,9 +24,11 @@ ghost use Rattle.shred_stage.specs.Prints.{IsPrinted};
 
 use crate::dispatch::dispatcher::{Dispatcher, new_dispatcher};
 use crate::dispatch::names::SystemNames;
+use shred_batch::Tier;
 use shred_group::dispatch::entry::SystemEntry;
 use shred_names::AddError;
 use shred_names::look_up::{enter, forget, ids_of, may_add};
+use shred_stage::dispatch::inner::tiers_of;
 use shred_stage::dispatch::printing::print_with_end;
 use shred_stage::dispatch::stages_builder::kept_entry;
 use shred_stage::{
@@ -181,7 +186,7 @@ impl<V: ResourceValue + Drop, X: Occupant<C, V> + Drop, C, L: Drop> DispatcherBu
     ghost use Rattle.shred.specs.Builders.{built};
 
     // The stages of a plan without thread-local systems. Refused where there is one.
-    pub(crate) fn into_inner(self) -> Result<StagesBuilder<V, X, C>, AddError>
+    fn into_inner(self) -> Result<StagesBuilder<V, X, C>, AddError>
         ensures no_local { OnOk result ((built self).locals ≡ []) }
         ensures plan { IfOk result (λ stages. planned stages ≡ (built self).plan) }
         ensures states { IfOk result (λ stages. (path : Agent) → builder_states stages path ≡ (built self).states path) }
@@ -192,6 +197,31 @@ impl<V: ResourceValue + Drop, X: Occupant<C, V> + Drop, C, L: Drop> DispatcherBu
             return Err(AddError::ThreadLocalInBatch);
         }
         Ok(self.stages)
+    }
+
+    // The tiers of the inner plan of a batch, where one may be added under this name. Refused first where the inner builder has
+    // a thread-local system, and then as `add` is.
+    pub(crate) fn inner_tiers(
+        &self,
+        inner: Self,
+        name: &str,
+        dependencies: &[&str],
+    ) -> Result<Vec<Tier<V, X>>, AddError>
+        ensures allowed { OnOk result (MayAdd (built self.now).known (built self.now).next name.now (texts_of dependencies.now)) }
+        ensures no_local { OnOk result ((built inner).locals ≡ []) }
+        ensures plan { IfOk result (λ tiers. tiers_plan tiers.items ≡ (built inner).plan) }
+        ensures states { IfOk result (λ tiers. (path : Agent) → tiers_states tiers.items path ≡ (built inner).states path) }
+        ensures own_lists { IfOk result (λ tiers. All (IsTierOf X.may_keep) tiers.items) }
+        ensures refused { IfErr result (IsBatchRefusal (built inner).locals (built self.now).known (built self.now).next name.now (texts_of dependencies.now)) }
+    {
+        let stages = inner.into_inner()?;
+        if let Err(e) = may_add(&self.names, self.next, name, dependencies) {
+            return Err(e);
+        }
+        match tiers_of(self.alloc, stages.build()) {
+            Ok(tiers) => Ok(tiers),
+            Err(OutOfMemory) => Err(AddError::OutOfMemory),
+        }
     }
 
     /// Places the system in the plan with the next id, and enters its name unless that is empty. What it depends on stands

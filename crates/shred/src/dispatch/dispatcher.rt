@@ -291,6 +291,19 @@ impl<
             Err(error) => Err(error),
         }
     }
+
+    /// The `run_now` of a dispatcher as a `RunNow`: `dispatch` on the caller's thread, over what a world holds, with each
+    /// refusal as `Refused`.
+    pub fn run_now_seq<R: Threads + Sync>(
+        &mut self,
+        rt: &R,
+        world: &mut LocalWorld<V>,
+    ) -> Result<(), Fault<DispatchError<E>>>
+        ensures run { RunsNow V.kind_of (PlanRun V.kind_of X.step) L.runs (whole_with self.old (local_held V.kind_of world.old)) result (whole_with self.new (local_held V.kind_of world.new)) }
+        ensures kinds { KeepsKinds V.kind_of (local_held V.kind_of world.old) (local_held V.kind_of world.new) }
+    {
+        as_run(self.dispatch_here(rt, world))
+    }
 }
 
 impl<
@@ -313,7 +326,7 @@ impl<
         rt: &R,
         world: &mut LocalWorld<V>,
     ) -> Result<(), Fault<DispatchError<E>>> {
-        as_run(self.dispatch_here(rt, world))
+        self.run_now_seq(rt, world)
     }
 
     fn setup(&mut self, world: &mut World<V>) -> Result<(), Fault<DispatchError<E>>> {

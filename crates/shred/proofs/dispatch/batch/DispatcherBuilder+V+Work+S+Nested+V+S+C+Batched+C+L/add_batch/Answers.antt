@@ -1,33 +1,14 @@
-use Rattle.std.proofs.Common.{refl, ◌∙◌, subst}
-use Rattle.std.proofs.lemmas.Result.{on_ok_weaker}
-use Rattle.shred_group.specs.PlanOf.{entry_plan}
-use Rattle.shred_model.specs.Access.{Access}
-use Rattle.shred_table.specs.declared.id.ResourceId.{ResourceId}
-use Rattle.shred_batch.specs.Batches.{IsKeptBatch, joined_access}
+use Rattle.std.proofs.Common.{sym, subst}
+use Rattle.std.proofs.lemmas.Result.{IfErr-weaker, on_ok_weaker}
+use Rattle.shred_names.specs.Refusals.{IsBatchRefusal}
+use Rattle.shred_stage.specs.Known.{texts_of}
+use Rattle.shred.specs.Builders.{built}
 use Rattle.shred.proofs.dispatch.batch.DispatcherBuilder+V+Work+S+Nested+V+S+C+Batched+C+L.add_batch.Goals as goal
 
 pub returns-in-Ok-clause-added : goal.returns-in-Ok-clause-added
-returns-in-Ok-clause-added g c =
-    let controller = c.args.controller in
-    let declared : Access ResourceId = record { reads = g.C.BatchController.reads controller; writes = g.C.BatchController.writes controller } in
-    let entry = c.in-Ok.entry in
-    let is = c.in-Ok.ensures.batch in
-    let plan = c.in_ok-stages.ensures.plan in
-    on_ok_weaker c.accept.result (λ entry_added. record {
-      entry = entry_plan entry;
-      kept = subst (λ plan. IsKeptBatch c.args.self.now.next (joined_access declared plan) (g.C.BatchController.time controller) (entry_plan entry)) plan c.in-Ok.ensures.kept;
-      batch = entry.system;
-      is_batch = record {
-        nested = is.nested;
-        is_batch = is.is_batch;
-        same_controller = is.same_controller;
-        same_access = is.same_access;
-        same_plan = is.same_plan ∙ plan;
-        same_states = λ path. is.same_states path ∙ c.in_ok-stages.ensures.states path;
-        depth = is.depth;
-      };
-      entry_added = entry_added;
-    }) c.accept.ensures.added
+returns-in-Ok-clause-added g c = on_ok_weaker c.place_batch.result (λ added. added (built c.args.inner) c.in-Ok.ensures.plan c.in-Ok.ensures.states) c.place_batch.ensures.added
 
-pub returns-in-Err-clause-unchanged : goal.returns-in-Err-clause-unchanged
-returns-in-Err-clause-unchanged g c = record { plan = refl; states = λ agent. refl; known = λ name. refl; barrier = refl; next = refl; locals = refl; workers = refl }
+pub returns-in-Ok-clause-refused : goal.returns-in-Ok-clause-refused
+returns-in-Ok-clause-refused g c =
+    let refusal = IsBatchRefusal (built c.args.inner).locals (built c.args.self.now).known (built c.args.self.now).next c.args.name.now (texts_of c.args.dependencies.now) in
+    IfErr-weaker c.place_batch.result _ refusal (λ e same. subst refusal (sym same) (c.in-Ok.ensures.no_local, c.in-Ok.ensures.allowed)) c.place_batch.ensures.refused

@@ -21,7 +21,8 @@ use Rattle.shred_batch.specs.declared.work.Work.{Work}
 use Rattle.shred_batch.specs.OwnDepth.{OwnStep, OwnsItself, depth_of}
 use Rattle.shred_paths.specs.Occupants.{inside_each, work_occupants}
 use Rattle.shred_paths.specs.WithNested.{LeavesNested, RunWithNested, TurnWithNested, plan_situation, stage_situation}
-use Rattle.shred_paths.proofs.Deeper.{EntryRun-weaker, GroupRun-weaker, RunsEach-weaker, RunsUpToFault-weaker, StageTurn-weaker, step-deeper}
+use Rattle.shred_paths.proofs.Deeper.{step-deeper}
+use Rattle.shred_works.proofs.Runs.Weaker.{EntryRun-weaker, GroupRun-weaker, RunsEach-weaker, RunsUpToFault-weaker, StageTurn-weaker}
 use Rattle.shred_paths.proofs.Fits.{PlanFitsThroughout, StageFitsThroughout}
 use Rattle.shred_paths.proofs.Owned.{groups-fit, owns-fits, stages-fit}
 use Rattle.shred_paths.proofs.Serializable.{plan-leaves, stage-leaves}

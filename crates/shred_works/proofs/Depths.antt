@@ -1,17 +1,33 @@
--- Steps to the depth to which batches nest, and what stays of what made them.
+-- Steps to the depth that is noted of what makes them.
 use Rattle.std.proofs.Common.{◌≡◌, ℕ, zero, suc, List, refl, sym, subst}
 use Rattle.shred_table.specs.declared.id.Kind.{Kind}
 use Rattle.shred_table.specs.declared.id.ResourceId.{ResourceId}
 use Rattle.shred_table.specs.declared.table.Table.{Table}
 use Rattle.shred_table.specs.Shown.{Lent}
 use Rattle.shred_world.specs.Worked.{Held}
-use Rattle.shred_group.specs.Steps.{Outcome}
-use Rattle.shred_batch.specs.Depths.{Declared, Related, Owns, WorkStep}
+use Rattle.shred_group.specs.Steps.{Outcome, Step}
 use Rattle.shred_group.specs.Steppers.{IsStepBy}
+use Rattle.shred_batch.specs.Depths.{Related, WorkStep}
+use Rattle.shred_batch.specs.OwnDepth.{depth_of}
 use Rattle.shred_batch.specs.declared.work.Nested.{Nested}
 use Rattle.shred_batch.specs.declared.work.Work.{Work}
 use Rattle.shred_batch.specs.declared.work.Work.TheVariants.{System, Batch}
-use Rattle.shred_batch.specs.OwnDepth.{OwnStep, OwnsItself, depth_of}
+use Rattle.shred_works.specs.OwnRules.{own_keeps, own_steps}
+
+module _ {V X E : Type 0} (kind : V → Kind) (keeps : ℕ → X → List ResourceId → List ResourceId → Type 0) (steps : ℕ → Step V X E) where
+  -- a step to the noted depth is one by the occupant's own rules
+  pub own-step : (noted : X → ℕ) (depth : ℕ) (reads writes : List ResourceId) (lent : Lent V) (old : X) (before : Table V) (outcome : Outcome E) (new : X) (after : Table V) → depth ≡ noted old → noted new ≡ noted old
+      → IsStepBy kind (keeps depth) (steps depth) reads writes lent old before outcome new after
+      → IsStepBy kind (own_keeps keeps noted) (own_steps steps noted) reads writes lent old before outcome new after
+  own-step noted depth reads writes lent old before outcome new after is stays went =
+      let step = subst (λ (n : ℕ). IsStepBy kind (keeps n) (steps n) reads writes lent old before outcome new after) is went in
+      record {
+        lies = step.lies;
+        kinds = step.kinds;
+        slots = step.slots;
+        frame = step.frame;
+        own_lists = subst (λ (n : ℕ). keeps n new reads writes) (sym stays) step.own_lists;
+      }
 
 module _ {V S C E : Type 0} (kind : V → Kind) (related : Related V S C E) where
   -- what a step leaves has the depth of what made it
@@ -23,17 +39,3 @@ module _ {V S C E : Type 0} (kind : V → Kind) (related : Related V S C E) wher
   depth-stays (suc less) (Batch s) before outcome (System t) after lies = absurd lies
   depth-stays zero (Batch s) before outcome (Batch t) after lies = absurd lies
   depth-stays (suc less) (Batch s) before outcome (Batch t) after lies = lies.same_depth
-
-  -- a step to the own depth is one of what stands in an entry
-  pub own-step : (declared : Declared S C) (depth : ℕ) (reads writes : List ResourceId) (lent : Lent V) (old : Work S (Nested V S C)) (before : Table V) (outcome : Outcome E) (new : Work S (Nested V S C)) (after : Table V) → depth ≡ depth_of old
-      → IsStepBy kind (Owns declared depth) (WorkStep kind related depth) reads writes lent old before outcome new after
-      → IsStepBy kind (OwnsItself declared) (OwnStep kind related) reads writes lent old before outcome new after
-  own-step declared depth reads writes lent old before outcome new after is went =
-      let step = subst (λ (n : ℕ). IsStepBy kind (Owns declared n) (WorkStep kind related n) reads writes lent old before outcome new after) is went in
-      record {
-        lies = step.lies;
-        kinds = step.kinds;
-        slots = step.slots;
-        frame = step.frame;
-        own_lists = subst (λ (n : ℕ). Owns declared n new reads writes) (sym (depth-stays (depth_of old) old _ outcome new _ step.lies)) step.own_lists;
-      }

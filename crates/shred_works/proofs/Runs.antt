@@ -1,2 +1,3 @@
 pub mod Restricted
 pub mod WorkSteps
+pub mod Weaker

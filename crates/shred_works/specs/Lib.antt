@@ -1,2 +1,3 @@
 pub mod OwnFacts
 pub mod Turners
+pub mod OwnRules

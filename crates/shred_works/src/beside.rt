@@ -1,65 +1,71 @@
-//! Runs of a batch, as in `in_order`, with the groups of its tiers beside each other on threads.
+//! One step, as in `run`, with the groups of the tiers of a batch beside each other on threads.
+ghost use Rattle.std.specs.Prelude.{◌≡◌, ℕ, suc};
 ghost use Rattle.std.specs.Thread.{IsSync};
-ghost use Rattle.shred_batch.specs.BatchRuns.{RanAsBatch};
-ghost use Rattle.shred_group.specs.Steppers.{HasLoanSlots};
+ghost use Rattle.shred_group.specs.Steppers.{HasLoanSlots, IsStepBy};
 ghost use Rattle.shred_batch.specs.TierTurns.{TookTierTurn};
+ghost use Rattle.shred_batch.specs.Works.{IsTierWithin};
+ghost use Rattle.shred_works.specs.OwnRules.{AreRulesOf};
 ghost use Rattle.shred_works.specs.Turners.{IsTurner};
-ghost use Rattle.shred_batch.specs.Works.{IsBatchWithin, IsTierWithin};
 ghost use Rattle.shred_world.specs.Views.{lent_slot};
 
 use crate::turners::{ByTurn, tier_beside};
-use shred_batch::by_error::ControllerOf;
-use shred_batch::rounds::run_batch;
-use shred_batch::{Batch, Tier};
+use crate::works::Works;
+use shred_batch::Tier;
 use shred_group::dispatch::stepper::{Loan, Stepper};
 use shred_group::{Fault, StageFault};
 use shred_world::{ResourceValue, Table};
 use std::thread::Threads;
 
-// A run of a batch, where the closure takes the turns of its tiers.
-fn batch_by<
+// One step, where the closure takes the turns of the tiers.
+fn step_turning<
     V: ResourceValue + Drop,
     X,
-    C: ControllerOf<V, E>,
     E: Drop,
+    K: Works<V, X, E>,
     T: Stepper<V, X, E>,
     G: Fn(&mut Tier<V, X>, &Loan<'_, V>, &mut Table<V>) -> Result<(), StageFault<E>>,
 >(
     by: &T,
     turn: &G,
+    depth: usize,
+    work: &mut X,
     loan: &Loan<V>,
-    batch: &mut Batch<V, C, X>,
     own: &mut Table<V>,
 ) -> Result<(), Fault<E>>
-    requires turner { IsTurner V X E V.kind_of (T.may_keep by.now) (T.step by.now) (G.pre turn.now) (G.post turn.now) }
+    requires turner { (less : ℕ) → depth ≡ suc less → IsTurner V X E V.kind_of (T.may_keep by.now) (T.step by.now) (G.pre turn.now) (G.post turn.now) }
+    requires rules { (less : ℕ) → depth ≡ suc less → AreRulesOf K.keeps K.steps less (T.may_keep by.now) (T.step by.now) }
+    requires own_lists { K.keeps depth work.old loan.now.reads.now loan.now.writes.now }
     requires has { HasLoanSlots loan.now own.old }
-    requires within { IsBatchWithin C.its_reads C.its_writes (T.may_keep by.now) loan.now.reads.now loan.now.writes.now batch.old }
-    ensures { RanAsBatch V.kind_of (T.may_keep by.now) (T.step by.now) C.its_reads C.its_writes C.begins C.asks loan.now.reads.now loan.now.writes.now (lent_slot loan.now.shelf.now) batch.old own.old result batch.new own.new }
+    ensures step { IsStepBy V.kind_of (K.keeps depth) (K.steps depth) loan.now.reads.now loan.now.writes.now (lent_slot loan.now.shelf.now) work.old own.old result work.new own.new }
+    ensures noted { K.noted work.new ≡ K.noted work.old }
 {
-    run_batch(&ByTurn { by, turn }, loan, batch, own)
+    K::step(&ByTurn { by, turn }, depth, work, loan, own)
 }
 
-/// The same run of a batch as `batch_in_order`, the groups of each tier beside each other on at most `workers` threads, the
-/// caller's among them.
-pub fn batch_beside<
+/// One step, where `by` makes those of what nests less deep, the groups of each tier beside each other on at most `workers`
+/// threads, the caller's among them.
+pub fn step_over<
     R: Threads + Sync,
     V: ResourceValue + Drop + Send + Sync,
     X: Send,
-    C: ControllerOf<V, E> + Send,
     E: Drop + Send,
+    K: Works<V, X, E>,
     T: Stepper<V, X, E> + Sync,
 >(
     rt: &R,
     by: &T,
+    depth: usize,
+    work: &mut X,
     loan: &Loan<V>,
-    batch: &mut Batch<V, C, X>,
     own: &mut Table<V>,
     workers: usize,
 ) -> Result<(), Fault<E>>
-    requires works { T.works by.now }
+    requires works { (less : ℕ) → depth ≡ suc less → T.works by.now }
+    requires rules { (less : ℕ) → depth ≡ suc less → AreRulesOf K.keeps K.steps less (T.may_keep by.now) (T.step by.now) }
+    requires own_lists { K.keeps depth work.old loan.now.reads.now loan.now.writes.now }
     requires has { HasLoanSlots loan.now own.old }
-    requires within { IsBatchWithin C.its_reads C.its_writes (T.may_keep by.now) loan.now.reads.now loan.now.writes.now batch.old }
-    ensures { RanAsBatch V.kind_of (T.may_keep by.now) (T.step by.now) C.its_reads C.its_writes C.begins C.asks loan.now.reads.now loan.now.writes.now (lent_slot loan.now.shelf.now) batch.old own.old result batch.new own.new }
+    ensures step { IsStepBy V.kind_of (K.keeps depth) (K.steps depth) loan.now.reads.now loan.now.writes.now (lent_slot loan.now.shelf.now) work.old own.old result work.new own.new }
+    ensures noted { K.noted work.new ≡ K.noted work.old }
 {
     let turn = |tier: &mut Tier<V, X>, loan: &Loan<V>, own: &mut Table<V>| -> Result<
         (),
@@ -68,5 +74,5 @@ pub fn batch_beside<
         requires { IsSync R.row × IsSync T.row × T.works by.now × HasLoanSlots loan.now own.old × IsTierWithin (T.may_keep by.now) loan.now.reads.now loan.now.writes.now tier.old }
         ensures { TookTierTurn V.kind_of (T.may_keep by.entry.now) (T.step by.entry.now) (lent_slot loan.now.shelf.now) tier.old.groups.items own.old result tier.new.groups.items own.new }
     { tier_beside(rt, by, loan, tier, own, workers) };
-    batch_by(by, &turn, loan, batch, own)
+    step_turning::<_, _, _, K, _, _>(by, &turn, depth, work, loan, own)
 }

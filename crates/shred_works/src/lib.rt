@@ -3,14 +3,16 @@
 #![tactic(auto)]
 
 pub mod beside;
-pub mod in_order;
 pub mod occupant;
 pub mod own_depth;
+mod own_turn;
 pub mod run;
 pub mod run_beside;
 mod tier_turn;
 pub mod turn;
 mod turners;
+pub mod works;
 
 pub use occupant::{Batched, WithBatches};
 pub use own_depth::OwnDepth;
+pub use works::OwnWorks;

@@ -1,7 +1,5 @@
 //! The turn of a stage's groups, in whose entries stand systems and batches, over a table.
 ghost use Rattle.std.specs.Prelude.{All};
-ghost use Rattle.std.specs.Thread.{IsSync};
-ghost use Rattle.shred_group.specs.Steppers.{HasLoanSlots, IsStepBy};
 ghost use Rattle.shred_model.specs.Beside.{AreApart};
 ghost use Rattle.shred_model.specs.Plan.{group_access};
 ghost use Rattle.shred_group.specs.Hands.{KeepsRoom};
@@ -9,17 +7,15 @@ ghost use Rattle.shred_group.specs.OwnLists.{IsGroupOf};
 ghost use Rattle.shred_group.specs.PlanOf.{groups_plan};
 ghost use Rattle.shred_group.specs.Turns.{TookTurn};
 ghost use Rattle.shred_table.specs.Slots.{held};
+ghost use Rattle.shred_batch.specs.Depths.{Declared, Related};
 ghost use Rattle.shred_batch.specs.OwnDepth.{OwnStep, OwnsItself};
-ghost use Rattle.shred_world.specs.Views.{lent_slot};
 
-use crate::own_depth::{OwnDepth, own_step_beside};
-use crate::run::ByRules;
+use crate::own_turn;
+use crate::works::OwnWorks;
 use shred_batch::by_error::{ControllerOf, SystemOf};
 use shred_batch::{Nested, Work};
-use shred_group::dispatch::beside;
+use shred_group::StageFault;
 use shred_group::dispatch::entry::Group;
-use shred_group::dispatch::stepper::Loan;
-use shred_group::{Fault, StageFault};
 use shred_world::{ResourceValue, Table};
 use std::thread::Threads;
 
@@ -33,7 +29,7 @@ pub fn turn_in_order<V: ResourceValue + Drop, S: SystemOf<V, E>, C: ControllerOf
     requires apart { AreApart group_access (groups_plan groups.old) }
     ensures { TookTurn V.kind_of (OwnStep V.kind_of (record { steps = S.steps; begins = C.begins; asks = C.asks })) (OwnsItself (record { reads = S.its_reads; writes = S.its_writes; control_reads = C.its_reads; control_writes = C.its_writes })) groups.old (held V.kind_of table.old) result groups.new (held V.kind_of table.new) }
 {
-    beside::turn_in_order(&OwnDepth, groups, table)
+    own_turn::turn_in_order::<_, _, _, OwnWorks>(groups, table)
 }
 
 /// The turn of the groups, beside each other on at most `workers` threads, the caller's among them, and so the groups of inner
@@ -55,21 +51,5 @@ pub fn turn_beside<
     requires apart { AreApart group_access (groups_plan groups.old) }
     ensures { TookTurn V.kind_of (OwnStep V.kind_of (record { steps = S.steps; begins = C.begins; asks = C.asks })) (OwnsItself (record { reads = S.its_reads; writes = S.its_writes; control_reads = C.its_reads; control_writes = C.its_writes })) groups.old (held V.kind_of table.old) result groups.new (held V.kind_of table.new) }
 {
-    let step = |work: &mut Work<S, Nested<V, S, C>>, loan: &Loan<V>, own: &mut Table<V>| -> Result<
-        (),
-        Fault<E>,
-    >
-        requires { IsSync R.row × OwnsItself (record { reads = S.its_reads; writes = S.its_writes; control_reads = C.its_reads; control_writes = C.its_writes }) work.old loan.now.reads.now loan.now.writes.now × HasLoanSlots loan.now own.old }
-        ensures { IsStepBy V.kind_of (OwnsItself (record { reads = S.its_reads; writes = S.its_writes; control_reads = C.its_reads; control_writes = C.its_writes })) (OwnStep V.kind_of (record { steps = S.steps; begins = C.begins; asks = C.asks })) loan.now.reads.now loan.now.writes.now (lent_slot loan.now.shelf.now) work.old own.old result work.new own.new }
-    { own_step_beside(rt, work, loan, own, workers) };
-    beside::turn_beside(
-        rt,
-        &ByRules {
-            rules: &OwnDepth,
-            run: &step,
-        },
-        groups,
-        table,
-        workers,
-    )
+    own_turn::turn_beside::<_, _, _, _, OwnWorks>(rt, groups, table, workers)
 }

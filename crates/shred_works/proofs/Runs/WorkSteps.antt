@@ -45,11 +45,6 @@ module _ {V S C : Type 0} (declared : Declared S C) (reads writes : List Resourc
   unfolding Owns
   system-lists depth work system is owns = subst (λ (w : Work S (Nested V S C)). Owns declared depth w reads writes) is owns
 
-  pub batch-within : (depth less : ℕ) → depth ≡ suc less → (work : Work S (Nested V S C)) (batch : Nested V S C) → work ≡ Batch batch → Owns declared depth work reads writes
-      → IsBatchWithin declared.control_reads declared.control_writes (Owns declared less) reads writes (batch_of batch)
-  unfolding Owns
-  batch-within depth less deeper work batch is owns = subst (λ (w : Work S (Nested V S C)). Owns declared (suc less) w reads writes) is (subst (λ (n : ℕ). Owns declared n work reads writes) deeper owns)
-
   module _ {E : Type 0} (kind : V → Kind) (related : Related V S C E) (lent : Lent V) (before : Table V) (outcome : Outcome E) (after : Table V) where
     -- a step of a system
     pub system-step : (depth : ℕ) (system left : S) → IsStepBy kind (declared_lists declared.reads declared.writes) related.steps reads writes lent system before outcome left after

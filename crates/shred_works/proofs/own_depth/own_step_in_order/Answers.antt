@@ -1,13 +1,11 @@
 use Rattle.std.proofs.Common.{ℕ, sym, subst}
 use Rattle.shred_world.specs.Views.{lent_slot}
-use Rattle.shred_batch.specs.Depths.{Owns}
 use Rattle.shred_works.proofs.Depths.{own-step}
 use Rattle.shred_works.proofs.own_depth.own_step_in_order.Goals as goal
 
 pub step_in_order-requires-clause-own_lists : goal.step_in_order-requires-clause-own_lists
-step_in_order-requires-clause-own_lists g c =
-    subst (λ (n : ℕ). Owns (record { reads = g.S.SystemOf.its_reads; writes = g.S.SystemOf.its_writes; control_reads = g.C.ControllerOf.its_reads; control_writes = g.C.ControllerOf.its_writes }) n c.args.work.now c.args.loan.now.reads.now c.args.loan.now.writes.now) (sym c.depth_of-depth.ensures) c.requires.own_lists
+step_in_order-requires-clause-own_lists g c = subst (λ (n : ℕ). g.K.Works.keeps n c.args.work.now c.args.loan.now.reads.now c.args.loan.now.writes.now) (sym c.depth-depth.ensures) c.requires.own_lists
 
 pub returns : goal.returns
 returns g c =
-    own-step g.V.ResourceValue.kind_of (record { steps = g.S.SystemOf.steps; begins = g.C.ControllerOf.begins; asks = g.C.ControllerOf.asks }) (record { reads = g.S.SystemOf.its_reads; writes = g.S.SystemOf.its_writes; control_reads = g.C.ControllerOf.its_reads; control_writes = g.C.ControllerOf.its_writes }) c.depth_of-depth.result c.args.loan.now.reads.now c.args.loan.now.writes.now (lent_slot c.args.loan.now.shelf.now) c.args.work.now c.args.own.now c.step_in_order.result c.step_in_order.new.work c.step_in_order.new.own c.depth_of-depth.ensures c.step_in_order.ensures
+    own-step g.V.ResourceValue.kind_of g.K.Works.keeps g.K.Works.steps g.K.Works.noted c.depth-depth.result c.args.loan.now.reads.now c.args.loan.now.writes.now (lent_slot c.args.loan.now.shelf.now) c.args.work.now c.args.own.now c.step_in_order.result c.step_in_order.new.work c.step_in_order.new.own c.depth-depth.ensures c.step_in_order.ensures.noted c.step_in_order.ensures.step

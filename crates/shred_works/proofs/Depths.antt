@@ -1,17 +1,11 @@
 -- Steps to the depth that is noted of what makes them.
-use Rattle.std.proofs.Common.{◌≡◌, ℕ, zero, suc, List, refl, sym, subst}
+use Rattle.std.proofs.Common.{◌≡◌, ℕ, List, sym, subst}
 use Rattle.shred_table.specs.declared.id.Kind.{Kind}
 use Rattle.shred_table.specs.declared.id.ResourceId.{ResourceId}
 use Rattle.shred_table.specs.declared.table.Table.{Table}
 use Rattle.shred_table.specs.Shown.{Lent}
-use Rattle.shred_world.specs.Worked.{Held}
 use Rattle.shred_group.specs.Steps.{Outcome, Step}
 use Rattle.shred_group.specs.Steppers.{IsStepBy}
-use Rattle.shred_batch.specs.Depths.{Related, WorkStep}
-use Rattle.shred_batch.specs.OwnDepth.{depth_of}
-use Rattle.shred_batch.specs.declared.work.Nested.{Nested}
-use Rattle.shred_batch.specs.declared.work.Work.{Work}
-use Rattle.shred_batch.specs.declared.work.Work.TheVariants.{System, Batch}
 use Rattle.shred_works.specs.OwnRules.{own_keeps, own_steps}
 
 module _ {V X E : Type 0} (kind : V → Kind) (keeps : ℕ → X → List ResourceId → List ResourceId → Type 0) (steps : ℕ → Step V X E) where
@@ -28,14 +22,3 @@ module _ {V X E : Type 0} (kind : V → Kind) (keeps : ℕ → X → List Resour
         frame = step.frame;
         own_lists = subst (λ (n : ℕ). keeps n new reads writes) (sym stays) step.own_lists;
       }
-
-module _ {V S C E : Type 0} (kind : V → Kind) (related : Related V S C E) where
-  -- what a step leaves has the depth of what made it
-  pub depth-stays : (depth : ℕ) (old : Work S (Nested V S C)) (before : Held V) (outcome : Outcome E) (new : Work S (Nested V S C)) (after : Held V) → WorkStep kind related depth old before outcome new after → depth_of new ≡ depth_of old
-  unfolding WorkStep
-  depth-stays depth (System s) before outcome (System t) after lies = refl
-  depth-stays depth (System s) before outcome (Batch t) after lies = absurd lies
-  depth-stays zero (Batch s) before outcome (System t) after lies = absurd lies
-  depth-stays (suc less) (Batch s) before outcome (System t) after lies = absurd lies
-  depth-stays zero (Batch s) before outcome (Batch t) after lies = absurd lies
-  depth-stays (suc less) (Batch s) before outcome (Batch t) after lies = lies.same_depth

@@ -1,4 +1,4 @@
-//! Two systems, one of which doubles what the other sets: their plan is printed, and run on threads.
+//! Two systems, one of which doubles what the other sets, run on threads as their plan says.
 #![tactic(auto)]
 
 ghost use Rattle.std.specs.Int.{int_wrapping_mul, w64};
@@ -7,10 +7,11 @@ ghost use Rattle.shred_table.specs.Id.{id_of};
 ghost use Rattle.shred_table.specs.Only.{only_kind};
 
 use shred::{
-    BatchAccessor, DataError, DispatcherBuilder, Fault, OneOf, Only, OutOfMemory, Plain,
-    PlainSystem, ToWriter, View, World, only_id,
+    AddError, BatchAccessor, DataError, DispatchError, Dispatcher, DispatcherBuilder, Fault, OneOf,
+    Only, OutOfMemory, Plain, PlainSystem, System, View, World, only_id,
 };
 use std::alloc::Global;
+use std::thread::Threads;
 
 #[derive(Drop)]
 struct Sets;
@@ -57,23 +58,44 @@ impl PlainSystem<Only<i64>> for Doubles {
     }
 }
 
-type Both = OneOf<Plain<Sets>, Plain<Doubles>>;
+type Both = Dispatcher<Only<i64>, OneOf<Plain<Sets>, Plain<Doubles>>>;
 
-fn planned(alloc: Global) -> anyhow::Result<DispatcherBuilder<Only<i64>, Both>> {
+fn planned<S: System<Only<i64>> + Drop>(
+    alloc: Global,
+    sets: S,
+    doubles: S,
+) -> Result<Dispatcher<Only<i64>, S>, AddError> {
     let builder = DispatcherBuilder::new(alloc)
-        .with(OneOf::First(Plain(Sets)), "sets", &[])?
-        .with(OneOf::Second(Plain(Doubles)), "doubles", &["sets"])?;
-    Ok(builder)
+        .with(sets, "sets", &[])?
+        .with(doubles, "doubles", &["sets"])?;
+    Ok(builder.build())
+}
+
+fn dispatched<R: Threads + Sync>(
+    rt: &R,
+    both: &mut Both,
+    world: &mut World<Only<i64>>,
+) -> Result<(), DispatchError<DataError>> {
+    both.dispatch_par(rt, world)
+}
+
+fn doubled<R: Threads + Sync>(
+    rt: &R,
+    alloc: Global,
+    both: &mut Both,
+) -> anyhow::Result<Option<i64>> {
+    let mut world = World::empty(alloc);
+    world.insert_by_id(only_id(0), 1)?;
+    world.insert_by_id(only_id(1), 2)?;
+    dispatched(rt, both, &mut world)?;
+    Ok(world.remove_by_id::<i64>(only_id(1))?)
 }
 
 fn main(rt: HostRuntime) -> anyhow::Result<()> {
-    let mut world = World::empty(rt.alloc());
-    world.insert_by_id(only_id(0), 1)?;
-    world.insert_by_id(only_id(1), 2)?;
-    let builder = planned(rt.alloc())?;
-    builder.print_par_seq(&mut ToWriter::new(rt.stdout()))?;
-    builder.build().dispatch_par(&rt, &mut world)?;
-    let number = world.remove_by_id::<i64>(only_id(1))?;
+    let sets = OneOf::First(Plain(Sets));
+    let doubles = OneOf::Second(Plain(Doubles));
+    let mut both = planned(rt.alloc(), sets, doubles)?;
+    let number = doubled(&rt, rt.alloc(), &mut both)?;
     println!(rt; "{number:?}")?;
     Ok(())
 }

@@ -1,3 +1,7 @@
 pub mod Single
 pub mod Counted
+pub mod Doubled
 pub mod Adds
+pub mod InOrder
+pub mod Copied
+pub mod Answered

@@ -2,7 +2,7 @@
 use Rattle.std.proofs.Common.{◌≡◌, ℕ, List, [], ◌∷◌, Option, Some, Result, Ok, Err, inr, sym, ap, subst, ◌∙◌}
 use Rattle.std.specs.List.{AllZip, Contains}
 use Rattle.std.specs.Option.{option_map}
-use Rattle.std.specs.Result.{OnOk, result_ok}
+use Rattle.std.specs.Result.{IfOk, OnOk, result_ok}
 use Rattle.shred_model.specs.Serializable.{IsSerializable}
 use Rattle.shred_model.specs.Plan.{PlanEntry, Plan}
 use Rattle.shred_model.specs.Record.{Agent}
@@ -50,3 +50,8 @@ at_ok P (Err error) other same h = absurd (cc)
 -- what is found in a map where something is
 pub found : {X Y : Type 0} (f : X → Y) (o : Option X) (x : X) (held : Option Y) → o ≡ Some x → option_map f o ≡ held → Some (f x) ≡ held
 found f o x held is there = ap (option_map f) (sym is) ∙ there
+
+-- what is said of the value of an Ok
+pub if_ok : {T E : Type 0} (P : T → Type 0) (result : Result T E) (value : T) → Some value ≡ result_ok result → IfOk result P → P value
+if_ok P (Ok other) value same h = subst P (let e : other ≡ value = cc in e) h
+if_ok P (Err error) value same h = absurd (cc)

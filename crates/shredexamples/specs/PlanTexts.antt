@@ -1,10 +1,50 @@
 -- What is printed of a plan.
-use Rattle.std.specs.Prelude.{◌≡◌, ℕ, None, List, ◌++◌}
+use Rattle.std.specs.Prelude.{◌≡◌, ℕ, Some, None, List, [], ◌∷◌, ◌++◌, codes, pos}
 use Rattle.shred_model.specs.Plan.{Plan, plan_ids}
 use Rattle.shred_table.specs.declared.id.ResourceId.{ResourceId}
-use Rattle.shred_stage.specs.Names.{NamedId, first_unnamed}
+use Rattle.shred_stage.specs.declared.dispatch.printing.PrintError.{PrintError}
+use Rattle.shred_stage.specs.declared.dispatch.printing.PrintError.TheVariants.{Unnamed, Write}
+use Rattle.shred_stage.specs.Names.{AreNames, NamedId, first_unnamed}
 use Rattle.shred_stage.specs.Printed.{line_feed, plan_text}
+use Rattle.shred_group.specs.declared.system.RunningTime.TheVariants.{Average}
+use Rattle.shred_systems.specs.declared.now.Now.{Now}
+use Rattle.shred_systems.specs.declared.plain.Plain.{Plain}
+use Rattle.shred.specs.Built.{Built, IsAddition, IsNewBuilt}
+use Rattle.shredexamples.specs.declared.enum_of_systems.Job.{Job}
+use Rattle.shredexamples.specs.declared.enum_of_systems.Job.TheVariants as job
+use Rattle.shredexamples.specs.Jobs.{job_reads, job_writes}
 
 -- each system of the plan has a name, and the text is the printed plan and a line feed
 abbrev pub IsTextOf : List NamedId → Plan ResourceId → List ℕ → Type 0
 IsTextOf names plan text = (None ≡ first_unnamed names (plan_ids plan)) × (text ≡ plan_text names plan ++ line_feed)
+
+-- the refusal tells the first system of the plan that has no name, or a failed write, which comes only where each has one
+abbrev pub IsRefusalOf : List NamedId → Plan ResourceId → PrintError → Type 0
+IsRefusalOf names plan (Unnamed id) = Some id.0 ≡ first_unnamed names (plan_ids plan)
+IsRefusalOf names plan Write = None ≡ first_unnamed names (plan_ids plan)
+
+-- what a builder of jobs has come to
+abbrev pub JobsBuilt : Type 0
+JobsBuilt = Built (Plain Job) (Now (Plain Job))
+
+-- the job is added under this name, after those of these names
+abbrev pub IsJobAdded : JobsBuilt → JobsBuilt → Job → List ℕ → List (List ℕ) → Type 0
+IsJobAdded old new added name dependencies = IsAddition old new name dependencies (job_reads added) (job_writes added) Average (record { 0 = added })
+
+-- The plan has two jobs that add, at places 1 and 2, and after both one that copies the number of the first place to the second.
+pub record HasThree (plan : JobsBuilt) : Type 0 where
+  pub empty : JobsBuilt
+  pub one : JobsBuilt
+  pub two : JobsBuilt
+  pub starts : IsNewBuilt empty
+  pub first : IsJobAdded empty one (job.Add (record { to = 1; amount = pos 3 })) (codes "first") []
+  pub second : IsJobAdded one two (job.Add (record { to = 2; amount = pos 4 })) (codes "second") []
+  pub third : IsJobAdded two plan (job.Copy (record { from = 1; to = 2 })) (codes "third") (codes "first" ∷ codes "second" ∷ [])
+
+-- The text is that of a plan of the three, under the names that its builder knows.
+pub record IsTextOfThree (text : List ℕ) : Type 0 where
+  pub plan : JobsBuilt
+  pub three : HasThree plan
+  pub names : List NamedId
+  pub known : AreNames names plan.known
+  pub is_text : IsTextOf names plan.plan text

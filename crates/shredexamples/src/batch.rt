@@ -1,6 +1,15 @@
 //! A batch: a plan that runs as often as a number says.
-ghost use Rattle.std.specs.Prelude.{◌≡◌, [], ◌∷◌};
-ghost use Rattle.shredexamples.specs.Numbers.{number_id};
+ghost use Rattle.std.specs.Prelude.{◌≡◌, [], ◌∷◌, IfOk, IfSome};
+ghost use Rattle.shred_model.specs.Record.{Agent};
+ghost use Rattle.shred_stage.specs.Dispatched.{Dispatched};
+ghost use Rattle.shred_table.specs.declared.id.ResourceId.{ResourceId};
+ghost use Rattle.shred_world.specs.Worlds.{world_held};
+ghost use Rattle.shred.specs.Builders.{built};
+ghost use Rattle.shred.specs.Built.{IsNewBuilt};
+ghost use Rattle.shred.specs.Dispatchers.{dispatcher_over, dispatcher_plan, dispatcher_states};
+ghost use Rattle.shred.specs.PlanRuns.{PlanRun};
+ghost use Rattle.shredexamples.specs.Numbers.{kind_of, number_id};
+ghost use Rattle.shredexamples.specs.Rounds.{AreLeftByRounds, IsOfRounds, IsRound, PlansAsOften, RoundsBuilt, RoundsStep, five_and_rounds};
 
 use crate::enum_of_systems::Add;
 use shred::{
@@ -25,7 +34,7 @@ impl MultiDispatchController<Only<i64>> for AsOften {
 
     ghost writes = { λ controller. [] };
 
-    ghost plans = { λ before seen answer after left. after ≡ before };
+    ghost plans = { PlansAsOften };
 
     ghost sets_up = { λ before held outcome after left. (after ≡ before) × (left ≡ held) };
 
@@ -52,7 +61,9 @@ type Builder = BatchBuilder<Only<i64>, Plain<Add>, Rounds, Now<Plain<Add>>>;
 type Dispatcher = BatchDispatcher<Only<i64>, Plain<Add>, Rounds, Now<Plain<Add>>>;
 
 // A world with 5 at place 0 and the number of rounds at place 1.
-fn world_of_rounds(alloc: Global, rounds: i64) -> Result<World<Only<i64>>, WorldError> {
+fn world_of_rounds(alloc: Global, rounds: i64) -> Result<World<Only<i64>>, WorldError>
+    ensures { IfOk result (λ world. (id : ResourceId) → world_held kind_of world id ≡ five_and_rounds rounds id) }
+{
     let mut world = World::empty(alloc);
     world.insert_by_id(only_id(0), 5i64)?;
     world.insert_by_id(only_id(1), rounds)?;
@@ -60,17 +71,23 @@ fn world_of_rounds(alloc: Global, rounds: i64) -> Result<World<Only<i64>>, World
 }
 
 // A plan in which nothing stands.
-fn empty_plan(alloc: Global) -> Builder {
+fn empty_plan(alloc: Global) -> Builder
+    ensures { IsNewBuilt (built result) }
+{
     DispatcherBuilder::empty(alloc)
 }
 
 // The plan of a round, which adds 3 at place 0.
-fn plan_of_round(alloc: Global) -> Result<Builder, AddError> {
+fn plan_of_round(alloc: Global) -> Result<Builder, AddError>
+    ensures { IfOk result (λ builder. IsRound (built builder)) }
+{
     empty_plan(alloc).with(Plain(Add { to: 0, amount: 3 }), "add", &[])
 }
 
 // The dispatcher of a batch of that plan, which runs as often as place 1 says.
-fn dispatcher_of_rounds(alloc: Global) -> Result<Dispatcher, AddError> {
+fn dispatcher_of_rounds(alloc: Global) -> Result<Dispatcher, AddError>
+    ensures { IfOk result (λ dispatcher. (plan : RoundsBuilt) × IsOfRounds plan × (dispatcher_plan dispatcher ≡ plan.plan) × ((path : Agent) → dispatcher_states dispatcher path ≡ plan.states path)) }
+{
     let round = plan_of_round(alloc)?;
     let controller = MultiDispatcher::new(AsOften { at: 1 });
     let plan = empty_plan(alloc).with_batch(controller, round, "rounds", &[])?;
@@ -81,12 +98,16 @@ fn dispatcher_of_rounds(alloc: Global) -> Result<Dispatcher, AddError> {
 fn dispatched(
     dispatcher: &mut Dispatcher,
     world: &mut World<Only<i64>>,
-) -> Result<(), DispatchError<DataError>> {
+) -> Result<(), DispatchError<DataError>>
+    ensures { Dispatched kind_of (PlanRun kind_of RoundsStep) (dispatcher_over kind_of dispatcher.old world.old) result (dispatcher_over kind_of dispatcher.new world.new) }
+{
     dispatcher.dispatch_seq(world)
 }
 
 /// What is left at place 0, where 3 is added to the 5 there in so many rounds; none where something was refused.
-pub fn added_in_rounds(alloc: Global, rounds: i64) -> Option<i64> {
+pub fn added_in_rounds(alloc: Global, rounds: i64) -> Option<i64>
+    ensures { IfSome result (AreLeftByRounds rounds) }
+{
     let mut dispatcher = dispatcher_of_rounds(alloc).ok()?;
     let mut world = world_of_rounds(alloc, rounds).ok()?;
     dispatched(&mut dispatcher, &mut world).ok()?;

@@ -1,5 +1,5 @@
 //! Systems behind a boxed interface of the caller's own, so that their types are not listed.
-ghost use Rattle.std.specs.Prelude.{◌≡◌, ℤ, List, IfOk, false, is_some};
+ghost use Rattle.std.specs.Prelude.{◌≡◌, ℤ, List, IfOk, IfSome, false, is_some, pos};
 ghost use Rattle.shred_group.specs.Steps.{Outcome};
 ghost use Rattle.shred_table.specs.Accessors.{batch_reads, batch_writes};
 ghost use Rattle.shred_table.specs.declared.id.ResourceId.{ResourceId};
@@ -79,8 +79,10 @@ impl PlainSystem<Only<i64>> for Boxed {
     }
 }
 
-/// What is left at place 2, once 3 was added to the 5 at place 1 and that was copied; none where something was refused.
-pub fn copied_by_boxes(alloc: Global) -> Option<i64> {
+/// What is left at place 2, once 3 was added to the 5 at place 1 and that was copied: 8; none where something was refused.
+pub fn copied_by_boxes(alloc: Global) -> Option<i64>
+    ensures { IfSome result (λ number. number ≡ pos 8) }
+{
     let add: Box<dyn AnyJob> = Box::new(alloc, Add { to: 1, amount: 3 }).ok()?;
     let copy: Box<dyn AnyJob> = Box::new(alloc, Copy { from: 1, to: 2 }).ok()?;
     left_at_two(alloc, Plain(Boxed(add)), Plain(Boxed(copy)))

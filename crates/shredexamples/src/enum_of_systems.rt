@@ -1,5 +1,5 @@
 //! An enum whose variants are systems, so that systems of different types share a dispatcher.
-ghost use Rattle.std.specs.Prelude.{[], ◌∷◌};
+ghost use Rattle.std.specs.Prelude.{◌≡◌, [], ◌∷◌, IfSome, pos};
 ghost use Rattle.shredexamples.specs.Jobs.{AddStep, CopyStep, JobStep, job_reads, job_writes};
 ghost use Rattle.shredexamples.specs.Numbers.{number_id};
 
@@ -106,8 +106,10 @@ impl PlainSystem<Only<i64>> for Job {
     }
 }
 
-/// What is left at place 2, once 3 was added to the 5 at place 1 and that was copied; none where something was refused.
-pub fn copied_by_jobs(alloc: Global) -> Option<i64> {
+/// What is left at place 2, once 3 was added to the 5 at place 1 and that was copied: 8; none where something was refused.
+pub fn copied_by_jobs(alloc: Global) -> Option<i64>
+    ensures { IfSome result (λ number. number ≡ pos 8) }
+{
     let add = Job::Add(Add { to: 1, amount: 3 });
     let copy = Job::Copy(Copy { from: 1, to: 2 });
     left_at_two(alloc, Plain(add), Plain(copy))

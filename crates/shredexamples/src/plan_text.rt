@@ -1,11 +1,14 @@
 //! The text of a plan, in memory.
-ghost use Rattle.std.specs.Prelude.{IfOk};
+ghost use Rattle.std.specs.Prelude.{IfErr, IfOk, IfSome};
+ghost use Rattle.std.specs.String.{string_bytes};
+ghost use Rattle.shred_stage.specs.Names.{AreNames};
 ghost use Rattle.shred.specs.Builders.{built, builder_pairs};
-ghost use Rattle.shredexamples.specs.PlanTexts.{IsTextOf};
+ghost use Rattle.shredexamples.specs.PlanTexts.{HasThree, IsRefusalOf, IsTextOf, IsTextOfThree};
 
 use crate::enum_of_systems::{Add, Copy, Job};
 use shred::{
-    DispatcherBuilder, Only, Plain, PlanSink, PrintError, ResourceValue, SinkFailed, System,
+    AddError, DispatcherBuilder, Only, Plain, PlanSink, PrintError, ResourceValue, SinkFailed,
+    System,
 };
 use std::alloc::Global;
 
@@ -37,7 +40,9 @@ pub fn text_of<V: ResourceValue, S: System<V> + Drop>(
     alloc: Global,
     builder: &DispatcherBuilder<V, S>,
 ) -> Result<Vec<u8>, PrintError>
-    ensures { IfOk result (λ text. IsTextOf (builder_pairs builder.now) (built builder.now).plan text.items) }
+    ensures text { IfOk result (λ text. IsTextOf (builder_pairs builder.now) (built builder.now).plan text.items) }
+    ensures names { AreNames (builder_pairs builder.now) (built builder.now).known }
+    ensures refused { IfErr result (IsRefusalOf (builder_pairs builder.now) (built builder.now).plan) }
 {
     let mut bytes = Bytes {
         put: Vec::new(alloc),
@@ -49,14 +54,23 @@ pub fn text_of<V: ResourceValue, S: System<V> + Drop>(
     }
 }
 
-/// The text of a plan of two systems that are run at once, and one after them.
-pub fn text_of_three(alloc: Global) -> Option<String> {
-    let mut builder: DispatcherBuilder<Only<i64>, Plain<Job>> = DispatcherBuilder::new(alloc);
+/// A plan of two systems that are run at once, and one after them.
+fn plan_of_three(alloc: Global) -> Result<DispatcherBuilder<Only<i64>, Plain<Job>>, AddError>
+    ensures { IfOk result (λ builder. HasThree (built builder)) }
+{
     let first = Plain(Job::Add(Add { to: 1, amount: 3 }));
     let second = Plain(Job::Add(Add { to: 2, amount: 4 }));
     let third = Plain(Job::Copy(Copy { from: 1, to: 2 }));
-    builder.add(first, "first", &[]).ok()?;
-    builder.add(second, "second", &[]).ok()?;
-    builder.add(third, "third", &["first", "second"]).ok()?;
+    DispatcherBuilder::new(alloc)
+        .with(first, "first", &[])?
+        .with(second, "second", &[])?
+        .with(third, "third", &["first", "second"])
+}
+
+/// The text of that plan; none where something was refused.
+pub fn text_of_three(alloc: Global) -> Option<String>
+    ensures { IfSome result (λ text. IsTextOfThree (string_bytes text)) }
+{
+    let builder = plan_of_three(alloc).ok()?;
     String::from_utf8(text_of(alloc, &builder).ok()?).ok()
 }

@@ -2,6 +2,7 @@
 ghost use Rattle.std.specs.Prelude.{◌≡◌, true};
 ghost use Rattle.shred.specs.FullRuns.{whole_over};
 ghost use Rattle.shred_orders.specs.OneEnd.{IsSameButThreads};
+ghost use Rattle.shredexamples.specs.Adders.{AreBothRun};
 ghost use Rattle.shredexamples.specs.Numbers.{kind_of};
 
 use crate::enum_of_systems::Add;
@@ -18,7 +19,8 @@ pub fn both_added<R: Threads + Sync>(
     second: &mut Dispatcher<Only<i64>, Plain<Add>>,
     others: &mut World<Only<i64>>,
 ) -> bool
-    ensures { result ≡ true → IsSameButThreads (whole_over kind_of first.old numbers.old) (whole_over kind_of second.old others.old) → IsSameButThreads (whole_over kind_of first.new numbers.new) (whole_over kind_of second.new others.new) }
+    ensures ran { AreBothRun (whole_over kind_of first.old numbers.old) (whole_over kind_of second.old others.old) result (whole_over kind_of first.new numbers.new) (whole_over kind_of second.new others.new) }
+    ensures alike { result ≡ true → IsSameButThreads (whole_over kind_of first.old numbers.old) (whole_over kind_of second.old others.old) → IsSameButThreads (whole_over kind_of first.new numbers.new) (whole_over kind_of second.new others.new) }
 {
     let (one, two) = dispatch_alike(rt, first, numbers, second, others);
     one.is_ok() && two.is_ok()

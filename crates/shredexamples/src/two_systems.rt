@@ -1,4 +1,11 @@
 //! A dispatch of two systems, of whatever type.
+ghost use Rattle.std.specs.Prelude.{◌≡◌, IfOk, IfSome};
+ghost use Rattle.shred.specs.Dispatchers.{dispatcher_plan, dispatcher_states};
+ghost use Rattle.shred_table.specs.declared.id.ResourceId.{ResourceId};
+ghost use Rattle.shred_world.specs.Worlds.{world_held};
+ghost use Rattle.shredexamples.specs.Numbers.{kind_of};
+ghost use Rattle.shredexamples.specs.TwoSystems.{AreLeftAtTwo, HasInOrder, five_and_zero};
+
 use shred::{
     DataError, Dispatcher, Only, OutOfMemory, StagesBuilder, System, SystemId, ThreadLocal, World,
     WorldError, new_dispatcher, only_id,
@@ -6,7 +13,9 @@ use shred::{
 use std::alloc::Global;
 
 // A world with 5 at place 1 and 0 at place 2.
-fn world_of_two(alloc: Global) -> Result<World<Only<i64>>, WorldError> {
+fn world_of_two(alloc: Global) -> Result<World<Only<i64>>, WorldError>
+    ensures { IfOk result (λ world. (id : ResourceId) → world_held kind_of world id ≡ five_and_zero id) }
+{
     let mut world: World<Only<i64>> = World::empty(alloc);
     world.insert_by_id(only_id(1), 5i64)?;
     world.insert_by_id(only_id(2), 0i64)?;
@@ -17,7 +26,9 @@ fn dispatcher_of<S: System<Only<i64>> + Drop>(
     alloc: Global,
     first: S,
     second: S,
-) -> Result<Dispatcher<Only<i64>, S>, OutOfMemory> {
+) -> Result<Dispatcher<Only<i64>, S>, OutOfMemory>
+    ensures { IfOk result (λ dispatcher. HasInOrder S.reads S.writes first second (dispatcher_plan dispatcher) (dispatcher_states dispatcher)) }
+{
     let mut builder = StagesBuilder::new(alloc);
     builder.insert(&[], SystemId(0), first)?;
     builder.insert(&[], SystemId(1), second)?;
@@ -30,7 +41,9 @@ pub fn left_at_two<S: System<Only<i64>, Error = DataError> + Drop>(
     alloc: Global,
     first: S,
     second: S,
-) -> Option<i64> {
+) -> Option<i64>
+    ensures { IfSome result (AreLeftAtTwo S.step S.reads S.writes first second) }
+{
     let mut world = world_of_two(alloc).ok()?;
     let mut dispatcher = dispatcher_of(alloc, first, second).ok()?;
     dispatcher.dispatch_seq(&mut world).ok()?;

@@ -1,15 +1,19 @@
 //! A world without a dispatcher.
-ghost use Rattle.std.specs.Prelude.{◌≡◌, Some, None, OnOk, IfOk, pos};
+ghost use Rattle.std.specs.Prelude.{◌≡◌, Some, None, OnOk, OnErr, IfOk, IfErr, IsSome, pos};
 ghost use Rattle.std.specs.Option.{option_map};
-ghost use Rattle.shred_world.specs.Worlds.{IsKeptOrMade};
-ghost use Rattle.shredexamples.specs.Numbers.{first_number, number_value};
+ghost use Rattle.shred_table.specs.Slots.{with_at};
+ghost use Rattle.shred_table.specs.declared.id.ResourceId.{ResourceId};
+ghost use Rattle.shred_world.specs.Worlds.{IsKeptOrMade, world_held};
+ghost use Rattle.shredexamples.specs.Numbers.{IsDoubled, IsDoublingRefused, IsKeptWhole, first_number, kind_of, number_id, number_value};
 
 use shred::{DataError, Only, World, WorldError, WriteExpect};
 use std::alloc::Global;
 
 /// A world that holds this number alone.
 pub fn world_of(alloc: Global, number: i64) -> Result<World<Only<i64>>, WorldError>
-    ensures { IfOk result (λ world. first_number world ≡ Some (number_value number)) }
+    ensures held { IfOk result (λ world. first_number world ≡ Some (number_value number)) }
+    ensures alone { IfOk result (λ world. (id : ResourceId) → world_held kind_of world id ≡ with_at (λ other. None) (number_id 0) (Some (number_value number)) id) }
+    ensures out_of_memory { IfErr result (λ error. error ≡ WorldError.OutOfMemory) }
 {
     let mut world = World::empty(alloc);
     match world.insert(number) {
@@ -30,7 +34,10 @@ pub fn number_in(world: &World<Only<i64>>) -> Option<i64>
 
 /// The number that is held, or else 5, which is then held.
 pub fn number_or_five(world: &mut World<Only<i64>>) -> Result<i64, WorldError>
-    ensures { IfOk result (IsKeptOrMade number_value (first_number world.old) (λ made. made ≡ pos 5)) }
+    ensures given { IfOk result (IsKeptOrMade number_value (first_number world.old) (λ made. made ≡ pos 5)) }
+    ensures held { IfOk result (λ number. first_number world.new ≡ Some (number_value number)) }
+    ensures out_of_memory { IfErr result (λ error. (error ≡ WorldError.OutOfMemory) × (first_number world.old ≡ None)) }
+    ensures unchanged { OnErr result (IsKeptWhole world.old world.new) }
 {
     match world.entry::<i64>().or_insert(5) {
         Ok(number) => Ok(*number),
@@ -40,7 +47,10 @@ pub fn number_or_five(world: &mut World<Only<i64>>) -> Result<i64, WorldError>
 
 /// Puts this number in the place of the one that is held.
 pub fn set(world: &mut World<Only<i64>>, number: i64) -> Result<(), WorldError>
-    ensures { OnOk result (first_number world.new ≡ Some (number_value number)) }
+    ensures put { OnOk result (first_number world.new ≡ Some (number_value number)) }
+    ensures held_one { OnOk result (IsSome (first_number world.old)) }
+    ensures missing { IfErr result (λ error. (error ≡ WorldError.Missing (number_id 0)) × (first_number world.old ≡ None)) }
+    ensures unchanged { OnErr result (IsKeptWhole world.old world.new) }
 {
     match world.fetch_mut::<i64>() {
         Ok(held) => {
@@ -52,7 +62,11 @@ pub fn set(world: &mut World<Only<i64>>, number: i64) -> Result<(), WorldError>
 }
 
 /// Doubles the number that is held, by a call with a bundle, and gives it.
-pub fn double(world: &mut World<Only<i64>>) -> Result<i64, DataError> {
+pub fn double(world: &mut World<Only<i64>>) -> Result<i64, DataError>
+    ensures doubled { IfOk result (IsDoubled (world_held kind_of world.old) (world_held kind_of world.new)) }
+    ensures refused { IfErr result (IsDoublingRefused (first_number world.old)) }
+    ensures unchanged { OnErr result (IsKeptWhole world.old world.new) }
+{
     world.exec::<WriteExpect<i64>, _, _>(|number| {
         **number = number.wrapping_mul(2);
         **number

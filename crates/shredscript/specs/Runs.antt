@@ -33,6 +33,7 @@ use Rattle.shredscript.specs.Lines.{IsBuiltBy, IsNotBuilt, ScriptBuilt, ScriptWo
 use Rattle.shredscript.specs.PlanTexts.{IsPlanPart}
 use Rattle.shredscript_text.specs.Report.{first_held, resource_names, report}
 use Rattle.shredscript_steps.specs.Steps.{steps_left, steps_outcome}
+use Rattle.shredscript_text.specs.Scripts.{IsScriptOf}
 use Rattle.shredscript_text.specs.Texts.{error_text, line_of}
 use Rattle.shredscript_text.specs.Value.{kind_of}
 
@@ -144,45 +145,53 @@ IsNotRun script InputFailed = ⊥
 IsNotRun script (Line number fault) = IsNotBuilt script.plan.items (Line number fault)
 IsNotRun script OutputFailed = ⊥
 
--- the text of an outcome's run was added
-abbrev pub IsTold : Outcome → Option (List ℕ) → Option (List ℕ) → Type 0
-IsTold outcome old new = (script : Script) × (text : List ℕ) × IsRunOf script outcome text × Appends old new text
-
--- a beginning of the text of some outcome's run was added
-abbrev pub IsBegun : Option (List ℕ) → Option (List ℕ) → Type 0
-IsBegun old new = (script : Script) × (outcome : Outcome) × (text : List ℕ) × IsRunOf script outcome text × AppendsBeginning old new text
-
--- what standard output holds after a run that ended so: of an outcome its text was added, of failed output a beginning of it, and of any other error nothing
-abbrev pub IsReported : Result Outcome ScriptError → Option (List ℕ) → Option (List ℕ) → Type 0
-IsReported (Ok outcome) old new = IsTold outcome old new
-IsReported (Err OutputFailed) old new = IsBegun old new
-IsReported (Err OutOfMemory) old new = Keeps old new
-IsReported (Err TooLong) old new = Keeps old new
-IsReported (Err InputFailed) old new = Keeps old new
-IsReported (Err (Line number fault)) old new = Keeps old new
-IsReported (Err (Refused number refusal)) old new = Keeps old new
-IsReported (Err (Unnamed id)) old new = Keeps old new
-
 -- all that was left, where that is known, was read, and it is not too long
 abbrev pub IsRead : Option (List ℕ) → Option (List ℕ) → Type 0
 IsRead old new = (text : List ℕ) × (length text ≤ MOST_BYTES) × Consumes old new text × IsAtEnd new
+
+-- the same, and what was read says this script
+abbrev pub IsReadAs : Script → Option (List ℕ) → Option (List ℕ) → Type 0
+IsReadAs script old new = (text : List ℕ) × (length text ≤ MOST_BYTES) × Consumes old new text × IsAtEnd new × IsScriptOf text script
+
+-- what was read says a script that is not run, and this is why
+abbrev pub IsReadInVain : ScriptError → Option (List ℕ) → Option (List ℕ) → Type 0
+IsReadInVain error old new = (script : Script) × IsReadAs script old new × IsNotRun script error
 
 -- what was read before a run ended so: the whole script, unless it is too long, a read failed or memory was refused
 abbrev pub IsReadFor : Result Outcome ScriptError → Option (List ℕ) → Option (List ℕ) → Type 0
 IsReadFor (Ok outcome) old new = IsRead old new
 IsReadFor (Err OutputFailed) old new = IsRead old new
 IsReadFor (Err (Line number fault)) old new = IsRead old new
-IsReadFor (Err (Refused number refusal)) old new = IsRead old new
-IsReadFor (Err (Unnamed id)) old new = IsRead old new
+IsReadFor (Err (Refused number refusal)) old new = IsReadInVain (Refused number refusal) old new
+IsReadFor (Err (Unnamed id)) old new = IsReadInVain (Unnamed id) old new
 IsReadFor (Err TooLong) old new = IsLongerThan MOST_BYTES old
 IsReadFor (Err InputFailed) old new = Unit {0}
 IsReadFor (Err OutOfMemory) old new = Unit {0}
+
+-- the text of an outcome's run was added, of the script that was read
+abbrev pub IsTold : Outcome → Option (List ℕ) → Option (List ℕ) → Option (List ℕ) → Option (List ℕ) → Type 0
+IsTold outcome read left old new = (script : Script) × (text : List ℕ) × IsReadAs script read left × IsRunOf script outcome text × Appends old new text
+
+-- a beginning of the text of some outcome's run was added, of the script that was read
+abbrev pub IsBegun : Option (List ℕ) → Option (List ℕ) → Option (List ℕ) → Option (List ℕ) → Type 0
+IsBegun read left old new = (script : Script) × (outcome : Outcome) × (text : List ℕ) × IsReadAs script read left × IsRunOf script outcome text × AppendsBeginning old new text
+
+-- what standard output holds after a run that ended so: of an outcome its text was added, of failed output a beginning of it, and of any other error nothing
+abbrev pub IsReported : Result Outcome ScriptError → Option (List ℕ) → Option (List ℕ) → Option (List ℕ) → Option (List ℕ) → Type 0
+IsReported (Ok outcome) read left old new = IsTold outcome read left old new
+IsReported (Err OutputFailed) read left old new = IsBegun read left old new
+IsReported (Err OutOfMemory) read left old new = Keeps old new
+IsReported (Err TooLong) read left old new = Keeps old new
+IsReported (Err InputFailed) read left old new = Keeps old new
+IsReported (Err (Line number fault)) read left old new = Keeps old new
+IsReported (Err (Refused number refusal)) read left old new = Keeps old new
+IsReported (Err (Unnamed id)) read left old new = Keeps old new
 
 -- A script's run ended somehow: the status says how, what it needs was read, standard output was told of it, and standard error nothing of an outcome and of an error its line, or a beginning of it.
 pub record HasEnded (status : ℕ) (script script_left out out_after err err_after : Option (List ℕ)) : Type 0 where
   pub ending : Result Outcome ScriptError
   pub status_is : status ≡ status_of ending
   pub read : IsReadFor ending script script_left
-  pub reported : IsReported ending out out_after
+  pub reported : IsReported ending script script_left out out_after
   pub quiet : OnOk ending (Keeps err err_after)
   pub told : IfErr ending (λ error. AppendsBeginning err err_after (line_of (error_text error)))

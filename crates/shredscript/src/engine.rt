@@ -44,7 +44,7 @@ fn run_script<T: Threads + Sync, R: Read, O: Write>(
     out: &mut O,
 ) -> Result<Outcome, ScriptError>
     ensures read { IsReadFor result (R.remaining reader.old) (R.remaining reader.new) }
-    ensures reported { IsReported result (O.contents out.old) (O.contents out.new) }
+    ensures reported { IsReported result (R.remaining reader.old) (R.remaining reader.new) (O.contents out.old) (O.contents out.new) }
 {
     let text = match read_text(alloc, reader) {
         Ok(text) => text,

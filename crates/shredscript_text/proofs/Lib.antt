@@ -3,3 +3,4 @@ pub mod Reported
 pub mod Shown
 pub mod Trimmed
 pub mod Written
+pub mod Parsing

@@ -4,7 +4,11 @@ pub mod FrameLaws
 pub mod Place
 pub mod Declares
 pub mod Words
+pub mod Lines
+pub mod Forms
+pub mod StepForms
 pub mod Texts
 pub mod Endings
 pub mod Input
 pub mod Report
+pub mod Scripts

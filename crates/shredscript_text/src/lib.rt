@@ -6,6 +6,7 @@ pub mod error;
 pub mod error_line;
 pub mod first_values;
 pub mod input;
+mod lines;
 pub mod numbers;
 pub mod outcome;
 pub mod output;

@@ -1,5 +1,7 @@
 //! The steps of a system: how they are written, and what they declare.
-ghost use Rattle.std.specs.Prelude.{◌≡◌};
+ghost use Rattle.std.specs.Prelude.{◌≡◌, ◌++◌, codes, IfOk};
+ghost use Rattle.shredscript_text.specs.Report.{resource_names};
+ghost use Rattle.shredscript_text.specs.StepForms.{IsNameAt, WritesOperand, WritesStep, sign_of};
 ghost use Rattle.shredscript_text.specs.Declares.{read_place, write_place};
 
 use crate::error::LineFault;
@@ -24,6 +26,18 @@ pub enum Operand {
     Resource(usize),
 }
 
+impl Operand {
+    /// The operand that `word` writes. Its form is tested before its name is looked up.
+    fn parse(word: &str, resources: &Resources<'_>) -> Result<Operand, LineFault>
+        ensures { IfOk result (WritesOperand (resource_names resources.now) word.now) }
+    {
+        match resource_name(word) {
+            Ok(source) => Ok(Operand::Resource(place_of(source, resources)?)),
+            Err(_) => Ok(Operand::Number(integer(word)?)),
+        }
+    }
+}
+
 /// One step of a system. A resource goes by its place among the declared ones.
 #[derive(Clone, Copy)]
 pub enum Step {
@@ -39,7 +53,9 @@ pub enum Step {
 
 impl Step {
     /// The step that `word` writes. Its form is tested before its names are looked up.
-    pub(crate) fn parse(word: &str, resources: &Resources<'_>) -> Result<Step, LineFault> {
+    pub(crate) fn parse(word: &str, resources: &Resources<'_>) -> Result<Step, LineFault>
+        ensures { IfOk result (WritesStep (resource_names resources.now) word.now) }
+    {
         if let Some(name) = word.strip_prefix('?') {
             Ok(Step::Read(place_of(resource_name(name)?, resources)?))
         } else if let Some(name) = word.strip_prefix('!') {
@@ -51,20 +67,13 @@ impl Step {
         }
     }
 
-    fn parse_change(word: &str, resources: &Resources<'_>) -> Result<Step, LineFault> {
+    fn parse_change(word: &str, resources: &Resources<'_>) -> Result<Step, LineFault>
+        ensures { IfOk result (WritesStep (resource_names resources.now) word.now) }
+    {
         let (changed, value) = word.split_once('=').ok_or(LineFault::BadWord)?;
-        let (name, operation) = if let Some(name) = changed.strip_suffix('+') {
-            (name, Operation::Add)
-        } else if let Some(name) = changed.strip_suffix('*') {
-            (name, Operation::Multiply)
-        } else {
-            (changed, Operation::Set)
-        };
+        let (name, operation) = target_of(changed);
         let name = resource_name(name)?;
-        let operand = match resource_name(value) {
-            Ok(source) => Operand::Resource(place_of(source, resources)?),
-            Err(_) => Operand::Number(integer(value)?),
-        };
+        let operand = Operand::parse(value, resources)?;
         Ok(Step::Change {
             target: place_of(name, resources)?,
             operation,
@@ -97,7 +106,22 @@ impl Step {
     }
 }
 
-fn place_of(name: &str, resources: &Resources<'_>) -> Result<usize, LineFault> {
+/// The target's name and the operation, from what stands before the `=` of a change.
+fn target_of(changed: &str) -> (&str, Operation)
+    ensures { changed.now ++ codes "=" ≡ result.0.now ++ sign_of result.1 }
+{
+    if let Some(name) = changed.strip_suffix('+') {
+        (name, Operation::Add)
+    } else if let Some(name) = changed.strip_suffix('*') {
+        (name, Operation::Multiply)
+    } else {
+        (changed, Operation::Set)
+    }
+}
+
+fn place_of(name: &str, resources: &Resources<'_>) -> Result<usize, LineFault>
+    ensures { IfOk result (λ place. IsNameAt (resource_names resources.now) place name.now) }
+{
     resources
         .get_index_of(name)
         .ok_or(LineFault::NoSuchResource)

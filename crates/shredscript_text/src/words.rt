@@ -1,7 +1,11 @@
 //! The words of a line, and the forms that a word may have.
-ghost use Rattle.std.specs.Prelude.{◌≡◌, length, IsSome, MatchResult};
+ghost use Rattle.std.specs.Prelude.{◌≡◌, ◌<◌, length, slice_index, IfOk, IsSome, IsTrue, MatchResult, OnOk};
 ghost use Rattle.std.specs.Iterator.{at_most};
 ghost use Rattle.std.specs.Option.{option_copied};
+ghost use Rattle.std.specs.Char.{is_ascii_alphabetic, is_ascii_digit};
+ghost use Rattle.std.specs.List.{AllPass};
+ghost use Rattle.std.specs.Str.{IsAscii};
+ghost use Rattle.shredscript_text.specs.Forms.{is_resource_byte, is_system_byte, AreDigits, IsResourceName, NamesSystem, WritesCode, WritesCount, WritesInteger, time_word};
 ghost use Rattle.shredscript_text.specs.Words.{next_word, after_word};
 
 use crate::error::LineFault;
@@ -24,7 +28,10 @@ pub(crate) struct Words<'text> {
 
 impl<'text> Words<'text> {
     /// The words of a line, all of whose bytes are to be ASCII.
-    pub(crate) fn of_line(bytes: &'text [u8]) -> Result<Words<'text>, LineFault> {
+    pub(crate) fn of_line(bytes: &'text [u8]) -> Result<Words<'text>, LineFault>
+        ensures text { IfOk result (λ words. words.rest.now ≡ bytes.now) }
+        ensures ascii { OnOk result (IsAscii bytes.now) }
+    {
         match str::from_utf8(bytes) {
             Ok(rest) if rest.is_ascii() => Ok(Words { rest }),
             _ => Err(LineFault::UnknownLine),
@@ -78,12 +85,13 @@ impl<'text> Iterator for Words<'text> {
 }
 
 /// A resource's name: 1 to 32 letters, digits or underscores, the first a letter.
-pub(crate) fn resource_name(word: &str) -> Result<&str, LineFault> {
+pub(crate) fn resource_name(word: &str) -> Result<&str, LineFault>
+    ensures word { IfOk result (λ name. name.now ≡ word.now) }
+    ensures name { OnOk result (IsResourceName word.now) }
+{
     let is_name = word.len() <= MOST_NAME_BYTES
-        && word.starts_with(|c: char| c.is_ascii_alphabetic())
-        && word
-            .bytes()
-            .all(|byte| byte.is_ascii_alphanumeric() || byte == b'_');
+        && begins_with_letter(word)
+        && has_resource_bytes(word);
     if is_name {
         Ok(word)
     } else {
@@ -92,11 +100,10 @@ pub(crate) fn resource_name(word: &str) -> Result<&str, LineFault> {
 }
 
 /// A system's name: 1 to 32 letters, digits, `_`, `-` or `/`. The word `-` alone is the empty name.
-pub(crate) fn system_name(word: &str) -> Result<&str, LineFault> {
-    let is_name = !word.is_empty()
-        && word.len() <= MOST_NAME_BYTES
-        && word.bytes().all(|byte| byte.is_ascii_alphanumeric()
-            || matches!(byte, b'_' | b'-' | b'/'));
+pub(crate) fn system_name(word: &str) -> Result<&str, LineFault>
+    ensures { IfOk result (λ name. NamesSystem word.now name.now) }
+{
+    let is_name = !word.is_empty() && word.len() <= MOST_NAME_BYTES && has_system_bytes(word);
     match word {
         "-" => Ok(""),
         _ if is_name => Ok(word),
@@ -105,7 +112,9 @@ pub(crate) fn system_name(word: &str) -> Result<&str, LineFault> {
 }
 
 /// A running time, by its name.
-pub(crate) fn running_time(word: &str) -> Result<RunningTime, LineFault> {
+pub(crate) fn running_time(word: &str) -> Result<RunningTime, LineFault>
+    ensures { IfOk result (λ time. word.now ≡ time_word time) }
+{
     match word {
         "very-short" => Ok(RunningTime::VeryShort),
         "short" => Ok(RunningTime::Short),
@@ -117,7 +126,9 @@ pub(crate) fn running_time(word: &str) -> Result<RunningTime, LineFault> {
 }
 
 /// A whole number: an optional `-` and 1 to 19 digits, within 64 bits with sign.
-pub(crate) fn integer(word: &str) -> Result<i64, LineFault> {
+pub(crate) fn integer(word: &str) -> Result<i64, LineFault>
+    ensures { IfOk result (WritesInteger word.now) }
+{
     let digits = word.strip_prefix('-').unwrap_or(word);
     if !is_digits(digits) || digits.len() > MOST_DIGITS {
         return Err(LineFault::BadWord);
@@ -126,7 +137,9 @@ pub(crate) fn integer(word: &str) -> Result<i64, LineFault> {
 }
 
 /// A count: 1 to 7 digits, and no more than `most`.
-pub(crate) fn count(word: &str, most: u32) -> Result<u32, LineFault> {
+pub(crate) fn count(word: &str, most: u32) -> Result<u32, LineFault>
+    ensures { IfOk result (WritesCount most word.now) }
+{
     if !is_digits(word) || word.len() > MOST_COUNT_DIGITS {
         return Err(LineFault::BadWord);
     }
@@ -137,13 +150,45 @@ pub(crate) fn count(word: &str, most: u32) -> Result<u32, LineFault> {
 }
 
 /// The code of a refusal: digits of a number of 32 bits.
-pub(crate) fn refusal_code(digits: &str) -> Result<u32, LineFault> {
+pub(crate) fn refusal_code(digits: &str) -> Result<u32, LineFault>
+    ensures { IfOk result (WritesCode digits.now) }
+{
     if !is_digits(digits) {
         return Err(LineFault::BadWord);
     }
     digits.parse().map_err(|_| LineFault::BadWord)
 }
 
-fn is_digits(word: &str) -> bool {
-    !word.is_empty() && word.bytes().all(|byte| byte.is_ascii_digit())
+fn begins_with_letter(word: &str) -> bool
+    ensures letter { IsTrue result → IsTrue (is_ascii_alphabetic (slice_index word.now 0)) }
+    ensures full { IsTrue result → 0 < length word.now }
+{
+    word.bytes()
+        .next()
+        .is_some_and(|byte| byte.is_ascii_alphabetic())
+}
+
+fn has_resource_bytes(word: &str) -> bool
+    ensures { IsTrue result → AllPass is_resource_byte word.now }
+{
+    word.bytes()
+        .all(|byte| byte.is_ascii_alphanumeric() || byte == b'_')
+}
+
+fn has_system_bytes(word: &str) -> bool
+    ensures { IsTrue result → AllPass is_system_byte word.now }
+{
+    word.bytes().all(|byte| byte.is_ascii_alphanumeric() || matches!(byte, b'_' | b'-' | b'/'))
+}
+
+fn has_digits(word: &str) -> bool
+    ensures { IsTrue result → AllPass is_ascii_digit word.now }
+{
+    word.bytes().all(|byte| byte.is_ascii_digit())
+}
+
+fn is_digits(word: &str) -> bool
+    ensures { IsTrue result → AreDigits word.now }
+{
+    !word.is_empty() && has_digits(word)
 }

@@ -1,14 +1,18 @@
 //! A dispatch of two systems, of whatever type.
 ghost use Rattle.std.specs.Prelude.{◌≡◌, IfOk, IfSome};
-ghost use Rattle.shred.specs.Dispatchers.{dispatcher_plan, dispatcher_states};
+ghost use Rattle.shred_stage.specs.Dispatched.{Dispatched};
+ghost use Rattle.shred_stage.specs.Plans.{plan_states};
+ghost use Rattle.shred_stage.specs.StagePlan.{plan_of};
+ghost use Rattle.shred.specs.Dispatchers.{dispatcher_over, dispatcher_plan, dispatcher_states};
+ghost use Rattle.shred.specs.PlanRuns.{PlanRun};
 ghost use Rattle.shred_table.specs.declared.id.ResourceId.{ResourceId};
 ghost use Rattle.shred_world.specs.Worlds.{world_held};
 ghost use Rattle.shredexamples.specs.Numbers.{kind_of};
 ghost use Rattle.shredexamples.specs.TwoSystems.{AreLeftAtTwo, HasInOrder, five_and_zero};
 
 use shred::{
-    DataError, Dispatcher, Only, OutOfMemory, StagesBuilder, System, SystemId, ThreadLocal, World,
-    WorldError, new_dispatcher, only_id,
+    DataError, DispatchError, Dispatcher, Only, OutOfMemory, Stage, StagesBuilder, System,
+    SystemId, ThreadLocal, World, WorldError, new_dispatcher, only_id,
 };
 use std::alloc::Global;
 
@@ -22,6 +26,20 @@ fn world_of_two(alloc: Global) -> Result<World<Only<i64>>, WorldError>
     Ok(world)
 }
 
+// A plan of the two systems, in this order.
+fn stages_of<S: System<Only<i64>> + Drop>(
+    alloc: Global,
+    first: S,
+    second: S,
+) -> Result<Vec<Stage<Only<i64>, S>>, OutOfMemory>
+    ensures { IfOk result (λ stages. HasInOrder S.reads S.writes first second (plan_of stages.items) (plan_states stages.items)) }
+{
+    let mut builder = StagesBuilder::new(alloc);
+    builder.insert(&[], SystemId(0), first)?;
+    builder.insert(&[], SystemId(1), second)?;
+    Ok(builder.build())
+}
+
 fn dispatcher_of<S: System<Only<i64>> + Drop>(
     alloc: Global,
     first: S,
@@ -29,10 +47,18 @@ fn dispatcher_of<S: System<Only<i64>> + Drop>(
 ) -> Result<Dispatcher<Only<i64>, S>, OutOfMemory>
     ensures { IfOk result (λ dispatcher. HasInOrder S.reads S.writes first second (dispatcher_plan dispatcher) (dispatcher_states dispatcher)) }
 {
-    let mut builder = StagesBuilder::new(alloc);
-    builder.insert(&[], SystemId(0), first)?;
-    builder.insert(&[], SystemId(1), second)?;
-    Ok(new_dispatcher(builder.build(), ThreadLocal::new(alloc), 4))
+    let stages = stages_of(alloc, first, second)?;
+    Ok(new_dispatcher(stages, ThreadLocal::new(alloc), 4))
+}
+
+// A dispatch on the caller's thread.
+fn dispatched<S: System<Only<i64>, Error = DataError>>(
+    dispatcher: &mut Dispatcher<Only<i64>, S>,
+    world: &mut World<Only<i64>>,
+) -> Result<(), DispatchError<DataError>>
+    ensures { Dispatched kind_of (PlanRun kind_of S.step) (dispatcher_over kind_of dispatcher.old world.old) result (dispatcher_over kind_of dispatcher.new world.new) }
+{
+    dispatcher.dispatch_seq(world)
 }
 
 /// What two systems, one after the other, leave at place 2 of a world with 5 at place 1 and 0 at place 2; none where
@@ -46,6 +72,6 @@ pub fn left_at_two<S: System<Only<i64>, Error = DataError> + Drop>(
 {
     let mut world = world_of_two(alloc).ok()?;
     let mut dispatcher = dispatcher_of(alloc, first, second).ok()?;
-    dispatcher.dispatch_seq(&mut world).ok()?;
+    dispatched(&mut dispatcher, &mut world).ok()?;
     world.remove_by_id::<i64>(only_id(2)).ok()?
 }

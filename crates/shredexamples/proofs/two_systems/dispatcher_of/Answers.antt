@@ -1,12 +1,11 @@
-use Rattle.std.proofs.Common.{◌≡◌, Option, sym, subst, ◌∙◌}
+use Rattle.std.proofs.Common.{Option, sym, subst}
 use Rattle.std.proofs.Math.Path.{fun_ext}
 use Rattle.shred_model.specs.Plan.{Plan}
 use Rattle.shred_model.specs.Record.{Agent}
 use Rattle.shred_table.specs.declared.id.ResourceId.{ResourceId}
-use Rattle.shred_stage.specs.BuilderPlan.{planned, barrier_of, builder_states}
-use Rattle.shred.specs.Dispatchers.{dispatcher_plan, dispatcher_states}
+use Rattle.shred.specs.Dispatchers.{dispatcher_states}
+use Rattle.shred_stage.specs.StagePlan.{plan_of}
 use Rattle.shredexamples.specs.TwoSystems.{HasInOrder}
-use Rattle.shredexamples.proofs.InOrder.{in-order}
 use Rattle.shredexamples.proofs.two_systems.dispatcher_of.Goals as goal
 
 pub returns : goal.returns
@@ -14,13 +13,7 @@ returns g c =
     let S : Type 0 = g.row.S.Denot in
     let reads = g.S.System.reads in
     let writes = g.S.System.writes in
-    let first = c.in_ok-insert.ensures.placed in
-    let second = c.in_ok-insert-2.ensures.placed in
-    let built = c.insert-2.new.self in
-    let plan : planned built ≡ dispatcher_plan c.new_dispatcher.result = sym (c.new_dispatcher.ensures.plan ∙ c.build.ensures.plan) in
-    let states : builder_states built ≡ dispatcher_states c.new_dispatcher.result = fun_ext (λ path. sym (c.new_dispatcher.ensures.states path ∙ c.build.ensures.states path)) in
-    subst (λ (p : Plan ResourceId). HasInOrder reads writes c.args.first c.args.second p (dispatcher_states c.new_dispatcher.result)) plan
-    (subst (λ (s : Agent → Option S). HasInOrder reads writes c.args.first c.args.second (planned built) s) states
-    (in-order reads writes c.args.first c.args.second (planned c.new-builder.result) (planned c.insert.new.self) (planned built) (builder_states c.new-builder.result) (builder_states c.insert.new.self) (builder_states built)
-    (barrier_of c.new-builder.result) (barrier_of c.insert.new.self) _ _ first.0 second.0 c.new-builder.ensures.plan first.2 second.2
-    (record { same_reads = first.1.same_reads; same_writes = first.1.same_writes }) (record { same_reads = second.1.same_reads; same_writes = second.1.same_writes })))
+    let stages = c.in_ok-stages.stages in
+    let made = c.new_dispatcher.result in
+    subst (λ (p : Plan ResourceId). HasInOrder reads writes c.args.first c.args.second p (dispatcher_states made)) (sym c.new_dispatcher.ensures.plan)
+    (subst (λ (s : Agent → Option S). HasInOrder reads writes c.args.first c.args.second (plan_of stages.items) s) (fun_ext (λ path. sym (c.new_dispatcher.ensures.states path))) c.in_ok-stages.ensures)

@@ -28,12 +28,12 @@ returns g c =
     let second = c.args.second in
     let dispatcher = c.in_ok-dispatcher.dispatcher in
     let plan = dispatcher_plan dispatcher in
-    let world = c.dispatch_seq.new.world in
+    let world = c.dispatched.new.world in
     let x = configuration_of (dispatcher_states dispatcher) (world_held kind_of c.in_ok-world.world) in
-    let y = configuration_of (dispatcher_states c.dispatch_seq.new.self) (world_held kind_of world) in
+    let y = configuration_of (dispatcher_states c.dispatched.new.dispatcher) (world_held kind_of world) in
     let held = if_ok (λ (w : World (Only ℤ)). (id : ResourceId) → world_held kind_of w id ≡ five_and_zero id) c.world_of_two.result c.in_ok-world.world c.in_ok-world.ensures.value c.world_of_two.ensures in
     let ordered = if_ok (λ (d : _). HasInOrder reads writes first second (dispatcher_plan d) (dispatcher_states d)) c.dispatcher_of.result dispatcher c.in_ok-dispatcher.ensures.value c.dispatcher_of.ensures in
-    let ran = at_ok (λ (r : Result (Unit {0}) (DispatchError DataError)). IsSerializable (λ list. PlanRun kind_of step plan list r) x y) c.dispatch_seq.result c.in_ok-ok.field-0 c.in_ok-ok.ensures.value c.dispatch_seq.ensures.dispatched.ran in
+    let ran = at_ok (λ (r : Result (Unit {0}) (DispatchError DataError)). IsSerializable (λ list. PlanRun kind_of step plan list r) x y) c.dispatched.result c.in_ok-ok.field-0 c.in_ok-ok.ensures.value c.dispatched.ensures.ran in
     let removed = if_ok (λ (o : Option ℤ). (only_kind ≡ id_kind c.only_id.result) × (option_map number_value o ≡ world_held kind_of world c.only_id.result)) c.remove_by_id.result c.in_ok-ok-2.field-0 c.in_ok-ok-2.ensures.value c.remove_by_id.ensures.ok in
     of-removed (AreLeftAtTwo step reads writes first second) c.in_ok-ok-2.field-0 (world_held kind_of world (number_id 2)) (removed.1 ∙ ap (world_held kind_of world) c.only_id.ensures)
     (λ number ends. left-at-two step reads writes first second plan (dispatcher_states dispatcher) ordered x y number refl (fun_ext held) ends ran)

@@ -1,7 +1,7 @@
 -- A system that adds allows one end that is Done.
 use Rattle.std.proofs.Common.{◌≡◌, ◌≢◌, ℕ, ℤ, pos, true, [], ◌∷◌, Option, Some, None, Ok, Err, Contains, inl, inr, sym, ◌∙◌, ap, refl, subst, arith}
 use Rattle.std.proofs.Math.Path.{fun_ext}
-use Rattle.std.specs.Prelude.{IfOk, slice_index_or}
+use Rattle.std.specs.Prelude.{MatchResult, slice_index_or}
 use Rattle.std.specs.Result.{is_ok}
 use Rattle.std.specs.Int.{w64, int_wrapping_add}
 use Rattle.shred_model.specs.Runs.{Answer}
@@ -19,6 +19,7 @@ use Rattle.shred_orders.proofs.Made.{now-deterministic, plain-deterministic}
 use Rattle.shredexamples.specs.declared.enum_of_systems.Add.{Add}
 use Rattle.shredexamples.specs.Jobs.{AddStep}
 use Rattle.shredexamples.specs.Numbers.{kind_of, number_id, number_value}
+use Rattle.shredexamples.specs.Refusals.{IsMissing}
 
 -- the number of the place has grown by the amount
 abbrev IsAdded : Add → Held (Only ℤ) → Held (Only ℤ) → Type 0
@@ -44,8 +45,8 @@ not-written place id ne (k, below, is) = ne (let e : k ≡ 0 = omega (arith, bel
 add-deterministic : IsDeterministic kind_of AddStep (λ add. []) (λ add. number_id add.to ∷ []) IsDone
 add-deterministic r q of_r of_q before seen sound done_r done_q =
     let add = r.before in
-    let added : IsAdded add r.seen r.left = subst (λ (o : Outcome DataError). IfOk o (λ done. IsAdded add r.seen r.left)) done_r of_r.lies.1 in
-    let its : IsAdded q.before q.seen q.left = subst (λ (o : Outcome DataError). IfOk o (λ done. IsAdded q.before q.seen q.left)) done_q of_q.lies.1 in
+    let added : IsAdded add r.seen r.left = subst (λ (o : Outcome DataError). MatchResult o (λ done. IsAdded add r.seen r.left) (λ fault. IsMissing (number_id add.to) r.seen fault r.left)) done_r of_r.lies.1 in
+    let its : IsAdded q.before q.seen q.left = subst (λ (o : Outcome DataError). MatchResult o (λ done. IsAdded q.before q.seen q.left) (λ fault. IsMissing (number_id q.before.to) q.seen fault q.left)) done_q of_q.lies.1 in
     let added_too : IsAdded add r.seen q.left = subst (λ (h : Held (Only ℤ)). IsAdded add h q.left) seen (subst (λ (a : Add). IsAdded a q.seen q.left) before its) in
     let declared : q.access ≡ r.access = of_q.declared ∙ (λ i. own_access (λ (a : Add). []) (λ (a : Add). number_id a.to ∷ []) (before i)) ∙ sym of_r.declared in
     record {

@@ -43,8 +43,8 @@ added after middle (same, (number, saw, put)) =
 -- what is copied is what was added
 copied : (after : Add) (its_after : Copy) (middle last : Held (Only ℤ)) (number : ℤ) → AddStep add (declared_of add_access five_and_zero) (Ok tt) after (declared_of add_access middle)
     → CopyStep copy (declared_of copy_access middle) (Ok tt) its_after (declared_of copy_access last) → last (number_id 2) ≡ Some (number_value number) → number ≡ pos 8
-copied after its_after middle last number adds (same, copies) left =
-    let got : last (number_id 2) ≡ middle (number_id 1) = copies in
+copied after its_after middle last number adds (same, (seen, saw, put)) left =
+    let got : last (number_id 2) ≡ middle (number_id 1) = put ∙ sym saw in
     ap number_in (sym left ∙ got ∙ added after middle adds)
 
 -- so it is of jobs

@@ -1,13 +1,16 @@
 -- A call with a bundle of a count and a limit: what it leaves of a map.
-use Rattle.std.proofs.Common.{◌≡◌, ℤ, inl, inr, Bool, true, false, cond, List, [], ◌∷◌, Option, Some, None, Result, Ok, Err, IfOk, refl, sym, ◌∙◌, ap}
+use Rattle.std.proofs.Common.{◌≡◌, ℤ, inl, inr, Bool, true, false, cond, List, [], ◌∷◌, Option, Some, None, Result, Ok, Err, IfOk, refl, sym, ◌∙◌, ap, subst}
+use Rattle.std.specs.Prelude.{IfErr, is_some}
 use Rattle.std.specs.Borrow.{MutBor}
 use Rattle.std.specs.Fn.{FnOnceReturnsAtMut, Once}
 use Rattle.shred_table.specs.declared.id.ResourceId.{ResourceId}
 use Rattle.shred_world.specs.declared.world.view.DataError.{DataError}
+use Rattle.shred_world.specs.declared.world.view.DataError.TheVariants.{Missing, OutOfMemory}
 use Rattle.shred_world.specs.BundleParts.{written_value, read_value, moved_to_read}
-use Rattle.shred_world.specs.Bundles.{Part, after_moved, after_part, after_parts, moved_at, moved_for}
-use Rattle.shred_world.specs.Executed.{IsExecuted, IsTaken}
-use Rattle.shred_world.specs.Grants.{Moved, given_back, map_grant}
+use Rattle.shred_world.specs.Bundles.{Part, after_moved, after_part, after_parts, bundle_refusal, moved_at, moved_for, or_refusal}
+use Rattle.shred_world.specs.Executed.{IsExecuted, IsTaken, as_data_error}
+use Rattle.shred_world.specs.Views.{refusal}
+use Rattle.shred_world.specs.Grants.{Grant, Moved, given_back, map_grant}
 use Rattle.shred_table.specs.Id.{id_of, same_id}
 use Rattle.shred_table.specs.Slots.{with_at}
 use Rattle.shred_table.proofs.Tables.Slots.{same_id-true}
@@ -16,7 +19,7 @@ use Rattle.shredexamples.specs.declared.limits.Count.{Count}
 use Rattle.shredexamples.specs.declared.limits.Limit.{Limit}
 use Rattle.shredexamples.specs.declared.limits.Value.{Value}
 use Rattle.shredexamples.specs.declared.limits.Value.TheVariants.{Counted, Limited}
-use Rattle.shredexamples.specs.Limits.{IsCountedIn, StartsAtZero, counted_up, count_kind, limit_kind}
+use Rattle.shredexamples.specs.Limits.{IsCountedIn, IsCountingRefused, StartsAtZero, counted_up, count_kind, limit_kind}
 
 abbrev count_at : ResourceId
 count_at = id_of count_kind 0
@@ -102,3 +105,29 @@ module _ {F : Type 0} (once : Once F (MutBor Counting × Unit {0}) (ℤ × (MutB
             ∙ back middle count (counted_up count limit) limit (is count_at) limited q ∙ put-over middle before count_at _ (Some (Counted (counted_up count limit))) q (is q);
         gives = called.2 ∙ ap (λ c. c.0) new;
       }
+
+-- of the two values that the bundle needs, only the limit may be missing
+module _ (m : ResourceId → Option Value) (count : Count) (held : m count_at ≡ Some (Counted count)) where
+  first : bundle_refusal (map_grant m) parts ≡ or_refusal (refusal limit_kind limit_at true false (is_some (m limit_at))) None
+  first = ap (λ o. or_refusal (refusal count_kind count_at true false (is_some o)) (bundle_refusal (after_moved (map_grant m) count_at o) (limit_part ∷ []))) held
+
+  limit-missing : (limit : Option Value) → m limit_at ≡ limit → (error : DataError) → bundle_refusal (map_grant m) parts ≡ Some error → (Missing limit_at ≡ error) × (limit ≡ None)
+  limit-missing None is error told =
+      let e : Some (Missing limit_at) ≡ Some error = sym (first ∙ ap (λ o. or_refusal (refusal limit_kind limit_at true false (is_some o)) None) is) ∙ told in (cc, refl)
+  limit-missing (Some limit) is error told =
+      let e : None ≡ Some error = sym (first ∙ ap (λ o. or_refusal (refusal limit_kind limit_at true false (is_some o)) None) is) ∙ told in absurd (cc)
+
+module _ {F : Type 0} (once : Once F (MutBor Counting × Unit {0}) (ℤ × (MutBor Counting × Unit {0}))) (run : F) where
+  pub refused-in : (before after : ResourceId → Option Value) (result : Result ℤ DataError) → IsExecuted StartsAtZero once run shows moved parts before result after → IfErr result (λ error. IsCountingRefused before error after)
+  refused-in before after (Ok answer) done = tt
+  refused-in before after (Err error) (inl (its, set, e)) =
+      let same : Err error ≡ Err OutOfMemory = e ∙ ap (λ w. Err (as_data_error w)) set.0 in
+      let wanting : OutOfMemory ≡ error = cc in
+      subst (λ (d : DataError). IsCountingRefused before d after) wanting (inl (refl, set.1))
+  refused-in before after (Err error) (inr (middle, (count, was, is), (g, (refused, same), left))) =
+      let set : StartsAtZero before (Ok tt) after = subst (λ (h : ResourceId → Option Value). StartsAtZero before (Ok tt) h) (sym (left ∙ ap (λ (h : Grant Value). h.held) same)) (count, was, is) in
+      elim refused [
+        | inl told ↦ (let missing = limit-missing middle count (is count_at) (middle limit_at) refl error told in
+            subst (λ (d : DataError). IsCountingRefused before d after) missing.0 (refl, sym (is limit_at) ∙ missing.1, set))
+        | inr wanting ↦ subst (λ (d : DataError). IsCountingRefused before d after) (sym wanting.0) (inr set)
+      ]

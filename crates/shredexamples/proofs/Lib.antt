@@ -1,4 +1,5 @@
 pub mod Single
+pub mod Refused
 pub mod Counted
 pub mod Doubled
 pub mod Adds

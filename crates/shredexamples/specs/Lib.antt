@@ -1,6 +1,8 @@
 pub mod Limits
 pub mod Numbers
+pub mod Refusals
 pub mod Jobs
+pub mod OneSystem
 pub mod Rounds
 pub mod Adders
 pub mod TwoSystems

@@ -32,6 +32,10 @@ first_number world = world_held kind_of world (number_id 0)
 abbrev pub IsKeptWhole : World (Only ℤ) → World (Only ℤ) → Type 0
 IsKeptWhole before after = (id : ResourceId) → world_held kind_of after id ≡ world_held kind_of before id
 
+-- the second world has this under number 0, and holds all else that the first one holds
+abbrev pub IsPutInto : World (Only ℤ) → Option (Only ℤ) → World (Only ℤ) → Type 0
+IsPutInto before number after = (id : ResourceId) → world_held kind_of after id ≡ with_at (world_held kind_of before) (number_id 0) number id
+
 -- A number was held under number 0, and its double, wrapped to 64 bits with sign, is held there now and given, with all else as before.
 pub record IsDoubled (before after : ResourceId → Option (Only ℤ)) (given : ℤ) : Type 0 where
   pub number : ℤ

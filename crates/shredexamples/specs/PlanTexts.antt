@@ -31,7 +31,7 @@ JobsBuilt = Built (Plain Job) (Now (Plain Job))
 abbrev pub IsJobAdded : JobsBuilt → JobsBuilt → Job → List ℕ → List (List ℕ) → Type 0
 IsJobAdded old new added name dependencies = IsAddition old new name dependencies (job_reads added) (job_writes added) Average (record { 0 = added })
 
--- The plan has two jobs that add, at places 1 and 2, and after both one that copies the number of the first place to the second.
+-- The plan has a job "first" that adds 3 at place 1, a job "second" that adds 4 at place 2, and after both a job "third" that copies the number of place 1 to place 2.
 pub record HasThree (plan : JobsBuilt) : Type 0 where
   pub empty : JobsBuilt
   pub one : JobsBuilt

@@ -1,6 +1,5 @@
 -- How often a batch runs its plan, and what such a batch leaves.
-use Rattle.std.specs.Prelude.{◌≡◌, ℕ, ℤ, pos, negsuc, List, [], ◌∷◌, Option, Some, None, Ok, MatchResult, codes}
-use Rattle.shred_model.specs.Access.{Access}
+use Rattle.std.specs.Prelude.{◌≡◌, ℕ, ℤ, pos, negsuc, [], ◌∷◌, Some, None, Ok, MatchResult, codes}
 use Rattle.shred_model.specs.Plan.{Plan}
 use Rattle.shred_model.specs.Record.{Agent}
 use Rattle.shred_batch.specs.Controls.{Control, SaysYes}

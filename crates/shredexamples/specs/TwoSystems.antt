@@ -25,7 +25,7 @@ located inside n (x ∷ xs) = map (λ found. (n ∷ found.0, found.1)) (inside x
 abbrev pub entries_with_paths : Plan ResourceId → List (Agent × PlanEntry ResourceId)
 entries_with_paths plan = located (located (located (λ entry. ([], entry) ∷ []) 0) 0) 0 plan
 
--- The entry has the lists that the system declares.
+-- The entry writes the ids that the system declares, in its order, and reads those that it declares, in any.
 pub record HasListsOf {S : Type 0} (reads writes : S → List ResourceId) (system : S) (entry : PlanEntry ResourceId) : Type 0 where
   pub same_reads : (id : ResourceId) → Contains entry.access.reads id ↔ Contains (reads system) id
   pub same_writes : entry.access.writes ≡ writes system

@@ -2,6 +2,7 @@
 ghost use Rattle.std.specs.Prelude.{◌≡◌, [], ◌∷◌, IfOk, IfSome};
 ghost use Rattle.shred_model.specs.Record.{Agent};
 ghost use Rattle.shred_stage.specs.Dispatched.{Dispatched};
+ghost use Rattle.shred_systems.specs.Made.{IsLeftAlone};
 ghost use Rattle.shred_table.specs.declared.id.ResourceId.{ResourceId};
 ghost use Rattle.shred_world.specs.Worlds.{world_held};
 ghost use Rattle.shred.specs.Builders.{built};
@@ -36,7 +37,7 @@ impl MultiDispatchController<Only<i64>> for AsOften {
 
     ghost plans = { PlansAsOften };
 
-    ghost sets_up = { λ before held outcome after left. (after ≡ before) × (left ≡ held) };
+    ghost sets_up = { IsLeftAlone };
 
     fn plan(&mut self, view: &mut View<Only<i64>>) -> Result<usize, Fault<DataError>> {
         match view.read::<i64>(only_id(self.at)) {

@@ -1,9 +1,9 @@
 //! A bundle of a caller's own: a count, and how far it may go.
-ghost use Rattle.std.specs.Prelude.{◌≡◌, [], ◌∷◌, Some, IfOk, true, false};
+ghost use Rattle.std.specs.Prelude.{◌≡◌, [], ◌∷◌, Some, IfOk, IfErr, true, false};
 ghost use Rattle.shred_world.specs.BundleParts.{written_value, read_value, moved_to_read};
 ghost use Rattle.shred_table.specs.Id.{id_of};
 ghost use Rattle.shred_world.specs.Worlds.{world_held};
-ghost use Rattle.shredexamples.specs.Limits.{IsCountedIn, StartsAtZero, counted_up, kind_of, count_kind, limit_kind};
+ghost use Rattle.shredexamples.specs.Limits.{IsCountedIn, IsCountingRefused, StartsAtZero, counted_up, kind_of, count_kind, limit_kind};
 ghost use Rattle.shredexamples.specs.declared.limits.Value.TheVariants.{Counted, Limited};
 
 use crate::limits::{Count, Limit, Value};
@@ -85,9 +85,11 @@ impl<'s> SystemData<'s, Value> for Counting<'s> {
     }
 }
 
-/// Counts one more in a world that holds a limit, and gives the count then.
+/// Counts one more in a world that holds a limit, and gives the count then. Where no limit is held, it is refused, and a
+/// count is held all the same, of 0 where there was none.
 pub fn count_one_in(world: &mut World<Value>) -> Result<i64, DataError>
     ensures counted { IfOk result (IsCountedIn (world_held kind_of world.old) (world_held kind_of world.new)) }
+    ensures refused { IfErr result (λ error. IsCountingRefused (world_held kind_of world.old) error (world_held kind_of world.new)) }
 {
     world.exec::<Counting, _, _>(|counting| {
         counting.count_one();

@@ -1,8 +1,9 @@
 //! A count that one system sets.
-ghost use Rattle.std.specs.Prelude.{◌≡◌, [], ◌∷◌, Some, IfOk, IfSome, pos};
-ghost use Rattle.shred_table.specs.Id.{id_of};
+ghost use Rattle.std.specs.Prelude.{◌≡◌, [], ◌∷◌, IfSome, pos};
 ghost use Rattle.shred_group.specs.declared.system.RunningTime.TheVariants.{Average};
+ghost use Rattle.shred_systems.specs.Made.{IsLeftAlone};
 ghost use Rattle.shredexamples.specs.declared.one_system.Value.TheVariants.{Count};
+ghost use Rattle.shredexamples.specs.OneSystem.{SetsToSeven, count_at};
 
 use shred::{
     BatchAccessor, DataError, Dispatcher, Fault, Kind, OutOfMemory, Resource, ResourceId,
@@ -66,7 +67,7 @@ impl Resource<Value> for Count {
 }
 
 fn count_id() -> ResourceId
-    ensures { result ≡ id_of (record { 0 = 0 }) 0 }
+    ensures { result ≡ count_at }
 {
     ResourceId::from_type_id(Kind(0))
 }
@@ -82,16 +83,15 @@ impl System<Value> for SetToSeven {
 
     ghost reads = { λ system. [] };
 
-    ghost writes = { λ system. id_of (record { 0 = 0 }) 0 ∷ [] };
+    ghost writes = { λ system. count_at ∷ [] };
 
     ghost time = { λ system. Average };
 
-    // A run that is Done leaves 7.
-    ghost step = { λ before seen outcome after left. IfOk outcome (λ done. left (id_of (record { 0 = 0 }) 0) ≡ Some (Count (record { 0 = pos 7 }))) };
+    ghost step = { SetsToSeven };
 
-    ghost sets_up = { λ before seen outcome after left. left ≡ seen };
+    ghost sets_up = { IsLeftAlone };
 
-    ghost disposes = { λ before seen outcome left. left ≡ seen };
+    ghost disposes = { λ before seen outcome left. IsLeftAlone before seen outcome before left };
 
     fn run(&mut self, view: &mut View<Value>) -> Result<(), Fault<DataError>> {
         match view.write::<Count>(count_id()) {

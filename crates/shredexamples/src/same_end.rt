@@ -11,7 +11,8 @@ use shred_orders::dispatch_alike;
 use std::thread::Threads;
 
 /// Dispatches two dispatchers that add, each on as many threads as it has and over numbers of its own. It tells whether
-/// both were done; where they were, and began with the same plan, systems and numbers, they left the same.
+/// both were done; where they were, and began with the same plan, systems, thread-local systems and numbers, they left
+/// the same.
 pub fn both_added<R: Threads + Sync>(
     rt: &R,
     first: &mut Dispatcher<Only<i64>, Plain<Add>>,

@@ -4,7 +4,7 @@ ghost use Rattle.std.specs.Option.{option_map};
 ghost use Rattle.shred_table.specs.Slots.{with_at};
 ghost use Rattle.shred_table.specs.declared.id.ResourceId.{ResourceId};
 ghost use Rattle.shred_world.specs.Worlds.{IsKeptOrMade, world_held};
-ghost use Rattle.shredexamples.specs.Numbers.{IsDoubled, IsDoublingRefused, IsKeptWhole, first_number, kind_of, number_id, number_value};
+ghost use Rattle.shredexamples.specs.Numbers.{IsDoubled, IsDoublingRefused, IsKeptWhole, IsPutInto, first_number, kind_of, number_id, number_value};
 
 use shred::{DataError, Only, World, WorldError, WriteExpect};
 use std::alloc::Global;
@@ -35,7 +35,7 @@ pub fn number_in(world: &World<Only<i64>>) -> Option<i64>
 /// The number that is held, or else 5, which is then held.
 pub fn number_or_five(world: &mut World<Only<i64>>) -> Result<i64, WorldError>
     ensures given { IfOk result (IsKeptOrMade number_value (first_number world.old) (λ made. made ≡ pos 5)) }
-    ensures held { IfOk result (λ number. first_number world.new ≡ Some (number_value number)) }
+    ensures held { IfOk result (λ number. IsPutInto world.old (Some (number_value number)) world.new) }
     ensures out_of_memory { IfErr result (λ error. (error ≡ WorldError.OutOfMemory) × (first_number world.old ≡ None)) }
     ensures unchanged { OnErr result (IsKeptWhole world.old world.new) }
 {
@@ -47,7 +47,7 @@ pub fn number_or_five(world: &mut World<Only<i64>>) -> Result<i64, WorldError>
 
 /// Puts this number in the place of the one that is held.
 pub fn set(world: &mut World<Only<i64>>, number: i64) -> Result<(), WorldError>
-    ensures put { OnOk result (first_number world.new ≡ Some (number_value number)) }
+    ensures put { OnOk result (IsPutInto world.old (Some (number_value number)) world.new) }
     ensures held_one { OnOk result (IsSome (first_number world.old)) }
     ensures missing { IfErr result (λ error. (error ≡ WorldError.Missing (number_id 0)) × (first_number world.old ≡ None)) }
     ensures unchanged { OnErr result (IsKeptWhole world.old world.new) }
@@ -76,7 +76,7 @@ pub fn double(world: &mut World<Only<i64>>) -> Result<i64, DataError>
 /// The number that was held, if one was, which leaves the world.
 pub fn take(world: &mut World<Only<i64>>) -> Option<i64>
     ensures taken { option_map number_value result ≡ first_number world.old }
-    ensures left { first_number world.new ≡ None }
+    ensures left { IsPutInto world.old None world.new }
 {
     world.remove::<i64>()
 }

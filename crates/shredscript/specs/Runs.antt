@@ -108,7 +108,7 @@ pub record IsDispatch (before : Program) (times : ℕ) (resources : List (List �
   pub outcome_is : outcome ≡ outcome_of answer
   pub text_is : text ≡ begins ++ report resources after.staged.values outcome
 
--- what a script's lines make of an empty builder, on as many threads as it asks for
+-- what a script's lines make of an empty builder, with the worker count that it asks for
 abbrev pub IsMadeOf : Script → ScriptBuilt → Type 0
 IsMadeOf script built = (lines : ScriptBuilt) × IsBuiltBy script.plan.items lines × IsPoolSet lines built script.manner.workers
 
@@ -157,7 +157,7 @@ IsReadAs script old new = (text : List ℕ) × (length text ≤ MOST_BYTES) × C
 abbrev pub IsReadInVain : ScriptError → Option (List ℕ) → Option (List ℕ) → Type 0
 IsReadInVain error old new = (script : Script) × IsReadAs script old new × IsNotRun script error
 
--- what was read before a run ended so: the whole script, unless it is too long, a read failed or memory was refused
+-- what was read before a run ended so: the whole text, which in the case of a refused line or a missing name says a script that is not run for just that; or of one that is too long, more than may be read; or anything, where a read failed or memory was refused
 abbrev pub IsReadFor : Result Outcome ScriptError → Option (List ℕ) → Option (List ℕ) → Type 0
 IsReadFor (Ok outcome) old new = IsRead old new
 IsReadFor (Err OutputFailed) old new = IsRead old new

@@ -168,7 +168,7 @@ pub record SaysEnd (number : ℕ) (rest : List ℕ) (before after : Said) : Type
   pub innermost : before.unended ≡ push outer begun
   pub left : after ≡ with_line before (End number) outer
 
--- `workers N`: a stage runs on N threads at most; N is at most 64
+-- `workers N`: the worker count of the dispatches, which is at most 64
 pub record SaysWorkers (rest : List ℕ) (before after : Said) : Type 0 where
   pub number : List ℕ
   pub workers : ℕ

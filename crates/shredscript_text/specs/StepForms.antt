@@ -32,7 +32,7 @@ pub record WritesChange (declared : List (List ℕ)) (word : List ℕ) (target :
   pub target_is : IsNameAt declared target name
   pub operand_is : WritesOperand declared value operand
 
--- the word writes this step: a change, a name behind `?` or `!`, or digits behind `refuse:`
+-- the word writes this step: a change, the name of a declared resource behind `?` or `!`, or digits behind `refuse:`
 abbrev pub WritesStep : List (List ℕ) → List ℕ → Step → Type 0
 WritesStep declared word (Change target operation operand) = WritesChange declared word target operation operand
 WritesStep declared word (Read place) = (name : List ℕ) × (word ≡ codes "?" ++ name) × IsNameAt declared place name

@@ -1,18 +1,16 @@
-use Rattle.std.proofs.Common.{◌≡◌, Option, Some, None, Result, IfOk, pos, ℤ, w64, to_z, of_z, List, Contains, sym, ap, subst, ◌∙◌, arith}
+use Rattle.std.proofs.Common.{◌≡◌, Option, Some, None, Result, pos, ℤ, w64, to_z, of_z, List, Contains, sym, ap, subst, ◌∙◌, arith}
 use Rattle.shred_model.specs.Serializable.{IsSerializable}
 use Rattle.shred_model.specs.States.{configuration_of}
 use Rattle.shred_table.specs.declared.id.Kind.{Kind}
 use Rattle.shred_table.specs.declared.id.ResourceId.{ResourceId}
 use Rattle.shred_world.specs.declared.world.view.DataError.{DataError}
-use Rattle.shred_table.specs.Id.{id_of}
 use Rattle.shred_world.specs.Worlds.{world_held}
 use Rattle.shred_systems.specs.declared.dispatch_error.DispatchError.{DispatchError}
 use Rattle.shred.specs.Dispatchers.{dispatcher_plan, dispatcher_states}
 use Rattle.shred.specs.PlanRuns.{PlanRun}
-use Rattle.shred_group.specs.Steps.{Step}
-use Rattle.shredexamples.specs.declared.one_system.SetToSeven.{SetToSeven}
 use Rattle.shredexamples.specs.declared.one_system.Value.{Value}
 use Rattle.shredexamples.specs.declared.one_system.Value.TheVariants.{Count}
+use Rattle.shredexamples.specs.OneSystem.{SetsToSeven, count_at}
 use Rattle.shredexamples.proofs.Single.{at_ok, found, on_ok, single_leaves}
 use Rattle.shredexamples.proofs.one_system.count_after_dispatch.Goals as goal
 
@@ -21,12 +19,6 @@ kind value = record { 0 = 0 }
 
 abbrev seven : Value
 seven = Count (record { 0 = pos 7 })
-
-abbrev count_id : ResourceId
-count_id = id_of (record { 0 = 0 }) 0
-
-abbrev sets : Step Value SetToSeven DataError
-sets before seen outcome after left = IfOk outcome (λ done. left count_id ≡ Some seven)
 
 abbrev number : Option Value → ℤ
 number (Some (Count count)) = count.0
@@ -38,9 +30,9 @@ returns-in-Ok-Some c =
     let y = configuration_of (dispatcher_states c.dispatch_seq.new.self) (world_held kind c.dispatch_seq.new.world) in
     let plan = dispatcher_plan c.new_dispatcher-dispatcher.result in
     let inserted = on_ok c.insert.result c.in_ok-ok-2.field-0 c.in_ok-ok-2.ensures.value c.insert.ensures.placed in
-    let ran = at_ok (λ (r : Result (Unit {0}) (DispatchError DataError)). IsSerializable (λ list. PlanRun kind sets plan list r) x y) c.dispatch_seq.result c.in_ok-ok-3.field-0 c.in_ok-ok-3.ensures.value c.dispatch_seq.ensures.dispatched.ran in
-    let held : world_held kind c.dispatch_seq.new.world count_id ≡ Some seven =
-    single_leaves kind sets count_id (Some seven) (λ before seen after left is. is) _ plan _ _ inserted.0 x y c.new-builder.ensures.plan c.new-builder.ensures.barrier inserted.2.placed
-    (c.new_dispatcher-dispatcher.ensures.plan ∙ c.build.ensures.plan) (subst (λ (ids : List ResourceId). Contains ids count_id) (sym inserted.1.same_writes) (0, omega arith, λ i. count_id)) ran in
+    let ran = at_ok (λ (r : Result (Unit {0}) (DispatchError DataError)). IsSerializable (λ list. PlanRun kind SetsToSeven plan list r) x y) c.dispatch_seq.result c.in_ok-ok-3.field-0 c.in_ok-ok-3.ensures.value c.dispatch_seq.ensures.dispatched.ran in
+    let held : world_held kind c.dispatch_seq.new.world count_at ≡ Some seven =
+    single_leaves kind SetsToSeven count_at (Some seven) (λ before seen after left is. is) _ plan _ _ inserted.0 x y c.new-builder.ensures.plan c.new-builder.ensures.barrier inserted.2.placed
+    (c.new_dispatcher-dispatcher.ensures.plan ∙ c.build.ensures.plan) (subst (λ (ids : List ResourceId). Contains ids count_at) (sym inserted.1.same_writes) (0, omega arith, λ i. count_at)) ran in
     let now : c.deref.result.now.0 ≡ pos 7 = ap (λ count. count.0) c.deref.ensures ∙ ap number (found (λ (f : _). Count f.resource.now) c.in-Ok-Some.field-0 c.in-Ok-Some.count _ c.in-Ok-Some.field-0-is c.in-Ok-Some.ensures.ok.1 ∙ ap (world_held kind c.dispatch_seq.new.world) c.count_id-2.ensures ∙ held) in
     ap (λ z. to_z w64 (of_z w64 z)) now

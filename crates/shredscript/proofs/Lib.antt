@@ -4,3 +4,4 @@ pub mod Printed
 pub mod Runs
 pub mod Rounds
 pub mod SetUp
+pub mod Tables

@@ -1,4 +1,8 @@
 //! A table of cases, run one after the other.
+ghost use Rattle.std.specs.Prelude.{◌≡◌, IfOk, OnOk};
+ghost use Rattle.std.specs.Io.KnownBytes.{Appends};
+ghost use Rattle.shredscript_text.specs.Texts.{line_of};
+ghost use Rattle.shredscript.specs.Tables.{IsTableRun, IsVerdict, count_text, verdict_text};
 
 use crate::engine::run;
 use std::alloc::Global;
@@ -23,23 +27,41 @@ pub fn run_table<T: Threads + Sync, W: Write>(
     alloc: Global,
     cases: &[Case],
     out: &mut W,
-) -> io::Result<bool> {
+) -> io::Result<bool>
+    ensures { IfOk result (λ all. IsTableRun cases.now all (W.contents out.old) (W.contents out.new)) }
+{
     let mut matching = 0;
     for case in cases {
-        let verdict = if ends_as_wanted(rt, alloc, case) {
+        let verdict = ends_as_wanted(rt, alloc, case);
+        write_verdict(out, case, verdict)?;
+        if verdict {
             matching += 1;
-            "ok"
-        } else {
-            "differs"
-        };
-        writeln!(out, "{} {verdict}", case.name)?;
+        }
     }
-    writeln!(out, "{matching} of {}", cases.len())?;
-    out.flush()?;
+    write_count(out, matching, cases.len())?;
     Ok(matching == cases.len())
 }
 
-fn ends_as_wanted<T: Threads + Sync>(rt: &T, alloc: Global, case: &Case) -> bool {
+// Writes the line of a case.
+fn write_verdict<W: Write>(out: &mut W, case: &Case, verdict: bool) -> io::Result<()>
+    ensures { OnOk result (Appends (W.contents out.old) (W.contents out.new) (line_of (verdict_text case.now verdict))) }
+{
+    let word = if verdict { "ok" } else { "differs" };
+    writeln!(out, "{} {word}", case.name)
+}
+
+// Writes the last line, and flushes.
+fn write_count<W: Write>(out: &mut W, matching: usize, cases: usize) -> io::Result<()>
+    ensures { OnOk result (Appends (W.contents out.old) (W.contents out.new) (line_of (count_text matching cases))) }
+{
+    writeln!(out, "{matching} of {cases}")?;
+    out.flush()
+}
+
+// Whether the case ends with the status and the texts that it is to have.
+fn ends_as_wanted<T: Threads + Sync>(rt: &T, alloc: Global, case: &Case) -> bool
+    ensures { IsVerdict case.now result }
+{
     let mut stdout = Vec::new(alloc);
     let mut stderr = Vec::new(alloc);
     let status = run(

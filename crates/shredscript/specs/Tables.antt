@@ -1,0 +1,45 @@
+-- What a table of cases prints.
+use Rattle.std.specs.Prelude.{◌≡◌, ◌≢◌, ◌⊎◌, ℕ, suc, Bool, true, false, nat_eq, Option, Some, List, [], ◌∷◌, ◌++◌, codes, length}
+use Rattle.std.specs.Fmt.{decimal}
+use Rattle.std.specs.Io.KnownBytes.{Appends}
+use Rattle.std.specs.List.{AllZip}
+use Rattle.shredscript_text.specs.Texts.{line_of}
+use Rattle.shredscript.specs.Runs.{HasEnded}
+use Rattle.shredscript.specs.declared.table.Case.{Case}
+
+-- The case's script was run, and ended with this status and these texts on standard output and standard error.
+pub record HasEndedWith (case : Case) (status : ℕ) (out err : List ℕ) : Type 0 where
+  pub left : Option (List ℕ)
+  pub ended : HasEnded status (Some case.script.now) left (Some []) (Some out) (Some []) (Some err)
+
+-- the case ended as it is to, or in some other way
+abbrev pub IsVerdict : Case → Bool → Type 0
+IsVerdict case true = HasEndedWith case case.status case.stdout.now case.stderr.now
+IsVerdict case false = (status : ℕ) × (out : List ℕ) × (err : List ℕ) × HasEndedWith case status out err × ((status ≢ case.status) ⊎ ((out ≢ case.stdout.now) ⊎ (err ≢ case.stderr.now)))
+
+-- whether a case ended as it is to, in words
+abbrev pub verdict_text : Case → Bool → List ℕ
+verdict_text case true = case.name.now ++ codes " " ++ codes "ok"
+verdict_text case false = case.name.now ++ codes " " ++ codes "differs"
+
+-- the lines of cases of these verdicts
+abbrev pub verdict_lines : List Case → List Bool → List ℕ
+verdict_lines (case ∷ cases) (verdict ∷ verdicts) = line_of (verdict_text case verdict) ++ verdict_lines cases verdicts
+verdict_lines _ _ = []
+
+-- how many cases ended as they are to
+abbrev pub count_of : List Bool → ℕ
+count_of [] = 0
+count_of (true ∷ verdicts) = suc (count_of verdicts)
+count_of (false ∷ verdicts) = count_of verdicts
+
+-- how many of the cases ended as they are to, in words
+abbrev pub count_text : ℕ → ℕ → List ℕ
+count_text matching cases = decimal matching ++ codes " of " ++ decimal cases
+
+-- Each case was run, a line was added for each that says whether it ended as it is to, and one that says how many did; and this says whether all did.
+pub record IsTableRun (cases : List Case) (all : Bool) (old new : Option (List ℕ)) : Type 0 where
+  pub verdicts : List Bool
+  pub are : AllZip IsVerdict cases verdicts
+  pub told : Appends old new (verdict_lines cases verdicts ++ line_of (count_text (count_of verdicts) (length cases)))
+  pub all_is : all ≡ nat_eq (count_of verdicts) (length cases)

@@ -1,5 +1,5 @@
 -- What standard output tells of a run.
-use Rattle.std.specs.Prelude.{ℕ, ℤ, ◌+◌, ◌==◌, cond, Option, Some, None, List, [], ◌∷◌, ◌++◌, slice_get, map}
+use Rattle.std.specs.Prelude.{ℕ, ℤ, ◌+◌, ◌==◌, cond, Option, Some, None, List, [], ◌∷◌, ◌++◌, length, slice_get, map}
 use Rattle.std.specs.Option.{option_map}
 use Rattle.indexmap.specs.IndexMap.{IndexMap, keys}
 use denote.Ref.{Bor}
@@ -26,6 +26,11 @@ value_line name None = []
 abbrev pub value_lines : ℕ → List (List ℕ) → Held Value → List ℕ
 value_lines place [] held = []
 value_lines place (name ∷ names) held = value_line name (number_at held place) ++ value_lines (place + 1) names held
+
+-- the bytes of a line for each of these names, with this many bytes behind the name
+abbrev pub bytes_of_lines : ℕ → List (List ℕ) → ℕ
+bytes_of_lines more [] = 0
+bytes_of_lines more (name ∷ names) = length name + more + bytes_of_lines more names
 
 -- a line for each resource that is held, and one for how the run ended
 abbrev pub report : List (List ℕ) → Held Value → Outcome → List ℕ

@@ -1,9 +1,9 @@
 //! The report of what a run left in the world.
-ghost use Rattle.std.specs.Prelude.{OnOk};
+ghost use Rattle.std.specs.Prelude.{◌≡◌, ◌+◌, ◌-◌, ◌^◌, min, OnOk};
 ghost use Rattle.std.specs.Io.KnownBytes.{Appends};
 ghost use Rattle.shred_world.specs.Worlds.{world_held};
 ghost use Rattle.shredscript_text.specs.Place.{number_at};
-ghost use Rattle.shredscript_text.specs.Report.{resource_names, report, value_line};
+ghost use Rattle.shredscript_text.specs.Report.{bytes_of_lines, resource_names, report, value_line};
 ghost use Rattle.shredscript_text.specs.Value.{kind_of};
 
 use crate::outcome::{Outcome, write_outcome, write_value};
@@ -19,8 +19,10 @@ const MOST_VALUE_BYTES: usize = 22;
 /// The most bytes of the line that says how a run ended.
 const MOST_OUTCOME_BYTES: usize = 48;
 
-/// The most bytes of a report of these resources.
-pub fn most_bytes(resources: &Resources<'_>) -> usize {
+/// The most bytes of a report of these resources, or the greatest number, where they are more.
+pub fn most_bytes(resources: &Resources<'_>) -> usize
+    ensures { result ≡ min (MOST_OUTCOME_BYTES + bytes_of_lines MOST_VALUE_BYTES (resource_names resources.now)) (2 ^ 64 - 1) }
+{
     let mut bytes = MOST_OUTCOME_BYTES;
     for name in resources.keys() {
         bytes = bytes

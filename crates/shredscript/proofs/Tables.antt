@@ -3,7 +3,7 @@ use Rattle.std.proofs.Common.{◌≡◌, ◌<◌, ◌+◌, ℕ, suc, Bool, true,
 use Rattle.std.proofs.lemmas.List.{take_more}
 use Rattle.std.specs.List.{AllZip}
 use Rattle.shredscript_text.specs.Texts.{line_of}
-use Rattle.shredscript.specs.Tables.{IsVerdict, count_of, verdict_lines, verdict_text}
+use Rattle.shredscript.specs.Tables.{IsVerdict, matching_of, verdict_lines, verdict_text}
 use Rattle.shredscript.specs.declared.table.Case.{Case}
 
 -- of each case there is a verdict
@@ -20,25 +20,25 @@ lines-more [] (v ∷ vs) case verdict are = absurd are
 lines-more (c ∷ cs) [] case verdict are = absurd are
 lines-more (c ∷ cs) (v ∷ vs) case verdict are = ap (λ rest. line_of (verdict_text c v) ++ rest) (lines-more cs vs case verdict are.1) ∙ sym (append_assoc (line_of (verdict_text c v)) (verdict_lines cs vs) (line_of (verdict_text case verdict)))
 
-count-more : (verdicts : List Bool) → count_of (verdicts ++ true ∷ []) ≡ suc (count_of verdicts)
+count-more : (verdicts : List Bool) → matching_of (verdicts ++ true ∷ []) ≡ suc (matching_of verdicts)
 count-more [] = refl
 count-more (true ∷ vs) = ap suc (count-more vs)
 count-more (false ∷ vs) = count-more vs
 
-count-stays : (verdicts : List Bool) → count_of (verdicts ++ false ∷ []) ≡ count_of verdicts
+count-stays : (verdicts : List Bool) → matching_of (verdicts ++ false ∷ []) ≡ matching_of verdicts
 count-stays [] = refl
 count-stays (true ∷ vs) = ap suc (count-stays vs)
 count-stays (false ∷ vs) = count-stays vs
 
 -- one more that ended as it is to is counted
-pub counted : (verdicts : List Bool) (verdict : Bool) (matching new : ℕ) → verdict ≡ true → new ≡ matching + 1 → matching ≡ count_of verdicts → new ≡ count_of (verdicts ++ verdict ∷ [])
+pub counted : (verdicts : List Bool) (verdict : Bool) (matching new : ℕ) → verdict ≡ true → new ≡ matching + 1 → matching ≡ matching_of verdicts → new ≡ matching_of (verdicts ++ verdict ∷ [])
 counted verdicts verdict matching new is next same =
     let one : matching + 1 ≡ suc matching = omega arith in
-    next ∙ one ∙ ap suc same ∙ sym (count-more verdicts) ∙ ap (λ v. count_of (verdicts ++ v ∷ [])) (sym is)
+    next ∙ one ∙ ap suc same ∙ sym (count-more verdicts) ∙ ap (λ v. matching_of (verdicts ++ v ∷ [])) (sym is)
 
 -- and one that did not is not
-pub not-counted : (verdicts : List Bool) (verdict : Bool) (matching new : ℕ) → verdict ≡ false → new ≡ matching → matching ≡ count_of verdicts → new ≡ count_of (verdicts ++ verdict ∷ [])
-not-counted verdicts verdict matching new is next same = next ∙ same ∙ sym (count-stays verdicts) ∙ ap (λ v. count_of (verdicts ++ v ∷ [])) (sym is)
+pub not-counted : (verdicts : List Bool) (verdict : Bool) (matching new : ℕ) → verdict ≡ false → new ≡ matching → matching ≡ matching_of verdicts → new ≡ matching_of (verdicts ++ verdict ∷ [])
+not-counted verdicts verdict matching new is next same = next ∙ same ∙ sym (count-stays verdicts) ∙ ap (λ v. matching_of (verdicts ++ v ∷ [])) (sym is)
 
 -- of the cases up to this one
 module _ (cases : List Case) (index : ℕ) (default : Case) (below : index < length cases) (verdicts : List Bool) (verdict : Bool) (are : AllZip IsVerdict (take index cases) verdicts) where

@@ -188,10 +188,10 @@ IsReported (Err (Refused number refusal)) read left old new = Keeps old new
 IsReported (Err (Unnamed id)) read left old new = Keeps old new
 
 -- A script's run ended somehow: the status says how, what it needs was read, standard output was told of it, and standard error nothing of an outcome and of an error its line, or a beginning of it.
-pub record HasEnded (status : ℕ) (script script_left out out_after err err_after : Option (List ℕ)) : Type 0 where
+pub record HasEnded (status : ℕ) (text text_left out out_after err err_after : Option (List ℕ)) : Type 0 where
   pub ending : Result Outcome ScriptError
   pub status_is : status ≡ status_of ending
-  pub read : IsReadFor ending script script_left
-  pub reported : IsReported ending script script_left out out_after
+  pub read : IsReadFor ending text text_left
+  pub reported : IsReported ending text text_left out out_after
   pub quiet : OnOk ending (Keeps err err_after)
   pub told : IfErr ending (λ error. AppendsBeginning err err_after (line_of (error_text error)))

@@ -7,17 +7,17 @@ use Rattle.shredscript_text.specs.Texts.{line_of}
 use Rattle.shredscript.specs.Runs.{HasEnded}
 use Rattle.shredscript.specs.declared.table.Case.{Case}
 
--- The case's script was run, and ended with this status and these texts on standard output and standard error.
+-- A run of the case's script may end with this status and these texts on standard output and standard error, by what `run` promises.
 pub record HasEndedWith (case : Case) (status : ℕ) (out err : List ℕ) : Type 0 where
   pub left : Option (List ℕ)
   pub ended : HasEnded status (Some case.script.now) left (Some []) (Some out) (Some []) (Some err)
 
--- the case ended as it is to, or in some other way
+-- the case's script may end as the case says, or in some other way, as for want of memory any may
 abbrev pub IsVerdict : Case → Bool → Type 0
 IsVerdict case true = HasEndedWith case case.status case.stdout.now case.stderr.now
 IsVerdict case false = (status : ℕ) × (out : List ℕ) × (err : List ℕ) × HasEndedWith case status out err × ((status ≢ case.status) ⊎ ((out ≢ case.stdout.now) ⊎ (err ≢ case.stderr.now)))
 
--- whether a case ended as it is to, in words
+-- the text of a case's line: its name, and whether it ended as it is to
 abbrev pub verdict_text : Case → Bool → List ℕ
 verdict_text case true = case.name.now ++ codes " " ++ codes "ok"
 verdict_text case false = case.name.now ++ codes " " ++ codes "differs"
@@ -27,19 +27,19 @@ abbrev pub verdict_lines : List Case → List Bool → List ℕ
 verdict_lines (case ∷ cases) (verdict ∷ verdicts) = line_of (verdict_text case verdict) ++ verdict_lines cases verdicts
 verdict_lines _ _ = []
 
--- how many cases ended as they are to
-abbrev pub count_of : List Bool → ℕ
-count_of [] = 0
-count_of (true ∷ verdicts) = suc (count_of verdicts)
-count_of (false ∷ verdicts) = count_of verdicts
+-- how many of these verdicts say that a case ended as it is to
+abbrev pub matching_of : List Bool → ℕ
+matching_of [] = 0
+matching_of (true ∷ verdicts) = suc (matching_of verdicts)
+matching_of (false ∷ verdicts) = matching_of verdicts
 
--- how many of the cases ended as they are to, in words
+-- the text of the last line: how many of so many cases ended as they are to
 abbrev pub count_text : ℕ → ℕ → List ℕ
-count_text matching cases = decimal matching ++ codes " of " ++ decimal cases
+count_text matching number = decimal matching ++ codes " of " ++ decimal number
 
--- Each case was run, a line was added for each that says whether it ended as it is to, and one that says how many did; and this says whether all did.
+-- There is a verdict of each case; a line was added for each, and one that says how many ended as they are to; and this says whether all did.
 pub record IsTableRun (cases : List Case) (all : Bool) (old new : Option (List ℕ)) : Type 0 where
   pub verdicts : List Bool
   pub are : AllZip IsVerdict cases verdicts
-  pub told : Appends old new (verdict_lines cases verdicts ++ line_of (count_text (count_of verdicts) (length cases)))
-  pub all_is : all ≡ nat_eq (count_of verdicts) (length cases)
+  pub told : Appends old new (verdict_lines cases verdicts ++ line_of (count_text (matching_of verdicts) (length cases)))
+  pub all_is : all ≡ nat_eq (matching_of verdicts) (length cases)

@@ -13,13 +13,13 @@ use shred_world::World;
 use std::io;
 use std::io::Write;
 
-/// The most bytes of a line of a report behind the name: `=`, a number of 64 bits with sign and a line feed.
+/// As many bytes as a line of a report may have behind the name: `=`, a number of 64 bits with sign and a line feed.
 const MOST_VALUE_BYTES: usize = 22;
 
-/// The most bytes of the line that says how a run ended.
+/// At least as many bytes as the line has that says how a run ended.
 const MOST_OUTCOME_BYTES: usize = 48;
 
-/// The most bytes of a report of these resources, or the greatest number, where they are more.
+/// At least as many bytes as a report of these resources has, or the greatest number, where they are more.
 pub fn most_bytes(resources: &Resources<'_>) -> usize
     ensures { result ≡ min (MOST_OUTCOME_BYTES + bytes_of_lines MOST_VALUE_BYTES (resource_names resources.now)) (2 ^ 64 - 1) }
 {

@@ -1,7 +1,7 @@
 use Rattle.std.proofs.Common.{◌≡◌, ◌≤◌, Bool, List, take}
 use Rattle.std.specs.List.{AllZip}
 use Rattle.std.specs.Io.KnownBytes.{Appends}
-use Rattle.shredscript.specs.Tables.{IsVerdict, count_of, verdict_lines}
+use Rattle.shredscript.specs.Tables.{IsVerdict, matching_of, verdict_lines}
 use Rattle.shredscript.proofs.table.run_table.Given as goal
 
 abbrev pub invariant-loop-case : goal.invariant-loop-case
@@ -9,6 +9,6 @@ invariant-loop-case g l = record {
   verdicts : List Bool;
   are : AllZip IsVerdict (take l.case-index l.cases) verdicts;
   written : Appends (g.W.Write.contents l.initial.out) (g.W.Write.contents l.out) (verdict_lines (take l.case-index l.cases) verdicts);
-  matching : l.matching ≡ count_of verdicts;
+  matching : l.matching ≡ matching_of verdicts;
   few : l.matching ≤ l.case-index;
 }

@@ -1,5 +1,5 @@
 -- Two bundles, one after the other: what the parts of both show, move out and give back.
-use Rattle.std.proofs.Common.{◌≡◌, Option, None, List, ◌++◌, inl, subst, sym, ◌∙◌, ap}
+use Rattle.std.proofs.Common.{◌≡◌, Bool, Option, None, List, ◌++◌, inl, subst, sym, ◌∙◌, ap}
 use Rattle.std.specs.Prelude.{Result, Ok}
 use Rattle.shred_table.specs.declared.id.ResourceId.{ResourceId}
 use Rattle.shred_world.specs.declared.world.WorldError.{WorldError}
@@ -33,8 +33,8 @@ module _ {V : Type 0} where
   given_again g h k l ps ms taken moved first same returned = returned ∙ taken_as_before g k ps ms (same ∙ taken) moved first
 
   -- two bundles are given back, the last one first
-  pub out_last : (g : Grant V) (ms ns : Moved V) → AreOut g.out (ids_of (ms ++ ns)) → AreOut g.out (ids_of ns)
-  out_last g ms ns out = out_later g.out (ids_of ms) (ids_of ns) (subst (AreOut g.out) (ids_append ms ns) out)
+  pub out_last : (is_out : ResourceId → Bool) (ms ns : Moved V) → AreOut is_out (ids_of (ms ++ ns)) → AreOut is_out (ids_of ns)
+  out_last is_out ms ns out = out_later is_out (ids_of ms) (ids_of ns) (subst (AreOut is_out) (ids_append ms ns) out)
 
   pub out_first : (g h : Grant V) (ms ns : Moved V) → h ≡ given_back g ns → AreOut g.out (ids_of (ms ++ ns)) → AreOut h.out (ids_of ms)
   out_first g h ms ns returned out = subst (λ (k : Grant V). AreOut k.out (ids_of ms)) (sym returned) (out_earlier g (ids_of ms) ns (subst (AreOut g.out) (ids_append ms ns) out))

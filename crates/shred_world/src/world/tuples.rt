@@ -118,6 +118,7 @@ impl<'s, V: ResourceValue, A: SystemData<'s, V>, B: SystemData<'s, V>> SystemDat
         }
     }
 
+    #[tactic(auto, using(crate::proofs::Bundles::Both::out_last, crate::proofs::Bundles::Both::out_first, crate::proofs::Bundles::Both::given_both))]
     fn give_back(self, view: &mut View<'s, '_, V>) {
         let (a, b) = self;
         b.give_back(view);
@@ -178,6 +179,7 @@ impl<
         }
     }
 
+    #[tactic(auto, using(crate::proofs::Bundles::Both::out_last, crate::proofs::Bundles::Both::out_first, crate::proofs::Bundles::Both::given_both))]
     fn give_back(self, view: &mut View<'s, '_, V>) {
         let (a, b, c) = self;
         c.give_back(view);
@@ -239,6 +241,7 @@ impl<
         }
     }
 
+    #[tactic(auto, using(crate::proofs::Bundles::Both::out_last, crate::proofs::Bundles::Both::out_first, crate::proofs::Bundles::Both::given_both))]
     fn give_back(self, view: &mut View<'s, '_, V>) {
         let (a, b, c, d) = self;
         d.give_back(view);
@@ -301,6 +304,7 @@ impl<
         }
     }
 
+    #[tactic(auto, using(crate::proofs::Bundles::Both::out_last, crate::proofs::Bundles::Both::out_first, crate::proofs::Bundles::Both::given_both))]
     fn give_back(self, view: &mut View<'s, '_, V>) {
         let (a, b, c, d, e) = self;
         (d, e).give_back(view);
@@ -366,6 +370,7 @@ impl<
         }
     }
 
+    #[tactic(auto, using(crate::proofs::Bundles::Both::out_last, crate::proofs::Bundles::Both::out_first, crate::proofs::Bundles::Both::given_both))]
     fn give_back(self, view: &mut View<'s, '_, V>) {
         let (a, b, c, d, e, f) = self;
         (d, e, f).give_back(view);
@@ -432,6 +437,7 @@ impl<
         }
     }
 
+    #[tactic(auto, using(crate::proofs::Bundles::Both::out_last, crate::proofs::Bundles::Both::out_first, crate::proofs::Bundles::Both::given_both))]
     fn give_back(self, view: &mut View<'s, '_, V>) {
         let (a, b, c, d, e, f, g) = self;
         (e, f, g).give_back(view);
@@ -499,6 +505,7 @@ impl<
         }
     }
 
+    #[tactic(auto, using(crate::proofs::Bundles::Both::out_last, crate::proofs::Bundles::Both::out_first, crate::proofs::Bundles::Both::given_both))]
     fn give_back(self, view: &mut View<'s, '_, V>) {
         let (a, b, c, d, e, f, g, h) = self;
         (e, f, g, h).give_back(view);

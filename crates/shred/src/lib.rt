@@ -117,10 +117,9 @@ pub use dispatch::dispatcher::{Dispatcher, new_dispatcher};
 pub use dispatch::names::SystemNames;
 pub use dispatch::nests::Nests;
 pub use shred_batch::{BatchController, MultiDispatchController, MultiDispatcher};
-pub use shred_names::AddError;
 pub use shred_stage::{
-    Fault, Holds, NoBatch, Occupant, PlanSink, PrintError, RunningTime, RunsInOrder, Settles,
-    SinkFailed, Stage, StageFault, StagesBuilder, System, SystemId, ToWriter,
+    AddError, Fault, Holds, NoBatch, Occupant, PlanSink, PrintError, RunningTime, RunsInOrder,
+    Settles, SinkFailed, Stage, StageFault, StagesBuilder, System, SystemId, ToWriter,
 };
 pub use shred_systems::{DispatchError, Now, OneOf, Plain, PlainSystem, RunNow, ThreadLocal};
 pub use shred_works::{Batched, WithBatches};

@@ -3,3 +3,4 @@ pub mod LeastNames
 pub mod Unnamed
 pub mod Prints
 pub mod Sinks
+pub mod Known

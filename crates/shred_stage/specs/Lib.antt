@@ -17,3 +17,4 @@ pub mod EntriesAt
 pub mod Setups
 pub mod Inner
 pub mod Inserted
+pub mod Refusals

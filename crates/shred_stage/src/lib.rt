@@ -1,8 +1,11 @@
-//! The planner that gives systems a place, stages, which run them, and the plan's text.
+//! The planner that gives systems a place, stages, which run them, the plan's text, and the names of a builder's systems.
 #![tactic(auto)]
 
+pub mod add_error;
 pub mod dispatch;
+pub mod look_up;
 
+pub use add_error::AddError;
 pub use dispatch::printing::PrintError;
 pub use dispatch::sink::{PlanSink, SinkFailed, ToWriter};
 pub use dispatch::stage::Stage;

@@ -5,9 +5,9 @@ use Rattle.shred.specs.Built.{IsAddition, IsNewBuilt}
 use Rattle.shred_batch.specs.declared.work.Work.TheVariants.{System as a_system}
 use Rattle.shred.specs.Batches.{IsBatchAddition}
 use Rattle.shred_group.specs.declared.system.RunningTime.TheVariants.{VeryLong}
-use Rattle.shred_names.specs.Refusals.{IsBatchRefusal, MayAdd}
-use Rattle.shred_names.specs.declared.add_error.AddError.{AddError}
-use Rattle.shred_names.specs.declared.add_error.AddError.TheVariants.{NoSuchSystem, NameTaken, IdsExhausted, OutOfMemory, ThreadLocalInBatch}
+use Rattle.shred_stage.specs.Refusals.{IsBatchRefusal, MayAdd}
+use Rattle.shred_stage.specs.declared.add_error.AddError.{AddError}
+use Rattle.shred_stage.specs.declared.add_error.AddError.TheVariants.{NoSuchSystem, NameTaken, IdsExhausted, OutOfMemory, ThreadLocalInBatch}
 use Rattle.shredscript_text.specs.Endings.{add_error}
 use Rattle.shredscript_text.specs.declared.error.ScriptError.{ScriptError}
 use Rattle.shredscript_text.specs.declared.script.BatchLine.{BatchLine}

@@ -1,3 +1,6 @@
+pub mod Operation
+pub mod Change
+pub mod Steps
 pub mod Lines
 pub mod PlanTexts
 pub mod Runs

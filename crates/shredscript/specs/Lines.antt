@@ -7,10 +7,10 @@ use Rattle.shred_batch.specs.declared.work.Nested.{Nested}
 use Rattle.shred_batch.specs.declared.work.Work.{Work}
 use Rattle.shred_batch.specs.declared.work.Work.TheVariants.{System as a_system}
 use Rattle.shred_group.specs.declared.system.RunningTime.TheVariants.{VeryLong}
-use Rattle.shred_names.specs.Refusals.{IsBatchRefusal, IsRefusal, MayAdd}
+use Rattle.shred_stage.specs.Refusals.{IsBatchRefusal, IsRefusal, MayAdd}
 use Rattle.shred_stage.specs.Known.{texts_of}
-use Rattle.shred_names.specs.declared.add_error.AddError.{AddError}
-use Rattle.shred_names.specs.declared.add_error.AddError.TheVariants as builder
+use Rattle.shred_stage.specs.declared.add_error.AddError.{AddError}
+use Rattle.shred_stage.specs.declared.add_error.AddError.TheVariants as builder
 use Rattle.shredscript.specs.declared.batch.ScriptBatch.{ScriptBatch}
 use Rattle.shredscript_text.specs.declared.error.AddRefusal.{AddRefusal}
 use Rattle.shredscript_text.specs.declared.error.AddRefusal.TheVariants.{NoSuchSystem, NameTaken, IdsExhausted, ThreadLocalInBatch}

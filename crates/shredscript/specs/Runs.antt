@@ -32,7 +32,7 @@ use Rattle.shredscript_text.specs.Input.{IsLongerThan}
 use Rattle.shredscript.specs.Lines.{IsBuiltBy, IsNotBuilt, ScriptBuilt, ScriptWork}
 use Rattle.shredscript.specs.PlanTexts.{IsPlanPart}
 use Rattle.shredscript_text.specs.Report.{first_held, resource_names, report}
-use Rattle.shredscript_steps.specs.Steps.{steps_left, steps_outcome}
+use Rattle.shredscript.specs.Steps.{steps_left, steps_outcome}
 use Rattle.shredscript_text.specs.Scripts.{IsScriptOf}
 use Rattle.shredscript_text.specs.Texts.{error_text, line_of}
 use Rattle.shredscript_text.specs.Value.{kind_of}

@@ -1,12 +1,15 @@
-//! The engine of the script language: the plan that the lines of a script make, its runs, and what is printed of it.
+//! The engine of the script language: the steps of a script's systems, the plan that its lines make, its runs, and what is printed of it.
 #![tactic(auto)]
 
+mod arithmetic;
 mod batch;
 mod build;
+mod declared;
 mod engine;
 mod local;
 mod plan_text;
 mod run_plan;
+mod stepping;
 mod system;
 mod table;
 

@@ -1,9 +1,9 @@
 //! A script's thread-local systems, as they are run.
 ghost use Rattle.std.specs.Prelude.{◌≡◌, ⊤, Ok, IfOk};
-ghost use Rattle.shredscript_steps.specs.Steps.{steps_outcome, steps_left};
+ghost use Rattle.shredscript.specs.Steps.{steps_outcome, steps_left};
 
+use crate::stepping::run_steps;
 use shred::{Fault, LocalWorld, RunNow, World};
-use shredscript_steps::stepping::run_steps;
 use shredscript_text::outcome::Refusal;
 use shredscript_text::step::Step;
 use shredscript_text::value::Value;

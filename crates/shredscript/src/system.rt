@@ -1,11 +1,11 @@
 //! A script's systems, as they are dispatched.
 ghost use Rattle.std.specs.Prelude.{◌≡◌, Ok, IfOk};
 ghost use Rattle.shredscript_text.specs.Declares.{read_ids, write_ids};
-ghost use Rattle.shredscript_steps.specs.Steps.{steps_outcome, steps_left};
+ghost use Rattle.shredscript.specs.Steps.{steps_outcome, steps_left};
 
+use crate::declared::Declared;
+use crate::stepping::run_steps;
 use shred::{Fault, OutOfMemory, RunningTime, System, View, World};
-use shredscript_steps::declared::Declared;
-use shredscript_steps::stepping::run_steps;
 use shredscript_text::outcome::Refusal;
 use shredscript_text::step::Step;
 use shredscript_text::value::Value;

@@ -1,7 +1,7 @@
 -- How a script's run ends: with the outcome of its dispatch, or with an error.
 use Rattle.std.specs.Prelude.{ℕ, Result, Ok, Err}
-use Rattle.shred_names.specs.declared.add_error.AddError.{AddError}
-use Rattle.shred_names.specs.declared.add_error.AddError.TheVariants as builder
+use Rattle.shred_stage.specs.declared.add_error.AddError.{AddError}
+use Rattle.shred_stage.specs.declared.add_error.AddError.TheVariants as builder
 use Rattle.shred_systems.specs.declared.dispatch_error.DispatchError.{DispatchError}
 use Rattle.shred_systems.specs.declared.dispatch_error.DispatchError.TheVariants.{System as at_system, ThreadLocal, StageMemory as at_stage}
 use Rattle.shred_group.specs.declared.system.Fault.{Fault}

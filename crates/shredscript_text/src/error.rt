@@ -3,7 +3,7 @@ ghost use Rattle.std.specs.Prelude.{◌≡◌};
 ghost use Rattle.shredscript_text.specs.declared.error.ScriptError.TheVariants.{OutOfMemory as NoMemory};
 ghost use Rattle.shredscript_text.specs.Endings.{add_error, error_at, error_status};
 
-use shred_names::AddError;
+use shred_stage::AddError;
 use shred_world::OutOfMemory;
 use std::alloc::AllocError;
 use std::error::Error as StdError;

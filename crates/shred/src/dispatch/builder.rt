@@ -11,7 +11,7 @@ ghost use Rattle.shred_stage.specs.BuilderPlan.{planned, barrier_of, builder_sta
 ghost use Rattle.shred.specs.Built.{IsAddition, IsBarrierSet, IsConsistent, IsEntryAdded, IsLocalAdded, IsNewBuilt, IsPoolSet, IsSameBuilt};
 ghost use Rattle.shred_group.specs.OwnLists.{IsEntryOf};
 ghost use Rattle.shred_group.specs.PlanOf.{entry_plan};
-ghost use Rattle.shred_names.specs.Refusals.{IsBatchRefusal, IsRefusal, MayAdd};
+ghost use Rattle.shred_stage.specs.Refusals.{IsBatchRefusal, IsRefusal, MayAdd};
 ghost use Rattle.shred.specs.Dispatchers.{dispatcher_locals, dispatcher_plan, dispatcher_states, dispatcher_workers};
 ghost use Rattle.shred.specs.SystemNames.{names_known, names_pairs};
 ghost use Rattle.shred_systems.specs.ThreadLocals.{systems_of};
@@ -26,13 +26,12 @@ use crate::dispatch::dispatcher::{Dispatcher, new_dispatcher};
 use crate::dispatch::names::SystemNames;
 use shred_batch::Tier;
 use shred_group::dispatch::entry::SystemEntry;
-use shred_names::AddError;
-use shred_names::look_up::{enter, forget, ids_of, may_add};
 use shred_stage::dispatch::inner::tiers_of;
 use shred_stage::dispatch::printing::print_with_end;
 use shred_stage::dispatch::stages_builder::kept_entry;
+use shred_stage::look_up::{enter, forget, ids_of, may_add};
 use shred_stage::{
-    Holds, NoBatch, Occupant, PlanSink, PrintError, StagesBuilder, System, SystemId,
+    AddError, Holds, NoBatch, Occupant, PlanSink, PrintError, StagesBuilder, System, SystemId,
 };
 use shred_systems::{Now, ThreadLocal};
 use shred_world::{OutOfMemory, ResourceValue};

@@ -1,7 +1,7 @@
 use Rattle.std.proofs.Common.{[], ◌∷◌, ap, inr, map, subst, ◌∙◌}
 use Rattle.std.proofs.lemmas.List.{map-append}
 use Rattle.shred.specs.Builders.{built}
-use Rattle.shred_names.specs.Refusals.{IsBatchRefusal}
+use Rattle.shred_stage.specs.Refusals.{IsBatchRefusal}
 use Rattle.shred_stage.specs.Known.{texts_of}
 use Rattle.shredscript.specs.Building.{begun}
 use Rattle.shredscript.specs.Lines.{batch_needs}

@@ -1,7 +1,7 @@
 use Rattle.std.proofs.Common.{◌≡◌, ◌∙◌, ap, sym}
 use Rattle.shred_table.specs.Slots.{among}
 use Rattle.shredscript_text.specs.Declares.{write_ids}
-use Rattle.shredscript_steps.proofs.Declares.{MayWrite-each}
+use Rattle.shredscript.proofs.Declares.{MayWrite-each}
 use Rattle.shredscript.proofs.system.ScriptSystemSystemValue.run.Goals as goal
 
 pub run_steps-requires-clause-writes : goal.run_steps-requires-clause-writes

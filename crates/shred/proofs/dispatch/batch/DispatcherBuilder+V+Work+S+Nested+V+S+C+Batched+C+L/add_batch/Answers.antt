@@ -1,6 +1,6 @@
 use Rattle.std.proofs.Common.{sym, subst}
 use Rattle.std.proofs.lemmas.Result.{IfErr-weaker, on_ok_weaker}
-use Rattle.shred_names.specs.Refusals.{IsBatchRefusal}
+use Rattle.shred_stage.specs.Refusals.{IsBatchRefusal}
 use Rattle.shred_stage.specs.Known.{texts_of}
 use Rattle.shred.specs.Builders.{built}
 use Rattle.shred.proofs.dispatch.batch.DispatcherBuilder+V+Work+S+Nested+V+S+C+Batched+C+L.add_batch.Goals as goal

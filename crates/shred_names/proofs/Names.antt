@@ -1,2 +1,0 @@
--- Names of systems.
-pub mod Known

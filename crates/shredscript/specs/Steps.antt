@@ -1,0 +1,49 @@
+-- What the steps of a system do, in order, to the values that are seen.
+use Rattle.std.specs.Prelude.{ℕ, ℤ, Some, cond, List, [], ◌∷◌, Result, Ok, Err, is_ok}
+use Rattle.std.specs.Result.{result_and}
+use Rattle.shred_world.specs.Worked.{Held}
+use Rattle.shred_group.specs.declared.system.Fault.{Fault}
+use Rattle.shred_group.specs.declared.system.Fault.TheVariants.{Refused}
+use Rattle.shred_group.specs.Steps.{Outcome}
+use Rattle.shred_table.specs.Slots.{with_at}
+use Rattle.shredscript_text.specs.declared.outcome.Refusal.{Refusal}
+use Rattle.shredscript_text.specs.declared.outcome.Refusal.TheVariants.{Code}
+use Rattle.shredscript_text.specs.declared.step.Step.{Step}
+use Rattle.shredscript_text.specs.declared.step.Step.TheVariants.{Change, Read, Write, Refuse}
+use Rattle.shredscript_text.specs.declared.value.Value.{Value}
+use Rattle.shredscript.specs.Change.{changed}
+use Rattle.shredscript_text.specs.Place.{id_at}
+
+-- a change is Done where there is a new number, and is refused where there is none
+abbrev pub change_outcome : Result ℤ (Fault Refusal) → Outcome Refusal
+change_outcome (Ok number) = Ok tt
+change_outcome (Err fault) = Err fault
+
+-- the values with the new number at the target, or as they were where there is none
+abbrev pub change_left : Held Value → ℕ → Result ℤ (Fault Refusal) → Held Value
+change_left seen target (Ok number) = with_at seen (id_at target) (Some (record { 0 = number }))
+change_left seen target (Err fault) = seen
+
+-- how one step ends on these values
+abbrev pub step_outcome : Step → Held Value → Outcome Refusal
+step_outcome (Change target operation operand) seen = change_outcome (changed seen target operation operand)
+step_outcome (Read place) seen = Ok tt
+step_outcome (Write place) seen = Ok tt
+step_outcome (Refuse code) seen = Err (Refused (Code code))
+
+-- the values that one step leaves of these
+abbrev pub step_left : Step → Held Value → Held Value
+step_left (Change target operation operand) seen = change_left seen target (changed seen target operation operand)
+step_left (Read place) seen = seen
+step_left (Write place) seen = seen
+step_left (Refuse code) seen = seen
+
+-- how the steps end, in order: as the first that is refused, or Done where none is
+abbrev pub steps_outcome : List Step → Held Value → Outcome Refusal
+steps_outcome [] seen = Ok tt
+steps_outcome (step ∷ steps) seen = result_and (step_outcome step seen) (steps_outcome steps (step_left step seen))
+
+-- the values that the steps leave, in order: no step after the first that is refused does anything
+abbrev pub steps_left : List Step → Held Value → Held Value
+steps_left [] seen = seen
+steps_left (step ∷ steps) seen = cond (is_ok (step_outcome step seen)) (steps_left steps (step_left step seen)) (step_left step seen)

@@ -1,0 +1,106 @@
+//! Steps that run in order, up to the first that refuses.
+ghost use Rattle.std.specs.Prelude.{◌≡◌};
+ghost use Rattle.std.specs.List.{All};
+ghost use Rattle.std.specs.Option.{ok_or};
+ghost use Rattle.shred_group.specs.declared.system.Fault.TheVariants.{Refused};
+ghost use Rattle.shredscript_text.specs.declared.outcome.Refusal.TheVariants.{Undeclared};
+ghost use Rattle.shredscript.specs.Change.{changed, operand_number};
+ghost use Rattle.shredscript_text.specs.Declares.{AllowsStep};
+ghost use Rattle.shredscript.specs.Steps.{change_outcome, change_left, step_outcome, step_left, steps_outcome, steps_left};
+
+use crate::arithmetic::apply;
+use shred_group::Fault;
+use shredscript_text::numbers::Numbers;
+use shredscript_text::outcome::Refusal;
+use shredscript_text::step::{Operand, Operation, Step};
+
+/// Runs the steps over the numbers, up to the first that refuses, which the answer tells.
+pub fn run_steps<N: Numbers>(steps: &[Step], numbers: &mut N) -> Result<(), Fault<Refusal>>
+    requires writes { All (AllowsStep N.allows numbers.old) steps.now }
+    requires is_ready { N.is_ready numbers.old }
+    ensures outcome { result ≡ steps_outcome steps.now (N.seen numbers.old) }
+    ensures left { N.seen numbers.new ≡ steps_left steps.now (N.seen numbers.old) }
+    ensures keeps { N.keeps numbers.old numbers.new }
+{
+    for step in steps {
+        if let Err(fault) = run_step(*step, numbers) {
+            return Err(fault);
+        }
+    }
+    Ok(())
+}
+
+/// Runs one step.
+fn run_step<N: Numbers>(step: Step, numbers: &mut N) -> Result<(), Fault<Refusal>>
+    requires writes { AllowsStep N.allows numbers.old step }
+    requires is_ready { N.is_ready numbers.old }
+    ensures outcome { result ≡ step_outcome step (N.seen numbers.old) }
+    ensures left { N.seen numbers.new ≡ step_left step (N.seen numbers.old) }
+    ensures keeps { N.keeps numbers.old numbers.new }
+{
+    match step {
+        Step::Read(_) | Step::Write(_) => Ok(()),
+        Step::Refuse(code) => Err(Fault::Refused(Refusal::Code(code))),
+        Step::Change {
+            target,
+            operation,
+            operand,
+        } => change(numbers, target, operation, operand),
+    }
+}
+
+fn change<N: Numbers>(
+    numbers: &mut N,
+    target: usize,
+    operation: Operation,
+    operand: Operand,
+) -> Result<(), Fault<Refusal>>
+    requires writes { N.allows numbers.old target }
+    requires is_ready { N.is_ready numbers.old }
+    ensures outcome { result ≡ change_outcome (changed (N.seen numbers.old) target operation operand) }
+    ensures left { N.seen numbers.new ≡ change_left (N.seen numbers.old) target (changed (N.seen numbers.old) target operation operand) }
+    ensures keeps { N.keeps numbers.old numbers.new }
+{
+    match changed(numbers, target, operation, operand) {
+        Ok(number) => {
+            numbers.set(target, number);
+            Ok(())
+        }
+        Err(fault) => Err(fault),
+    }
+}
+
+/// The number that a change gives its target.
+fn changed<N: Numbers>(
+    numbers: &N,
+    target: usize,
+    operation: Operation,
+    operand: Operand,
+) -> Result<i64, Fault<Refusal>>
+    requires { N.is_ready numbers.now }
+    ensures { result ≡ changed (N.seen numbers.now) target operation operand }
+{
+    let operand = match operand_number(numbers, operand) {
+        Ok(number) => number,
+        Err(fault) => return Err(fault),
+    };
+    let value = match numbers.number(target) {
+        Ok(number) => number,
+        Err(fault) => return Err(fault),
+    };
+    match apply(operation, value, operand) {
+        Some(next) => Ok(next),
+        None => Err(Fault::Refused(Refusal::Overflow)),
+    }
+}
+
+/// The number that an operand stands for.
+fn operand_number<N: Numbers>(numbers: &N, operand: Operand) -> Result<i64, Fault<Refusal>>
+    requires { N.is_ready numbers.now }
+    ensures { result ≡ ok_or (operand_number (N.seen numbers.now) operand) (Refused Undeclared) }
+{
+    match operand {
+        Operand::Number(number) => Ok(number),
+        Operand::Resource(source) => numbers.number(source),
+    }
+}

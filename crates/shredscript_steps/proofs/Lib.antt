@@ -1,3 +1,0 @@
-pub mod Changed
-pub mod Declares
-pub mod InOrder

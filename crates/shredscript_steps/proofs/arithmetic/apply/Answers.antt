@@ -1,5 +1,0 @@
-use Rattle.std.proofs.Common.{rules}
-use Rattle.shredscript_steps.proofs.arithmetic.apply.Goals as goal
-
-pub returns-in-Add : goal.returns-in-Add
-returns-in-Add c = search rules

@@ -1,3 +1,0 @@
-pub mod Operation
-pub mod Change
-pub mod Steps

@@ -5,6 +5,7 @@ pub mod FramedRuns
 pub mod GroupsWithin
 pub mod HandSlots
 pub mod KeptPlaces
+pub mod Places
 pub mod OwnSlots
 pub mod StepRecord
 pub mod Sweeps

@@ -9,7 +9,7 @@ ghost use Rattle.shred_group.specs.Hands.{HasEntryRoom, HasPlace};
 ghost use Rattle.shred_group.specs.OwnLists.{IsEntryOf};
 ghost use Rattle.shred_group.specs.OwnSlots.{lent_before, HasJustSlots, HasOnlySlots, HasGroupSlots};
 ghost use Rattle.shred_group.specs.PlanOf.{access_of, entry_plan};
-ghost use Rattle.shred_group.specs.Steps.{declared_of};
+ghost use Rattle.shred_group.specs.Steppers.{IsStepBy};
 ghost use Rattle.shred_table.specs.declared.id.ResourceId.{ResourceId};
 ghost use Rattle.shred_table.specs.Shown.{shown, HasOwnSlots, IsSameSlots};
 ghost use Rattle.shred_table.specs.Slots.{among};
@@ -60,11 +60,7 @@ fn step_over<'s, V: ResourceValue, X, E, T: Stepper<V, X, E>>(
     requires own_lists { T.may_keep by.now work.old reads.now writes.now }
     requires own_slots { HasOwnSlots writes.now (lent_slot shelf.now) own.old }
     requires only_own { HasOnlySlots writes.now own.old }
-    ensures step { T.step by.now work.old (declared_of (record { reads = reads.now; writes = writes.now }) (shown V.kind_of (lent_slot shelf.now) own.old)) result work.new (declared_of (record { reads = reads.now; writes = writes.now }) (shown V.kind_of (lent_slot shelf.now) own.new)) }
-    ensures kinds { (id : ResourceId) → option_map V.kind_of (shown V.kind_of (lent_slot shelf.now) own.new id) ≡ option_map V.kind_of (shown V.kind_of (lent_slot shelf.now) own.old id) }
-    ensures slots { IsSameSlots own.old own.new }
-    ensures frame { (id : ResourceId) → among writes.now id ≡ false → shown V.kind_of (lent_slot shelf.now) own.new id ≡ shown V.kind_of (lent_slot shelf.now) own.old id }
-    ensures own_lists { T.may_keep by.now work.new reads.now writes.now }
+    ensures stepped { IsStepBy V.kind_of (T.may_keep by.now) (T.step by.now) reads.now writes.now (lent_slot shelf.now) work.old own.old result work.new own.new }
 {
     let loan = Loan {
         reads,
@@ -87,10 +83,7 @@ fn step_in_hand<V: ResourceValue, X, E, T: Stepper<V, X, E>>(
     requires own_slots { HasOwnSlots entry.old.writes.items (lent_before own.now (lent_slot shelf.now)) entry.old.hand }
     requires only_own { HasOnlySlots entry.old.writes.items entry.old.hand }
     requires just_slots { HasJustSlots written.now own.now }
-    ensures step { T.step by.now entry.old.system (declared_of (access_of entry.old) (shown V.kind_of (lent_before own.now (lent_slot shelf.now)) entry.old.hand)) result entry.new.system (declared_of (access_of entry.old) (shown V.kind_of (lent_before own.now (lent_slot shelf.now)) entry.new.hand)) }
-    ensures kinds { (id : ResourceId) → option_map V.kind_of (shown V.kind_of (lent_before own.now (lent_slot shelf.now)) entry.new.hand id) ≡ option_map V.kind_of (shown V.kind_of (lent_before own.now (lent_slot shelf.now)) entry.old.hand id) }
-    ensures slots { IsSameSlots entry.old.hand entry.new.hand }
-    ensures frame { (id : ResourceId) → among entry.old.writes.items id ≡ false → shown V.kind_of (lent_before own.now (lent_slot shelf.now)) entry.new.hand id ≡ shown V.kind_of (lent_before own.now (lent_slot shelf.now)) entry.old.hand id }
+    ensures stepped { IsStepBy V.kind_of (T.may_keep by.now) (T.step by.now) entry.old.reads.items entry.old.writes.items (lent_before own.now (lent_slot shelf.now)) entry.old.system entry.old.hand result entry.new.system entry.new.hand }
     ensures plan { entry_plan entry.new ≡ entry_plan entry.old }
     ensures writes { entry.new.writes ≡ entry.old.writes }
     ensures own_lists { T.may_keep by.now entry.new.system entry.new.reads.items entry.new.writes.items }
@@ -120,10 +113,7 @@ fn step<V: ResourceValue + Drop, X, E, T: Stepper<V, X, E>>(
     requires own_slots { HasOwnSlots entry.old.writes.items (lent_slot shelf.now) own.old }
     requires just_slots { HasJustSlots written.now own.old }
     requires room { HasEntryRoom own.old entry.old }
-    ensures step { T.step by.now entry.old.system (declared_of (access_of entry.old) (shown V.kind_of (lent_slot shelf.now) own.old)) result entry.new.system (declared_of (access_of entry.old) (shown V.kind_of (lent_slot shelf.now) own.new)) }
-    ensures kinds { (id : ResourceId) → option_map V.kind_of (shown V.kind_of (lent_slot shelf.now) own.new id) ≡ option_map V.kind_of (shown V.kind_of (lent_slot shelf.now) own.old id) }
-    ensures slots { IsSameSlots own.old own.new }
-    ensures frame { (id : ResourceId) → among entry.old.writes.items id ≡ false → shown V.kind_of (lent_slot shelf.now) own.new id ≡ shown V.kind_of (lent_slot shelf.now) own.old id }
+    ensures stepped { IsStepBy V.kind_of (T.may_keep by.now) (T.step by.now) entry.old.reads.items entry.old.writes.items (lent_slot shelf.now) entry.old.system own.old result entry.new.system own.new }
     ensures plan { entry_plan entry.new ≡ entry_plan entry.old }
     ensures own_lists { IsEntryOf (T.may_keep by.now) entry.new }
     ensures room { HasEntryRoom own.new entry.new }
@@ -145,10 +135,7 @@ fn step_single<V: ResourceValue, X, E, T: Stepper<V, X, E>>(
     requires own_lists { IsEntryOf (T.may_keep by.now) entry.old }
     requires own_slots { HasOwnSlots entry.old.writes.items (lent_slot shelf.now) own.old }
     requires only_own { HasOnlySlots entry.old.writes.items own.old }
-    ensures step { T.step by.now entry.old.system (declared_of (access_of entry.old) (shown V.kind_of (lent_slot shelf.now) own.old)) result entry.new.system (declared_of (access_of entry.old) (shown V.kind_of (lent_slot shelf.now) own.new)) }
-    ensures kinds { (id : ResourceId) → option_map V.kind_of (shown V.kind_of (lent_slot shelf.now) own.new id) ≡ option_map V.kind_of (shown V.kind_of (lent_slot shelf.now) own.old id) }
-    ensures slots { IsSameSlots own.old own.new }
-    ensures frame { (id : ResourceId) → among entry.old.writes.items id ≡ false → shown V.kind_of (lent_slot shelf.now) own.new id ≡ shown V.kind_of (lent_slot shelf.now) own.old id }
+    ensures stepped { IsStepBy V.kind_of (T.may_keep by.now) (T.step by.now) entry.old.reads.items entry.old.writes.items (lent_slot shelf.now) entry.old.system own.old result entry.new.system own.new }
     ensures plan { entry_plan entry.new ≡ entry_plan entry.old }
     ensures writes { entry.new.writes ≡ entry.old.writes }
     ensures own_lists { IsEntryOf (T.may_keep by.now) entry.new }
@@ -164,6 +151,7 @@ fn step_single<V: ResourceValue, X, E, T: Stepper<V, X, E>>(
 }
 
 // One step of what stands in the entry, with its hand where it is not the only one of its group.
+#[tactic(auto, using(crate::proofs::Runs::Places::place_single, crate::proofs::Runs::Places::place_several, crate::proofs::Runs::Places::several_place, crate::proofs::Runs::Places::single_place))]
 fn step_of<V: ResourceValue + Drop, X, E, T: Stepper<V, X, E>>(
     by: &T,
     entry: &mut SystemEntry<V, X>,
@@ -177,10 +165,7 @@ fn step_of<V: ResourceValue + Drop, X, E, T: Stepper<V, X, E>>(
     requires own_slots { HasOwnSlots entry.old.writes.items (lent_slot shelf.now) own.old }
     requires just_slots { HasJustSlots written.now own.old }
     requires place { HasPlace single own.old entry.old }
-    ensures step { T.step by.now entry.old.system (declared_of (access_of entry.old) (shown V.kind_of (lent_slot shelf.now) own.old)) result entry.new.system (declared_of (access_of entry.old) (shown V.kind_of (lent_slot shelf.now) own.new)) }
-    ensures kinds { (id : ResourceId) → option_map V.kind_of (shown V.kind_of (lent_slot shelf.now) own.new id) ≡ option_map V.kind_of (shown V.kind_of (lent_slot shelf.now) own.old id) }
-    ensures slots { IsSameSlots own.old own.new }
-    ensures frame { (id : ResourceId) → among entry.old.writes.items id ≡ false → shown V.kind_of (lent_slot shelf.now) own.new id ≡ shown V.kind_of (lent_slot shelf.now) own.old id }
+    ensures stepped { IsStepBy V.kind_of (T.may_keep by.now) (T.step by.now) entry.old.reads.items entry.old.writes.items (lent_slot shelf.now) entry.old.system own.old result entry.new.system own.new }
     ensures plan { entry_plan entry.new ≡ entry_plan entry.old }
     ensures own_lists { IsEntryOf (T.may_keep by.now) entry.new }
     ensures place { HasPlace single own.new entry.new }

@@ -8,8 +8,8 @@ use Rattle.shred_group.proofs.dispatch.run.run_entry.Goals as goal
 
 pub returns-in-Ok-clause-ran : goal.returns-in-Ok-clause-ran
 returns-in-Ok-clause-ran g c = step-ran g.V.ResourceValue.kind_of (g.T.Stepper.step c.args.by.now) (entry_plan c.args.entry.now) c.args.entry.now.system c.step_of.new.entry.system
-    (shown g.V.ResourceValue.kind_of (lent_slot c.args.shelf.now) c.args.own.now) (shown g.V.ResourceValue.kind_of (lent_slot c.args.shelf.now) c.step_of.new.own) _ c.in-Ok.ensures.step c.in-Ok.ensures.kinds c.in-Ok.ensures.frame (Ok tt) refl
+    (shown g.V.ResourceValue.kind_of (lent_slot c.args.shelf.now) c.args.own.now) (shown g.V.ResourceValue.kind_of (lent_slot c.args.shelf.now) c.step_of.new.own) _ c.in-Ok.ensures.stepped.lies c.in-Ok.ensures.stepped.kinds c.in-Ok.ensures.stepped.frame (Ok tt) refl
 
 pub returns-in-Err-clause-ran : goal.returns-in-Err-clause-ran
 returns-in-Err-clause-ran g c = step-ran g.V.ResourceValue.kind_of (g.T.Stepper.step c.args.by.now) (entry_plan c.args.entry.now) c.args.entry.now.system c.step_of.new.entry.system
-    (shown g.V.ResourceValue.kind_of (lent_slot c.args.shelf.now) c.args.own.now) (shown g.V.ResourceValue.kind_of (lent_slot c.args.shelf.now) c.step_of.new.own) _ c.in-Err.ensures.step c.in-Err.ensures.kinds c.in-Err.ensures.frame _ (λ i. Err (System (record { 0 = (c.in-Err.ensures.plan i).id }) c.in-Err.fault))
+    (shown g.V.ResourceValue.kind_of (lent_slot c.args.shelf.now) c.args.own.now) (shown g.V.ResourceValue.kind_of (lent_slot c.args.shelf.now) c.step_of.new.own) _ c.in-Err.ensures.stepped.lies c.in-Err.ensures.stepped.kinds c.in-Err.ensures.stepped.frame _ (λ i. Err (System (record { 0 = (c.in-Err.ensures.plan i).id }) c.in-Err.fault))

@@ -6,8 +6,9 @@ ghost use Rattle.shred_batch.specs.KeptControllers.{IsOwnControl, control_access
 ghost use Rattle.shred_batch.specs.Works.{tier_plan, tiers_plan};
 ghost use Rattle.shred_group.specs.OwnLists.{IsEntryOf};
 ghost use Rattle.shred_group.specs.PlanOf.{entry_plan};
-ghost use Rattle.shred_group.specs.Sides.{stage_side};
+ghost use Rattle.shred_group.specs.Sides.{plan_reads, plan_writes, stage_side};
 ghost use Rattle.shred_table.specs.Id.{IsBefore};
+ghost use Rattle.shred_table.specs.Parting.{IsEmptyHand};
 ghost use Rattle.shred_table.specs.declared.id.ResourceId.{ResourceId};
 ghost use Rattle.shred_batch.specs.Batches.{IsBatchOf, IsKeptBatch, IsTierOf, NotesAtMost, TierNotesAtMost, joined_access};
 ghost use Rattle.shred_batch.specs.OwnDepth.{OwnsItself};
@@ -20,7 +21,7 @@ use shred_group::dispatch::entry::{Group, Side, SystemEntry, SystemId};
 use shred_group::dispatch::sorted::sort_without_doubles;
 use shred_group::system::System;
 use shred_world::parting::empty_hand;
-use shred_world::{Accessor, OutOfMemory, ResourceId, ResourceValue};
+use shred_world::{Accessor, OutOfMemory, ResourceId, ResourceValue, Table};
 use std::alloc::Global;
 
 // A controller with what is kept of it.
@@ -130,6 +131,26 @@ fn deepest<V, S, C>(tiers: &Vec<Tier<V, Work<S, Nested<V, S, C>>>>) -> usize
     most
 }
 
+// The two lists of a batch's entry: these ids of its controller joined with those of the entries of its tiers, reads with reads
+// and writes with writes. And a hand for what is written.
+fn kept_lists<V: Drop, X>(
+    alloc: Global,
+    reads: &[ResourceId],
+    writes: &[ResourceId],
+    tiers: &Vec<Tier<V, X>>,
+) -> Result<(Vec<ResourceId>, Vec<ResourceId>, Table<V>), OutOfMemory>
+    ensures reads_in_order { IfOk result (λ kept. AllPairs IsBefore kept.0.items) }
+    ensures same_reads { IfOk result (λ kept. (id : ResourceId) → Contains kept.0.items id ↔ Contains (reads.now ++ plan_reads (tiers_plan tiers.now.items)) id) }
+    ensures writes_in_order { IfOk result (λ kept. AllPairs IsBefore kept.1.items) }
+    ensures same_writes { IfOk result (λ kept. (id : ResourceId) → Contains kept.1.items id ↔ Contains (writes.now ++ plan_writes (tiers_plan tiers.now.items)) id) }
+    ensures hand { IfOk result (λ kept. IsEmptyHand kept.1.items kept.2) }
+{
+    let reads = joined(alloc, reads, tiers, Side::Reads)?;
+    let writes = joined(alloc, writes, tiers, Side::Writes)?;
+    let hand = empty_hand(alloc, writes.as_slice())?;
+    Ok((reads, writes, hand))
+}
+
 /// What is kept of a batch of this controller and these tiers: its lists are those that the controller declares joined with
 /// those of the entries of the tiers, reads with reads and writes with writes, in order, each id once; its time is the
 /// controller's. `OutOfMemory` where memory is refused, or where batches nest as deep as can be counted.
@@ -144,14 +165,17 @@ pub fn batch_entry<V: ResourceValue + Drop, S: System<V> + Drop, C: BatchControl
     ensures batch { IfOk result (λ entry. IsBatchOf controller (record { reads = C.reads controller; writes = C.writes controller }) tiers.items entry.system) }
     ensures own_lists { IfOk result (IsEntryOf (OwnsItself (record { reads = S.reads; writes = S.writes; control_reads = C.reads; control_writes = C.writes }))) }
 {
-    let time = controller.running_time();
-    let control = kept_controller(alloc, controller)?;
-    let reads = joined(alloc, control.reads.as_slice(), &tiers, Side::Reads)?;
-    let writes = joined(alloc, control.writes.as_slice(), &tiers, Side::Writes)?;
-    let hand = empty_hand(alloc, writes.as_slice())?;
     let Some(depth) = deepest(&tiers).checked_add(1) else {
         return Err(OutOfMemory);
     };
+    let time = controller.running_time();
+    let control = kept_controller(alloc, controller)?;
+    let (reads, writes, hand) = kept_lists(
+        alloc,
+        control.reads.as_slice(),
+        control.writes.as_slice(),
+        &tiers,
+    )?;
     let batch = Batch {
         control,
         tiers,

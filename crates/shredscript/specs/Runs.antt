@@ -23,6 +23,8 @@ use Rattle.shredscript_text.specs.declared.error.ScriptError.TheVariants.{TooLon
 use Rattle.shredscript_text.specs.declared.input.TheConstants.{MOST_BYTES}
 use Rattle.shredscript_text.specs.declared.outcome.Outcome.{Outcome}
 use Rattle.shredscript_text.specs.declared.outcome.Refusal.{Refusal}
+use Rattle.shredscript_text.specs.declared.script.Manner.{Manner}
+use Rattle.shredscript_text.specs.declared.script.PlanLine.{PlanLine}
 use Rattle.shredscript_text.specs.declared.script.Script.{Script}
 use Rattle.shredscript.specs.declared.batch.ScriptBatch.{ScriptBatch}
 use Rattle.shredscript.specs.declared.system.ScriptSystem.{ScriptSystem}
@@ -108,42 +110,50 @@ pub record IsDispatch (before : Program) (times : ℕ) (resources : List (List �
   pub outcome_is : outcome ≡ outcome_of answer
   pub text_is : text ≡ begins ++ report resources after.staged.values outcome
 
--- what a script's lines make of an empty builder, with the worker count that it asks for
-abbrev pub IsMadeOf : Script → ScriptBuilt → Type 0
-IsMadeOf script built = (lines : ScriptBuilt) × IsBuiltBy script.plan.items lines × IsPoolSet lines built script.manner.workers
+-- what lines make of an empty builder, with this number of workers
+abbrev pub IsMadeOf : List PlanLine → ℕ → ScriptBuilt → Type 0
+IsMadeOf lines workers built = (all : ScriptBuilt) × IsBuiltBy lines all × IsPoolSet all built workers
 
 -- what was built, over these values
 abbrev pub program_of : ScriptBuilt → Held Value → Program
 program_of built held = record { staged = record { plan = built.plan; states = built.states; values = held }; locals = built.locals; workers = built.workers }
 
--- A script is run: its lines make a plan, which is printed where it is asked for, and which is set up and dispatched, from the first values on, as often as asked.
-pub record IsRunOf (script : Script) (outcome : Outcome) (text : List ℕ) : Type 0 where
+-- Lines are run: they make a plan, with the number of workers that is asked for, which is printed where that is asked for, and which is set up and dispatched, from these first values on, as often as asked.
+pub record AreLinesRun (lines : List PlanLine) (prints : Bool) (manner : Manner) (first : Held Value) (resources : List (List ℕ)) (outcome : Outcome) (text : List ℕ) : Type 0 where
   pub built : ScriptBuilt
-  pub made : IsMadeOf script built
+  pub made : IsMadeOf lines manner.workers built
   pub names : List NamedId
   pub known : AreNames names built.known
   pub begins : List ℕ
-  pub planned : IsPlanPart script.prints_plan names built.plan begins
-  pub dispatch : IsDispatch (program_of built (first_held (values script.resources))) script.manner.times (resource_names script.resources) begins outcome text
+  pub planned : IsPlanPart prints names built.plan begins
+  pub dispatch : IsDispatch (program_of built first) manner.times resources begins outcome text
 
--- A script is not run, since its plan is asked for and a system has no name, of which the first in the plan's order has this id.
-pub record IsUnnamed (script : Script) (id : ℕ) : Type 0 where
-  pub asked : script.prints_plan ≡ true
+-- a script is run: its lines are, from the first values of its resources on
+abbrev pub IsRunOf : Script → Outcome → List ℕ → Type 0
+IsRunOf script = AreLinesRun script.plan.items script.prints_plan script.manner (first_held (values script.resources)) (resource_names script.resources)
+
+-- Lines are not run, since their plan is asked for and a system has no name, of which the first in the plan's order has this id.
+pub record IsUnnamed (lines : List PlanLine) (prints : Bool) (manner : Manner) (id : ℕ) : Type 0 where
+  pub asked : prints ≡ true
   pub built : ScriptBuilt
-  pub made : IsMadeOf script built
+  pub made : IsMadeOf lines manner.workers built
   pub names : List NamedId
   pub known : AreNames names built.known
   pub first : Some id ≡ first_unnamed names (plan_ids built.plan)
 
--- why a script that was read is not run: one of its lines is refused, a batch has no end or an end no batch, a system has no name to be printed, or memory is refused
+-- why lines are not run: one of them is refused, a batch has no end or an end no batch, a system has no name to be printed, or memory is refused
+abbrev pub AreLinesNotRun : List PlanLine → Bool → Manner → ScriptError → Type 0
+AreLinesNotRun lines prints manner (Refused number refusal) = IsNotBuilt lines (Refused number refusal)
+AreLinesNotRun lines prints manner (Unnamed id) = IsUnnamed lines prints manner id
+AreLinesNotRun lines prints manner OutOfMemory = Unit {0}
+AreLinesNotRun lines prints manner TooLong = ⊥
+AreLinesNotRun lines prints manner InputFailed = ⊥
+AreLinesNotRun lines prints manner (Line number fault) = IsNotBuilt lines (Line number fault)
+AreLinesNotRun lines prints manner OutputFailed = ⊥
+
+-- why a script that was read is not run: why its lines are not
 abbrev pub IsNotRun : Script → ScriptError → Type 0
-IsNotRun script (Refused number refusal) = IsNotBuilt script.plan.items (Refused number refusal)
-IsNotRun script (Unnamed id) = IsUnnamed script id
-IsNotRun script OutOfMemory = Unit {0}
-IsNotRun script TooLong = ⊥
-IsNotRun script InputFailed = ⊥
-IsNotRun script (Line number fault) = IsNotBuilt script.plan.items (Line number fault)
-IsNotRun script OutputFailed = ⊥
+IsNotRun script = AreLinesNotRun script.plan.items script.prints_plan script.manner
 
 -- all that was left, where that is known, was read, and it is not too long
 abbrev pub IsRead : Option (List ℕ) → Option (List ℕ) → Type 0

@@ -1,8 +1,9 @@
 //! The plan that a script's lines make.
 ghost use Rattle.std.specs.Prelude.{◌≡◌, OnOk, IfOk, IfErr, map};
 ghost use Rattle.shred.specs.Builders.{built};
+ghost use Rattle.shred.specs.Built.{IsPoolSet};
 ghost use Rattle.shredscript.specs.Building.{state_of};
-ghost use Rattle.shredscript.specs.Lines.{IsBatchOpened, IsBatchEnded, IsBatchNotEnded, IsBuiltBy, IsLineAdded, IsLineTaken, IsLocalTaken, IsNotAdded, IsNotBuilt, IsNotTaken};
+ghost use Rattle.shredscript.specs.Lines.{IsBatchOpened, IsBatchEnded, IsBatchNotEnded, IsBuiltBy, IsLineAdded, IsLineTaken, IsLocalTaken, IsNotAdded, IsNotBuilt, IsNotTaken, ScriptBuilt};
 
 use crate::batch::ScriptBatch;
 use crate::local::ScriptLocal;
@@ -42,10 +43,7 @@ struct Building<'text> {
 }
 
 /// The builder that has taken all lines, in their order.
-pub(crate) fn builder_of(
-    alloc: Global,
-    lines: Vec<PlanLine<'_>>,
-) -> Result<ScriptBuilder, ScriptError>
+fn builder_of(alloc: Global, lines: Vec<PlanLine<'_>>) -> Result<ScriptBuilder, ScriptError>
     ensures built { IfOk result (λ builder. IsBuiltBy lines.entry.items (built builder)) }
     ensures not_built { IfErr result (IsNotBuilt lines.entry.items) }
 {
@@ -65,6 +63,20 @@ pub(crate) fn builder_of(
             fault: LineFault::BatchWithoutEnd,
         }),
     }
+}
+
+/// The same, with this number of workers.
+pub(crate) fn builder_with(
+    alloc: Global,
+    lines: Vec<PlanLine<'_>>,
+    workers: usize,
+) -> Result<ScriptBuilder, ScriptError>
+    ensures built { IfOk result (λ builder. (plan : ScriptBuilt) × IsBuiltBy lines.entry.items plan × IsPoolSet plan (built builder) workers) }
+    ensures not_built { IfErr result (IsNotBuilt lines.entry.items) }
+{
+    let mut builder = builder_of(alloc, lines)?;
+    builder.add_pool(workers);
+    Ok(builder)
 }
 
 fn take_line<'text>(

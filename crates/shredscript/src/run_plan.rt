@@ -3,15 +3,16 @@ ghost use Rattle.std.specs.Prelude.{◌≡◌, IfOk, IfErr};
 ghost use Rattle.shred_model.specs.Record.{Agent};
 ghost use Rattle.shred.specs.Builders.{built, builder_pairs};
 ghost use Rattle.shred.specs.Dispatchers.{dispatcher_locals, dispatcher_plan, dispatcher_states, dispatcher_workers};
-ghost use Rattle.shred.specs.FullRuns.{whole_over};
+ghost use Rattle.indexmap.specs.IndexMap.{values};
+ghost use Rattle.shred.specs.FullRuns.{whole_over, whole_with};
 ghost use Rattle.shredscript_text.specs.declared.error.ScriptError.TheVariants.{OutOfMemory};
-ghost use Rattle.shredscript_text.specs.Report.{resource_names};
+ghost use Rattle.shredscript_text.specs.Report.{first_held, resource_names};
 ghost use Rattle.shredscript.specs.PlanTexts.{IsNotPlanned, IsPlanPart};
-ghost use Rattle.shredscript.specs.Runs.{AreDispatched, AreSetUpAndDispatched, IsDispatch, IsNotRun, IsOnce, IsRunOf};
+ghost use Rattle.shredscript.specs.Runs.{AreDispatched, AreLinesNotRun, AreLinesRun, AreSetUpAndDispatched, IsDispatch, IsNotRun, IsOnce, IsRunOf};
 ghost use Rattle.shredscript_text.specs.Value.{kind_of};
 
 use crate::batch::ScriptBatch;
-use crate::build::{ScriptBuilder, ScriptEntry, builder_of};
+use crate::build::{ScriptBuilder, ScriptEntry, builder_with};
 use crate::local::ScriptLocal;
 use crate::plan_text::plan_text;
 use shred::{Batched, DispatchError, Dispatcher, World};
@@ -19,7 +20,7 @@ use shredscript_text::error::ScriptError;
 use shredscript_text::first_values::world_of;
 use shredscript_text::outcome::{Outcome, Refusal, write_threads};
 use shredscript_text::report::{most_bytes, write_report};
-use shredscript_text::script::{Manner, Mode, Script};
+use shredscript_text::script::{Manner, Mode, PlanLine, Script};
 use shredscript_text::step::Resources;
 use shredscript_text::value::Value;
 use std::alloc::Global;
@@ -45,11 +46,41 @@ pub(crate) fn run_plan<T: Threads + Sync>(
         manner,
         ..
     } = script;
-    let world = world_of(alloc, &resources)?;
-    let mut builder = builder_of(alloc, plan)?;
-    builder.add_pool(manner.workers);
+    run_lines(rt, alloc, plan, prints_plan, manner, &resources)
+}
+
+/// Runs the systems of these lines over the resources: how the run ended, and the report of what it left.
+fn run_lines<T: Threads + Sync>(
+    rt: &T,
+    alloc: Global,
+    lines: Vec<PlanLine<'_>>,
+    prints_plan: bool,
+    manner: Manner,
+    resources: &Resources<'_>,
+) -> Result<(Outcome, Vec<u8>), ScriptError>
+    ensures run { IfOk result (λ ran. AreLinesRun lines.entry.items prints_plan manner (first_held (values resources.now)) (resource_names resources.now) ran.0 ran.1.items) }
+    ensures not_run { IfErr result (AreLinesNotRun lines.entry.items prints_plan manner) }
+{
+    let builder = builder_with(alloc, lines, manner.workers)?;
     let (dispatcher, text) = planned(alloc, builder, prints_plan)?;
-    dispatch(rt, dispatcher, world, manner, &resources, text)
+    dispatch_from_first(rt, alloc, dispatcher, manner, resources, text)
+}
+
+/// Sets the systems up and dispatches them over a world of the first values: how that ended, and the text with the report of
+/// what it left.
+fn dispatch_from_first<T: Threads + Sync>(
+    rt: &T,
+    alloc: Global,
+    dispatcher: ScriptDispatcher,
+    manner: Manner,
+    resources: &Resources<'_>,
+    text: Vec<u8>,
+) -> Result<(Outcome, Vec<u8>), ScriptError>
+    ensures dispatch { IfOk result (λ ran. IsDispatch (whole_with dispatcher (first_held (values resources.now))) manner.times (resource_names resources.now) text.items ran.0 ran.1.items) }
+    ensures err { IfErr result (λ error. error ≡ OutOfMemory) }
+{
+    let world = world_of(alloc, resources)?;
+    dispatch(rt, dispatcher, world, manner, resources, text)
 }
 
 /// Sets the systems up and dispatches them over the world: how that ended, and the text with the report of what it left.

@@ -150,24 +150,16 @@ impl<V, S> Group<V, S> {
         ensures entries { IfOk result (λ group. group.entries.items ≡ entry ∷ []) }
         ensures room { IfOk result KeepsRoom }
     {
-        let mut ids: ArrayVec<SystemId, 4> = ArrayVec::new_in(());
-        ids.push(entry.id);
-        let Ok(written) = Vec::from_slice(alloc, entry.writes.as_slice()) else {
-            return Err(OutOfMemory);
+        let hand = empty_hand(alloc, &[])?;
+        let mut group = Group {
+            ids: ArrayVec::new_in(()),
+            entries: Vec::new(alloc),
+            written: Vec::new(alloc),
+            hand,
         };
-        let hand = match empty_hand(alloc, written.as_slice()) {
-            Ok(hand) => hand,
-            Err(error) => return Err(error),
-        };
-        let mut entries = Vec::new(alloc);
-        match entries.push(entry) {
-            Ok(()) => Ok(Group {
-                ids,
-                entries,
-                written,
-                hand,
-            }),
-            Err(_) => Err(OutOfMemory),
+        match group.push(entry) {
+            Ok(()) => Ok(group),
+            Err(error) => Err(error),
         }
     }
 

@@ -14,7 +14,12 @@ ghost use Rattle.shred_stage.specs.Search.{may_end, OthersDoNotConflict, SpotIs,
 ghost use Rattle.shred_group.specs.Touching.{is_touched};
 ghost use Rattle.shred_group.specs.Sides.{stage_side};
 ghost use Rattle.shred_stage.specs.Soundness.{IsSmallGroup};
+ghost use Rattle.shred_batch.specs.Depths.{Declared, Related};
+ghost use Rattle.shred_batch.specs.OwnDepth.{OwnStep, OwnsItself};
+ghost use Rattle.shred_group.specs.Turns.{TookTurn};
+ghost use Rattle.shred_table.specs.Slots.{held};
 
+use shred_batch::by_error::SystemOf;
 use shred_batch::{BatchController, Nested, Tier, Work};
 use shred_group::dispatch::beside;
 use shred_group::dispatch::entry::{Group, Side, SystemEntry, SystemId};
@@ -26,7 +31,7 @@ use shred_group::system::System;
 use shred_group::{RunsInOrder, Settles};
 use shred_works::{Batched, turn};
 use shred_world::parting::table_of_local;
-use shred_world::{LocalWorld, OutOfMemory, ResourceId, ResourceValue, World};
+use shred_world::{LocalWorld, OutOfMemory, ResourceId, ResourceValue, Table, World};
 use smallvec::SmallVec;
 use std::alloc::Global;
 use std::marker::PhantomData;
@@ -332,6 +337,18 @@ where
         if workers < 2 || self.groups.len() < 2 {
             return self.execute_seq_local(world);
         }
+        self.execute_beside(rt, world, workers)
+    }
+
+    // `execute_local`, on threads.
+    fn execute_beside<R: Threads + Sync>(
+        &mut self,
+        rt: &R,
+        world: &mut LocalWorld<V>,
+        workers: usize,
+    ) -> Result<(), StageFault<E>>
+        ensures { Dispatched V.kind_of (StageTurn V.kind_of S.step) (stage_with self.old (local_held V.kind_of world.old)) result (stage_with self.new (local_held V.kind_of world.new)) }
+    {
         beside::turn_beside(
             rt,
             &BySystem,
@@ -355,8 +372,6 @@ where
     ghost use Rattle.shred_stage.specs.Dispatched.{Dispatched, stage_over, stage_with};
     ghost use Rattle.shred_group.specs.Entries.{StageTurn};
     ghost use Rattle.shred_world.specs.Worlds.{local_held};
-    ghost use Rattle.shred_batch.specs.OwnDepth.{OwnStep};
-    ghost use Rattle.shred_batch.specs.Depths.{Related};
 
     /// Takes the stage's turn, as of a stage of systems alone. A batch hands the number of threads on: each stage of an inner
     /// plan, at every depth, runs on at most so many again, that of its own group among them.
@@ -383,11 +398,47 @@ where
         if workers < 2 {
             return self.execute_seq_local(world);
         }
-        turn::turn_beside(
+        self.execute_beside(rt, world, workers)
+    }
+
+    // `execute_local`, on threads.
+    fn execute_beside<R: Threads + Sync>(
+        &mut self,
+        rt: &R,
+        world: &mut LocalWorld<V>,
+        workers: usize,
+    ) -> Result<(), StageFault<E>>
+        ensures { Dispatched V.kind_of (StageTurn V.kind_of (OwnStep V.kind_of (record { steps = S.step; begins = C.begins; asks = C.asks }))) (stage_with self.old (local_held V.kind_of world.old)) result (stage_with self.new (local_held V.kind_of world.new)) }
+    {
+        turn_of_batches(
             rt,
             self.groups.as_mut_slice(),
             table_of_local(world),
             workers,
         )
     }
+}
+
+// The turn of the groups, beside each other on threads. What is proved of one call that makes the bounds of both, systems and
+// controllers, into those of `turn_beside` takes longer than ten seconds; here it is that of controllers.
+fn turn_of_batches<
+    R: Threads + Sync,
+    V: ResourceValue + Drop + Send + Sync,
+    S: SystemOf<V, E> + Send,
+    C: BatchController<V, Error = E> + Send,
+    E: Drop + Send,
+>(
+    rt: &R,
+    groups: &mut [Group<V, Work<S, Nested<V, S, C>>>],
+    table: &mut Table<V>,
+    workers: usize,
+) -> Result<(), StageFault<E>>
+where
+    C::Accessor: Send,
+    requires own_lists { All (IsGroupOf (OwnsItself (record { reads = S.its_reads; writes = S.its_writes; control_reads = C.reads; control_writes = C.writes }))) groups.old }
+    requires room { All KeepsRoom groups.old }
+    requires apart { AreApart group_access (groups_plan groups.old) }
+    ensures { TookTurn V.kind_of (OwnStep V.kind_of (record { steps = S.steps; begins = C.begins; asks = C.asks })) (OwnsItself (record { reads = S.its_reads; writes = S.its_writes; control_reads = C.reads; control_writes = C.writes })) groups.old (held V.kind_of table.old) result groups.new (held V.kind_of table.new) }
+{
+    turn::turn_beside(rt, groups, table, workers)
 }

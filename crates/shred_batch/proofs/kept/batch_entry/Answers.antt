@@ -1,6 +1,4 @@
-use Rattle.std.proofs.Common.{◌≡◌, ◌+◌, ◌∙◌, suc, List, ap, arith, refl, rules, subst}
-use Rattle.shred_table.specs.Parting.{IsEmptyHand}
-use Rattle.shred_table.specs.declared.id.ResourceId.{ResourceId}
+use Rattle.std.proofs.Common.{◌≡◌, ◌+◌, ◌∙◌, suc, ap, arith, refl, rules}
 use Rattle.shred_group.specs.Time.{time_count}
 use Rattle.shred_batch.specs.KeptControllers.{control_access}
 use Rattle.shred_batch.specs.declared.work.Nested.TheViews.{roll-Nested, out-roll-Nested}
@@ -13,10 +11,10 @@ returns-clause-kept g c =
     let writes : c.as_slice-2.result.now ≡ g.C.BatchController.writes c.args.controller = c.as_slice-2.ensures.value ∙ ap (λ access. access.writes) c.in_ok-control.ensures.access in
     record {
       same_id = refl;
-      reads_in_order = c.in_ok-reads.ensures.in_order;
-      same_reads = rw reads at c.in_ok-reads.ensures.same;
-      writes_in_order = c.in_ok-writes.ensures.in_order;
-      same_writes = rw writes at c.in_ok-writes.ensures.same;
+      reads_in_order = c.in_ok-reads.ensures.reads_in_order;
+      same_reads = rw reads at c.in_ok-reads.ensures.same_reads;
+      writes_in_order = c.in_ok-reads.ensures.writes_in_order;
+      same_writes = rw writes at c.in_ok-reads.ensures.same_writes;
       same_time = ap time_count c.running_time-time.ensures;
     }
 
@@ -37,14 +35,13 @@ returns-clause-batch g c = record {
 
 pub returns-clause-own_lists : goal.returns-clause-own_lists
 returns-clause-own_lists g c =
-    let reads = rw c.as_slice.ensures.value at c.in_ok-reads.ensures.same in
-    let writes = rw c.as_slice-2.ensures.value at c.in_ok-writes.ensures.same in
-    let ids : c.as_slice-3.result.now ≡ c.in_ok-writes.writes.items = c.as_slice-3.ensures.value in
+    let reads = rw c.as_slice.ensures.value at c.in_ok-reads.ensures.same_reads in
+    let writes = rw c.as_slice-2.ensures.value at c.in_ok-reads.ensures.same_writes in
     let next : c.in-Some.depth ≡ c.deepest.result + 1 = search rules in
     let deep : c.in-Some.depth ≡ suc c.deepest.result = omega (arith, next) in
     record {
-      lists = batch-owned (record { reads = g.S.System.reads; writes = g.S.System.writes; control_reads = g.C.BatchController.reads; control_writes = g.C.BatchController.writes }) c.in_ok-reads.reads.items c.in_ok-writes.writes.items c.deepest.result
+      lists = batch-owned (record { reads = g.S.System.reads; writes = g.S.System.writes; control_reads = g.C.BatchController.reads; control_writes = g.C.BatchController.writes }) c.in_ok-reads.reads.items c.in_ok-reads.writes.items c.deepest.result
           (roll-Nested g.row.V.Denot g.row.S.Denot g.row.C.Denot (record { batch = record { control = c.in_ok-control.control; tiers = c.args.tiers; depth = c.in-Some.depth } }))
           (record { control = c.in_ok-control.control; tiers = c.args.tiers; depth = c.in-Some.depth }) (ap (λ level. level.batch) (out-roll-Nested _ _ _ _)) deep c.in_ok-control.ensures.own c.deepest.ensures.noted c.requires reads writes;
-      hand = subst (λ (ids : List ResourceId). IsEmptyHand ids c.in_ok-hand.hand) ids c.in_ok-hand.ensures;
+      hand = c.in_ok-reads.ensures.hand;
     }

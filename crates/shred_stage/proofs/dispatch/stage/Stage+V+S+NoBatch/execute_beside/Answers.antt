@@ -9,7 +9,7 @@ use Rattle.shred_group.specs.declared.dispatch.entry.Group.{Group}
 use Rattle.shred_group.specs.Turns.{TookTurn}
 use Rattle.shred_stage.proofs.Planner.StageStays.{stays}
 use Rattle.shred_stage.proofs.Runs.Dispatched.{turn-dispatched}
-use Rattle.shred_stage.proofs.dispatch.stage.Stage+V+S+NoBatch.execute_local.Goals as goal
+use Rattle.shred_stage.proofs.dispatch.stage.Stage+V+S+NoBatch.execute_beside.Goals as goal
 
 pub turn_beside-requires-clause-apart : goal.turn_beside-requires-clause-apart
 turn_beside-requires-clause-apart g c κs within =

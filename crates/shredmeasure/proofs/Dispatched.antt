@@ -13,7 +13,6 @@ use Rattle.shred_model.proofs.Records.Membership.{is_contained, is_declared}
 use Rattle.shred_table.specs.declared.id.ResourceId.{ResourceId}
 use Rattle.shred_world.specs.declared.world.view.DataError.{DataError}
 use Rattle.shred_table.proofs.Tables.Ids.{tell_ids}
-use Rattle.shred_systems.specs.declared.dispatch_error.DispatchError.{DispatchError}
 use Rattle.shred_stage.specs.Placement.{IsPlaced}
 use Rattle.shred.specs.PlanRuns.{PlanRun}
 use Rattle.shred_group.specs.Steps.{Outcome, Step, Written}
@@ -25,7 +24,7 @@ use Rattle.shredmeasure.specs.declared.adder.AddOne.{AddOne}
 use Rattle.shredmeasure.specs.Adders.{HasOneForEach, occurrences}
 use Rattle.shredmeasure.specs.Adds.{adds_one, IsOneMore}
 use Rattle.shredmeasure.specs.Counts.{kind_of, count_id, count_value, number_of}
-use Rattle.shredmeasure.specs.Measured.{HasCountEach}
+use Rattle.shredmeasure.specs.Measured.{IsCountedOnce}
 use Rattle.shredmeasure.proofs.Counted.{counted as stepped, steps_on}
 use Rattle.shredmeasure.proofs.Inserted.{placed_one}
 use Rattle.shredmeasure.proofs.Wraps.{one_more_time, other_number}
@@ -120,16 +119,9 @@ pub on_ok : {T E P : Type 0} {failed : Bool} (result : Result T E) → failed �
 on_ok (Ok value) is none h = h
 on_ok (Err error) is none h = absurd (cc)
 
--- what holds at an answer that is no error, holds at Ok
-at_ok : {E : Type 0} {failed : Bool} (P : Result (Unit {0}) E → Type 0) (result : Result (Unit {0}) E) → failed ≡ is_err result → failed ≡ false → P result → P (Ok tt)
-at_ok P (Ok value) is none h = h
-at_ok P (Err error) is none h = absurd (cc)
-
--- one more dispatch that is no error leaves a plan with one system for each count, and each count one more
-pub dispatched_again : {failed : Bool} (most times : ℕ) (plan left : Plan ResourceId) (x y : Configuration Agent ResourceId (Only ℤ) (Plain AddOne)) (result : Result (Unit {0}) (DispatchError DataError)) → failed ≡ is_err result → failed ≡ false → left ≡ plan
-    → IsSerializable (λ list. PlanRun kind_of adds plan list result) x y → HasOneForEach most plan × HasCountEach most times x.values → HasOneForEach most left × HasCountEach most (times + 1) y.values
-dispatched_again most times plan left x y result is none same ran (have, counts) =
-    let done = at_ok (λ (r : Result (Unit {0}) (DispatchError DataError)). IsSerializable (λ list. PlanRun kind_of adds plan list r) x y) result is none ran in (
-      subst (λ (p : Plan ResourceId). HasOneForEach most p) (sym same) have,
-      λ k above below. dispatched_one_more most plan x y k (int_wrap w64 (pos times)) have above below done (counts k above below) ∙ ap (λ n. Some (count_value n)) (one_more_time times),
-    )
+-- one more dispatch that is Done leaves a plan with one system for each count, and each count one more
+pub dispatched_again : (plan left : Plan ResourceId) (x y : Configuration Agent ResourceId (Only ℤ) (Plain AddOne)) → left ≡ plan → IsSerializable (λ list. PlanRun kind_of adds plan list (Ok tt)) x y → IsCountedOnce plan x.values left y.values
+dispatched_again plan left x y same ran most times (have, counts) = (
+  subst (λ (p : Plan ResourceId). HasOneForEach most p) (sym same) have,
+  λ k above below. dispatched_one_more most plan x y k (int_wrap w64 (pos times)) have above below ran (counts k above below) ∙ ap (λ n. Some (count_value n)) (one_more_time times),
+)

@@ -6,15 +6,19 @@
 //! stages of all plans is printed.
 #![tactic(auto)]
 
-ghost use Rattle.std.specs.Prelude.{◌≡◌, ℕ, ◌*◌, length, IfOk, pos};
+ghost use Rattle.std.specs.Prelude.{◌≡◌, ℕ, ◌*◌, [], length, IfOk, OnOk, pos};
 ghost use Rattle.std.specs.Int.{w64, int_wrap};
-ghost use Rattle.shred_model.specs.Plan.{Plan};
+ghost use Rattle.shred_group.specs.Kept.{IsKept};
+ghost use Rattle.shred_group.specs.declared.system.RunningTime.TheVariants.{Average};
+ghost use Rattle.shred_model.specs.Plan.{Plan, PlanEntry};
+ghost use Rattle.shred_stage.specs.BuilderPlan.{barrier_of, planned as plan_of};
+ghost use Rattle.shred_stage.specs.Placement.{IsPlaced};
 ghost use Rattle.shred_table.specs.declared.id.ResourceId.{ResourceId};
 ghost use Rattle.shred_world.specs.Worlds.{world_held};
 ghost use Rattle.shred.specs.Dispatchers.{dispatcher_plan};
 ghost use Rattle.shredmeasure.specs.Adders.{HasOneForEach};
 ghost use Rattle.shredmeasure.specs.Counts.{count_id as id_of, kind_of, number_of, sum_to, zeros_to};
-ghost use Rattle.shredmeasure.specs.Measured.{HasCountEach, IsMeasured};
+ghost use Rattle.shredmeasure.specs.Measured.{HasCountEach, IsCountedOnce, IsMeasured};
 ghost use Rattle.shredmeasure.specs.Random.{AreDrawn, AreDrawnOften};
 
 mod adder;
@@ -94,6 +98,21 @@ fn sum_of(world: &World<Only<i64>>, systems: u64) -> i64
     sum
 }
 
+/// Gives the system its place in the plan, under this number.
+fn place(
+    builder: &mut StagesBuilder<Only<i64>, Plain<Planned>>,
+    number: u64,
+    system: Planned,
+) -> Result<(), Stopped>
+    ensures placed { OnOk result ((entry : PlanEntry ResourceId) × IsKept number system.reads.items system.writes.items Average entry × IsPlaced (plan_of builder.old) (barrier_of builder.old) (barrier_of builder.old) [] entry (plan_of builder.new)) }
+    ensures barrier { barrier_of builder.new ≡ barrier_of builder.old }
+{
+    match builder.insert(&[], SystemId(number as usize), Plain(system)) {
+        Ok(()) => Ok(()),
+        Err(_) => Err(Stopped),
+    }
+}
+
 /// The number of stages of a plan of random systems.
 fn planned(alloc: Global, systems: u64, seed: &mut u64) -> Result<usize, Stopped>
     ensures { IfOk result (λ stages. (plan : Plan ResourceId) × AreDrawn systems seed.old plan seed.new × (stages ≡ length plan)) }
@@ -103,10 +122,7 @@ fn planned(alloc: Global, systems: u64, seed: &mut u64) -> Result<usize, Stopped
         let Ok(system) = Planned::random(alloc, seed) else {
             return Err(Stopped);
         };
-        if builder
-            .insert(&[], SystemId(number as usize), Plain(system))
-            .is_err()
-        {
+        if place(&mut builder, number, system).is_err() {
             return Err(Stopped);
         }
     }
@@ -125,6 +141,33 @@ fn planned_often(alloc: Global, systems: u64, times: u64) -> Result<u64, Stopped
     Ok(stages)
 }
 
+/// One dispatch, on the caller's thread.
+fn dispatch_on_caller(
+    dispatcher: &mut Dispatcher<Only<i64>, Plain<AddOne>>,
+    world: &mut World<Only<i64>>,
+) -> Result<(), Stopped>
+    ensures { OnOk result (IsCountedOnce (dispatcher_plan dispatcher.old) (world_held kind_of world.old) (dispatcher_plan dispatcher.new) (world_held kind_of world.new)) }
+{
+    match dispatcher.dispatch_seq(world) {
+        Ok(()) => Ok(()),
+        Err(_) => Err(Stopped),
+    }
+}
+
+/// One dispatch, the groups of a stage beside each other on threads.
+fn dispatch_on_threads<R: Threads + Sync>(
+    rt: &R,
+    dispatcher: &mut Dispatcher<Only<i64>, Plain<AddOne>>,
+    world: &mut World<Only<i64>>,
+) -> Result<(), Stopped>
+    ensures { OnOk result (IsCountedOnce (dispatcher_plan dispatcher.old) (world_held kind_of world.old) (dispatcher_plan dispatcher.new) (world_held kind_of world.new)) }
+{
+    match dispatcher.dispatch_par(rt, world) {
+        Ok(()) => Ok(()),
+        Err(_) => Err(Stopped),
+    }
+}
+
 /// The world after the dispatches that are asked for, on the caller's thread.
 fn dispatched_on_caller(alloc: Global, order: Order) -> Result<World<Only<i64>>, Stopped>
     ensures { IfOk result (λ world. HasCountEach order.systems order.times (world_held kind_of world)) }
@@ -132,7 +175,7 @@ fn dispatched_on_caller(alloc: Global, order: Order) -> Result<World<Only<i64>>,
     let mut world = world_of(alloc, order.systems)?;
     let mut dispatcher = dispatcher_of(alloc, order.systems)?;
     for _ in 0..order.times {
-        if dispatcher.dispatch_seq(&mut world).is_err() {
+        if dispatch_on_caller(&mut dispatcher, &mut world).is_err() {
             return Err(Stopped);
         }
     }
@@ -150,7 +193,7 @@ fn dispatched_on_threads<R: Threads + Sync>(
     let mut world = world_of(alloc, order.systems)?;
     let mut dispatcher = dispatcher_of(alloc, order.systems)?;
     for _ in 0..order.times {
-        if dispatcher.dispatch_par(rt, &mut world).is_err() {
+        if dispatch_on_threads(rt, &mut dispatcher, &mut world).is_err() {
             return Err(Stopped);
         }
     }

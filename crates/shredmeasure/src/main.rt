@@ -142,7 +142,7 @@ fn planned_often(alloc: Global, systems: u64, times: u64) -> Result<u64, Stopped
 }
 
 /// One dispatch, on the caller's thread.
-fn dispatch_on_caller(
+fn dispatch_once_on_caller(
     dispatcher: &mut Dispatcher<Only<i64>, Plain<AddOne>>,
     world: &mut World<Only<i64>>,
 ) -> Result<(), Stopped>
@@ -155,7 +155,7 @@ fn dispatch_on_caller(
 }
 
 /// One dispatch, the groups of a stage beside each other on threads.
-fn dispatch_on_threads<R: Threads + Sync>(
+fn dispatch_once_on_threads<R: Threads + Sync>(
     rt: &R,
     dispatcher: &mut Dispatcher<Only<i64>, Plain<AddOne>>,
     world: &mut World<Only<i64>>,
@@ -175,7 +175,7 @@ fn dispatched_on_caller(alloc: Global, order: Order) -> Result<World<Only<i64>>,
     let mut world = world_of(alloc, order.systems)?;
     let mut dispatcher = dispatcher_of(alloc, order.systems)?;
     for _ in 0..order.times {
-        if dispatch_on_caller(&mut dispatcher, &mut world).is_err() {
+        if dispatch_once_on_caller(&mut dispatcher, &mut world).is_err() {
             return Err(Stopped);
         }
     }
@@ -193,7 +193,7 @@ fn dispatched_on_threads<R: Threads + Sync>(
     let mut world = world_of(alloc, order.systems)?;
     let mut dispatcher = dispatcher_of(alloc, order.systems)?;
     for _ in 0..order.times {
-        if dispatch_on_threads(rt, &mut dispatcher, &mut world).is_err() {
+        if dispatch_once_on_threads(rt, &mut dispatcher, &mut world).is_err() {
             return Err(Stopped);
         }
     }

@@ -110,7 +110,7 @@ pub record IsDispatch (before : Program) (times : ℕ) (resources : List (List �
   pub outcome_is : outcome ≡ outcome_of answer
   pub text_is : text ≡ begins ++ report resources after.staged.values outcome
 
--- what lines make of an empty builder, with this number of workers
+-- what lines make of an empty builder, which is then given this number of workers
 abbrev pub IsMadeOf : List PlanLine → ℕ → ScriptBuilt → Type 0
 IsMadeOf lines workers built = (all : ScriptBuilt) × IsBuiltBy lines all × IsPoolSet all built workers
 

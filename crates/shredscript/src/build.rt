@@ -1,9 +1,9 @@
 //! The plan that a script's lines make.
 ghost use Rattle.std.specs.Prelude.{◌≡◌, OnOk, IfOk, IfErr, map};
 ghost use Rattle.shred.specs.Builders.{built};
-ghost use Rattle.shred.specs.Built.{IsPoolSet};
 ghost use Rattle.shredscript.specs.Building.{state_of};
-ghost use Rattle.shredscript.specs.Lines.{IsBatchOpened, IsBatchEnded, IsBatchNotEnded, IsBuiltBy, IsLineAdded, IsLineTaken, IsLocalTaken, IsNotAdded, IsNotBuilt, IsNotTaken, ScriptBuilt};
+ghost use Rattle.shredscript.specs.Lines.{IsBatchOpened, IsBatchEnded, IsBatchNotEnded, IsBuiltBy, IsLineAdded, IsLineTaken, IsLocalTaken, IsNotAdded, IsNotBuilt, IsNotTaken};
+ghost use Rattle.shredscript.specs.Runs.{IsMadeOf};
 
 use crate::batch::ScriptBatch;
 use crate::local::ScriptLocal;
@@ -71,7 +71,7 @@ pub(crate) fn builder_with(
     lines: Vec<PlanLine<'_>>,
     workers: usize,
 ) -> Result<ScriptBuilder, ScriptError>
-    ensures built { IfOk result (λ builder. (plan : ScriptBuilt) × IsBuiltBy lines.entry.items plan × IsPoolSet plan (built builder) workers) }
+    ensures made { IfOk result (λ builder. IsMadeOf lines.entry.items workers (built builder)) }
     ensures not_built { IfErr result (IsNotBuilt lines.entry.items) }
 {
     let mut builder = builder_of(alloc, lines)?;

@@ -1,6 +1,6 @@
 //! Runs of entries, over a table and what is lent shared beside it. What makes one step is passed in, since a batch's step leads
 //! back to the steps of its inner plan.
-ghost use Rattle.std.specs.Prelude.{◌≡◌, false, map, All};
+ghost use Rattle.std.specs.Prelude.{◌≡◌, map, All};
 ghost use Rattle.std.specs.Option.{option_map};
 ghost use Rattle.shred_model.specs.Runs.{Ran};
 ghost use Rattle.shred_model.specs.States.{configuration_of, listed_states};
@@ -8,11 +8,10 @@ ghost use Rattle.shred_group.specs.Entries.{EntryRun, GroupRun, entry_states};
 ghost use Rattle.shred_group.specs.Hands.{HasEntryRoom, HasPlace};
 ghost use Rattle.shred_group.specs.OwnLists.{IsEntryOf};
 ghost use Rattle.shred_group.specs.OwnSlots.{lent_before, HasJustSlots, HasOnlySlots, HasGroupSlots};
-ghost use Rattle.shred_group.specs.PlanOf.{access_of, entry_plan};
+ghost use Rattle.shred_group.specs.PlanOf.{entry_plan};
 ghost use Rattle.shred_group.specs.Steppers.{IsStepBy};
 ghost use Rattle.shred_table.specs.declared.id.ResourceId.{ResourceId};
 ghost use Rattle.shred_table.specs.Shown.{shown, HasOwnSlots, IsSameSlots};
-ghost use Rattle.shred_table.specs.Slots.{among};
 ghost use Rattle.shred_world.specs.Views.{lent_slot};
 
 use crate::dispatch::entry::{SystemEntry, SystemId};

@@ -8,7 +8,7 @@ use Rattle.shredmeasure.proofs.dispatched_on_caller.Goals as goal
 pub loop-preserved : goal.loop-preserved
 loop-preserved c = record {
   within = omega arith;
-  each = on_ok c.dispatch_on_caller.result c.is_err.ensures.value c.if-is_err.false c.dispatch_on_caller.ensures c.args.order.systems c.loop.counter c.loop.invariant.each;
+  each = on_ok c.dispatch_once_on_caller.result c.is_err.ensures.value c.if-is_err.false c.dispatch_once_on_caller.ensures c.args.order.systems c.loop.counter c.loop.invariant.each;
 }
 
 pub returns : goal.returns

@@ -14,11 +14,11 @@ returns-clause-run g c =
     let of_plan = c.in_ok-dispatcher.ensures in
     ok-then c.dispatch_from_first.result _ _
     (λ ran. run-of c.args.lines.items c.args.prints_plan c.args.manner first (resource_names c.args.resources.now) (built builder) (builder_pairs builder) c.in_ok-dispatcher.text.items (whole_with c.in_ok-dispatcher.dispatcher first)
-    c.in_ok-builder.ensures.built (names-known builder.names builder.distinct_names) of_plan.text of_plan.plan of_plan.states refl of_plan.locals of_plan.workers ran.0 ran.1.items)
+    c.in_ok-builder.ensures.made (names-known builder.names builder.distinct_names) of_plan.text of_plan.plan of_plan.states refl of_plan.locals of_plan.workers ran.0 ran.1.items)
     c.dispatch_from_first.ensures.dispatch
 
 pub returns-in_err-dispatcher-clause-not_run : goal.returns-in_err-dispatcher-clause-not_run
 returns-in_err-dispatcher-clause-not_run g c =
     let builder = c.in_ok-builder.builder in
-    let why = not-run c.args.lines.items c.args.prints_plan c.args.manner (built builder) (builder_pairs builder) c.args.prints_plan c.in_err-dispatcher.field-0.0 refl c.in_ok-builder.ensures.built (names-known builder.names builder.distinct_names) c.in_err-dispatcher.ensures.not_planned in
+    let why = not-run c.args.lines.items c.args.prints_plan c.args.manner (built builder) (builder_pairs builder) c.args.prints_plan c.in_err-dispatcher.field-0.0 refl c.in_ok-builder.ensures.made (names-known builder.names builder.distinct_names) c.in_err-dispatcher.ensures.not_planned in
     search (rules, why)

@@ -150,15 +150,17 @@ impl<V, S> Group<V, S> {
         ensures entries { IfOk result (λ group. group.entries.items ≡ entry ∷ []) }
         ensures room { IfOk result KeepsRoom }
     {
-        let hand = empty_hand(alloc, &[])?;
-        let mut group = Group {
-            ids: ArrayVec::new_in(()),
-            entries: Vec::new(alloc),
-            written: Vec::new(alloc),
-            hand,
-        };
-        match group.push(entry) {
-            Ok(()) => Ok(group),
+        let (written, hand) = written_hand(alloc, entry.writes.as_slice())?;
+        let mut ids: ArrayVec<SystemId, 4> = ArrayVec::new_in(());
+        ids.push(entry.id);
+        let mut entries = Vec::new(alloc);
+        match push_or_drop(&mut entries, entry) {
+            Ok(()) => Ok(Group {
+                ids,
+                entries,
+                written,
+                hand,
+            }),
             Err(error) => Err(error),
         }
     }
@@ -234,6 +236,23 @@ impl<V, S> Group<V, S> {
         for id in self.ids.as_slice() {
             take_id(left, *id);
         }
+    }
+}
+
+// These ids, and a hand for them.
+fn written_hand<V: Drop>(
+    alloc: Global,
+    ids: &[ResourceId],
+) -> Result<(Vec<ResourceId>, Table<V>), OutOfMemory>
+    ensures written { IfOk result (λ made. made.0.items ≡ ids.now) }
+    ensures hand { IfOk result (λ made. IsEmptyHand made.0.items made.1) }
+{
+    let Ok(written) = Vec::from_slice(alloc, ids) else {
+        return Err(OutOfMemory);
+    };
+    match empty_hand(alloc, written.as_slice()) {
+        Ok(hand) => Ok((written, hand)),
+        Err(error) => Err(error),
     }
 }
 

@@ -154,14 +154,14 @@ impl<V, S> Group<V, S> {
         let mut ids: ArrayVec<SystemId, 4> = ArrayVec::new_in(());
         ids.push(entry.id);
         let mut entries = Vec::new(alloc);
-        match push_or_drop(&mut entries, entry) {
+        match entries.push(entry) {
             Ok(()) => Ok(Group {
                 ids,
                 entries,
                 written,
                 hand,
             }),
-            Err(error) => Err(error),
+            Err(_) => Err(OutOfMemory),
         }
     }
 

@@ -17,7 +17,7 @@ use crate::control::KeptController;
 use crate::controller::BatchController;
 use crate::depth::depth_of;
 use crate::work::{Batch, Nested, Tier, Work};
-use shred_group::dispatch::entry::{Group, Side, SystemEntry, SystemId};
+use shred_group::dispatch::entry::{Side, SystemEntry, SystemId};
 use shred_group::dispatch::sorted::sort_without_doubles;
 use shred_group::system::System;
 use shred_world::parting::empty_hand;

@@ -5,8 +5,8 @@ pub mod FramedRuns
 pub mod GroupsWithin
 pub mod HandSlots
 pub mod KeptPlaces
-pub mod Places
 pub mod OwnSlots
+pub mod Places
 pub mod StepRecord
 pub mod Sweeps
 pub mod TakenTurns

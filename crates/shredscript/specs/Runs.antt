@@ -118,7 +118,7 @@ IsMadeOf lines workers built = (all : ScriptBuilt) × IsBuiltBy lines all × IsP
 abbrev pub program_of : ScriptBuilt → Held Value → Program
 program_of built held = record { staged = record { plan = built.plan; states = built.states; values = held }; locals = built.locals; workers = built.workers }
 
--- Lines are run: they make a plan, with the number of workers that is asked for, which is printed where that is asked for, and which is set up and dispatched, from these first values on, as often as asked.
+-- Lines are run: with the number of workers that is asked for they make a plan, which is printed where that is asked for, and is set up and dispatched, from these first values on, as often as asked.
 pub record AreLinesRun (lines : List PlanLine) (prints : Bool) (manner : Manner) (first : Held Value) (resources : List (List ℕ)) (outcome : Outcome) (text : List ℕ) : Type 0 where
   pub built : ScriptBuilt
   pub made : IsMadeOf lines manner.workers built

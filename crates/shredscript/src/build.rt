@@ -1,5 +1,5 @@
 //! The plan that a script's lines make.
-ghost use Rattle.std.specs.Prelude.{◌≡◌, OnOk, IfOk, IfErr, map};
+ghost use Rattle.std.specs.Prelude.{◌≡◌, OnOk, IfOk, IfErr};
 ghost use Rattle.shred.specs.Builders.{built};
 ghost use Rattle.shredscript.specs.Building.{state_of};
 ghost use Rattle.shredscript.specs.Lines.{IsBatchOpened, IsBatchEnded, IsBatchNotEnded, IsBuiltBy, IsLineAdded, IsLineTaken, IsLocalTaken, IsNotAdded, IsNotBuilt, IsNotTaken};
@@ -42,7 +42,7 @@ struct Building<'text> {
     open: Vec<Open<'text>>,
 }
 
-/// The builder that has taken all lines, in their order.
+// The builder that has taken all lines, in their order, with the workers of an empty one.
 fn builder_of(alloc: Global, lines: Vec<PlanLine<'_>>) -> Result<ScriptBuilder, ScriptError>
     ensures built { IfOk result (λ builder. IsBuiltBy lines.entry.items (built builder)) }
     ensures not_built { IfErr result (IsNotBuilt lines.entry.items) }
@@ -65,7 +65,8 @@ fn builder_of(alloc: Global, lines: Vec<PlanLine<'_>>) -> Result<ScriptBuilder, 
     }
 }
 
-/// The same, with this number of workers.
+/// The builder that has taken all lines, in their order, with this number of workers. Refused are a line that does not go into
+/// the plan, a batch without an end, an end without a batch, and want of memory.
 pub(crate) fn builder_with(
     alloc: Global,
     lines: Vec<PlanLine<'_>>,

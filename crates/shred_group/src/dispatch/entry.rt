@@ -1,5 +1,5 @@
 //! Entries of a plan, in groups that run in order.
-ghost use Rattle.std.specs.Prelude.{◌≡◌, ◌≤◌, ◌<◌, ℕ, List, [], ◌∷◌, ◌++◌, map, length, remove, IfOk, OnOk, OnErr, IfSome, IfNone};
+ghost use Rattle.std.specs.Prelude.{◌≡◌, ◌≤◌, ◌<◌, [], ◌∷◌, ◌++◌, length, remove, IfOk, OnOk, OnErr, IfSome, IfNone};
 ghost use Rattle.shred_model.specs.Plan.{group_ids, group_time};
 ghost use Rattle.shred_table.specs.Id.{same_id};
 ghost use Rattle.shred_table.specs.Parting.{IsEmptyHand};
@@ -9,7 +9,7 @@ ghost use Rattle.shred_group.specs.Left.{difference, without_one};
 ghost use Rattle.shred_group.specs.Sides.{side_of, group_side};
 ghost use Rattle.shred_group.specs.Touching.{share_item, accesses_conflict, group_conflicts, holds_any, is_touched};
 
-use crate::system::{RunningTime, System};
+use crate::system::RunningTime;
 use arrayvec::ArrayVec;
 use shred_world::parting::empty_hand;
 use shred_world::{OutOfMemory, ResourceId, Table, check_intersection};

@@ -35,7 +35,7 @@ pub enum StageFault<E> {
 }
 
 // The table before what is lent shared. It has a slot for each id of the list, and no other slot.
-pub fn before<'s, V>(
+fn before<'s, V>(
     own: &'s Table<V>,
     written: &'s [ResourceId],
     shelf: &'s [Shelf<'s, V>; 1],

@@ -1,6 +1,6 @@
 //! A stage of a plan: groups that run beside each other.
 ghost use Rattle.std.proofs.Props.{props};
-ghost use Rattle.std.specs.Prelude.{◌≡◌, ◌↔◌, ◌<◌, ◌≤◌, ℕ, length, All, IfOk, OnOk, OnErr, IsSome, IfSome, ◌++◌, ◌∷◌, [], slice_set, slice_index_or};
+ghost use Rattle.std.specs.Prelude.{◌≡◌, ◌↔◌, ◌<◌, ◌≤◌, length, All, IfOk, OnOk, OnErr, IsSome, IfSome, ◌++◌, ◌∷◌, [], slice_set, slice_index_or};
 ghost use Rattle.shred_model.specs.Plan.{group_access, group_ids, stage_ids};
 ghost use Rattle.shred_model.specs.Access.{Conflicts};
 ghost use Rattle.shred_model.specs.Beside.{AreApart};
@@ -9,7 +9,7 @@ ghost use Rattle.shred_stage.specs.Placement.{greatest_time};
 ghost use Rattle.shred_group.specs.Left.{difference};
 ghost use Rattle.shred_group.specs.Hands.{KeepsRoom};
 ghost use Rattle.shred_group.specs.OwnLists.{IsEntryOf, IsGroupOf};
-ghost use Rattle.shred_group.specs.PlanOf.{access_of, entry_plan, group_plan, groups_plan, numbers_of, HasEntryIds};
+ghost use Rattle.shred_group.specs.PlanOf.{access_of, entry_plan, groups_plan, numbers_of, HasEntryIds};
 ghost use Rattle.shred_stage.specs.Search.{may_end, OthersDoNotConflict, SpotIs, TouchedIs};
 ghost use Rattle.shred_group.specs.Touching.{is_touched};
 ghost use Rattle.shred_group.specs.Sides.{stage_side};
@@ -419,8 +419,8 @@ where
     }
 }
 
-// The turn of the groups, beside each other on threads. What is proved of one call that makes the bounds of both, systems and
-// controllers, into those of `turn_beside` takes longer than ten seconds; here it is that of controllers.
+// The turn of the groups, beside each other on threads. The caller makes the bound of systems into that of `turn_beside`, and
+// this one the bound of controllers: one call that makes both takes longer than ten seconds to prove.
 fn turn_of_batches<
     R: Threads + Sync,
     V: ResourceValue + Drop + Send + Sync,

@@ -12,9 +12,9 @@ ghost use Rattle.shred_table.specs.Shown.{shown, HasOwnSlots, IsSameSlots};
 ghost use Rattle.shred_table.specs.Slots.{among};
 ghost use Rattle.shred_world.specs.Views.{lent_slot};
 
-use crate::before::behind;
 use crate::calls::{Call, call_over};
 use shred_group::Fault;
+use shred_group::dispatch::before::behind;
 use shred_group::dispatch::stepper::Loan;
 use shred_world::parting::move_each;
 use shred_world::{ResourceId, ResourceValue, Table};

@@ -2,7 +2,6 @@
 //! one, setup and disposal. What takes the turn of a tier of the inner plan is a `Turner`.
 #![tactic(auto)]
 
-pub mod before;
 pub mod by_error;
 pub mod calls;
 pub mod control;

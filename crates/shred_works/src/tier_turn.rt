@@ -8,8 +8,8 @@ ghost use Rattle.shred_group.specs.Lanes.{IsReady, GroupWent};
 ghost use Rattle.shred_group.specs.OwnSlots.{lent_before};
 ghost use Rattle.shred_world.specs.Views.{lent_slot};
 
-use shred_batch::before::behind;
 use shred_group::StageFault;
+use shred_group::dispatch::before::behind;
 use shred_group::dispatch::beside;
 use shred_group::dispatch::entry::Group;
 use shred_group::dispatch::hands::{move_all_back, move_all_out};

@@ -9,7 +9,7 @@ use Rattle.shred_world.specs.declared.world.view.View.{View}
 use Rattle.shred_table.specs.Shown.{Lent, shown, HasOwnSlots}
 use Rattle.shred_table.specs.Slots.{slot_at, slot_held, or_slot, among}
 use Rattle.shred_world.specs.Views.{lent_slot, is_whole, is_own, may_read, view_held, declared_held}
-use Rattle.shred_group.specs.OwnSlots.{HasJustSlots, HasOnlySlots}
+use Rattle.shred_group.specs.OwnSlots.{HasOnlySlots}
 use Rattle.shred_group.specs.Steps.{declared_of}
 
 module _ {V : Type 0} (kind : V → Kind) (v : View V) (reads writes : List ResourceId) (lent : Lent V) (own : Table V)
@@ -47,12 +47,3 @@ still_only_slots {V} ids old new same only q out = empty (slot_at new q) (same q
   empty : (o : Option (Slot V)) → is_some o ≡ false → o ≡ None
   empty (Some s) h = absurd (cc)
   empty None h = refl
-
--- of ids for which alone a table has slots, a table that shows them before what is lent shows the slots
-pub just_before : {V : Type 0} (ids : List ResourceId) (lent : Lent V) (own : Table V) → HasJustSlots ids own → (q : ResourceId) → cond (among ids q) (slot_at own q) (lent q) ≡ or_slot (slot_at own q) (lent q)
-just_before {V} ids lent own just q = by_slot (slot_at own q) (among ids q) (just q) where
-  by_slot : (o : Option (Slot V)) (b : Bool) → is_some o ≡ b → cond b o (lent q) ≡ or_slot o (lent q)
-  by_slot (Some s) true e = refl
-  by_slot (Some s) false e = absurd (cc)
-  by_slot None true e = absurd (cc)
-  by_slot None false e = refl

@@ -1,6 +1,7 @@
 //! Groups of entries, and their runs.
 
 pub mod alone;
+pub mod before;
 pub mod beside;
 pub mod entry;
 pub mod hands;

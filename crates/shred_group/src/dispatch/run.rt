@@ -14,6 +14,7 @@ ghost use Rattle.shred_table.specs.declared.id.ResourceId.{ResourceId};
 ghost use Rattle.shred_table.specs.Shown.{shown, HasOwnSlots, IsSameSlots};
 ghost use Rattle.shred_world.specs.Views.{lent_slot};
 
+use crate::dispatch::before::behind;
 use crate::dispatch::entry::{SystemEntry, SystemId};
 use crate::dispatch::stepper::{Loan, Stepper};
 use crate::system::Fault;
@@ -32,18 +33,6 @@ pub enum StageFault<E> {
     /// The stage was refused for memory before it began.
     #[error("out of memory")]
     Memory,
-}
-
-// The table before what is lent shared. It has a slot for each id of the list, and no other slot.
-fn before<'s, V>(
-    own: &'s Table<V>,
-    written: &'s [ResourceId],
-    shelf: &'s [Shelf<'s, V>; 1],
-) -> [Shelf<'s, V>; 1]
-    requires { HasJustSlots written.now own.now }
-    ensures { (id : ResourceId) → lent_slot result id ≡ lent_before own.now (lent_slot shelf.now) id }
-{
-    [Shelf::before(own, written, shelf)]
 }
 
 // One step, over a table that has what may be written and nothing else.
@@ -87,7 +76,7 @@ fn step_in_hand<V: ResourceValue, X, E, T: Stepper<V, X, E>>(
     ensures writes { entry.new.writes ≡ entry.old.writes }
     ensures own_lists { T.may_keep by.now entry.new.system entry.new.reads.items entry.new.writes.items }
 {
-    let nearest = before(own, written, shelf);
+    let nearest = behind(own, written, shelf);
     step_over(
         by,
         entry.reads.as_slice(),

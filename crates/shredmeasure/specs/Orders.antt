@@ -8,10 +8,10 @@ use Rattle.shredmeasure.specs.declared.order.Order.{Order}
 use Rattle.shredmeasure.specs.declared.order.Place.TheVariants.{OnCaller, OnThreads}
 
 -- the word that stands for a mode
-abbrev pub mode_word : Mode → List ℕ
-mode_word (Dispatching OnCaller) = codes "seq"
-mode_word (Dispatching OnThreads) = codes "par"
-mode_word Planning = codes "plan"
+abbrev pub order_word : Mode → List ℕ
+order_word (Dispatching OnCaller) = codes "seq"
+order_word (Dispatching OnThreads) = codes "par"
+order_word Planning = codes "plan"
 
 -- The word writes this number of 64 bits, in digits after a plus or none.
 abbrev pub Writes : List ℕ → ℕ → Type 0
@@ -31,7 +31,7 @@ HasSpace text = position_or_len is_blank text < length text
 
 -- These words are the mode's, the number of systems, of which there are at most ten thousand, and the number of times.
 pub record AreWords (mode systems times : List ℕ) (order : Order) : Type 0 where
-  pub mode_is : mode ≡ mode_word order.mode
+  pub mode_is : mode ≡ order_word order.mode
   pub systems_are : Writes systems order.systems
   pub few : order.systems ≤ 10000
   pub times_are : Writes times order.times

@@ -1,6 +1,6 @@
 //! What is asked of the program.
 ghost use Rattle.std.specs.Prelude.{◌≡◌, ◌≢◌, ℕ, MatchOption};
-ghost use Rattle.shredmeasure.specs.Orders.{AreWords, Asks, Writes, first_line, mode_word};
+ghost use Rattle.shredmeasure.specs.Orders.{AreWords, Asks, Writes, first_line, order_word};
 
 /// Where the groups of a stage run.
 #[derive(Clone, Copy)]
@@ -30,7 +30,7 @@ const MOST_SYSTEMS: u64 = 10_000;
 impl Mode {
     /// The mode that a word stands for, if it stands for one.
     fn of_word(word: &str) -> Option<Mode>
-        ensures { MatchOption result ((mode : Mode) → word.now ≢ mode_word mode) (λ mode. word.now ≡ mode_word mode) }
+        ensures { MatchOption result ((mode : Mode) → word.now ≢ order_word mode) (λ mode. word.now ≡ order_word mode) }
     {
         match word {
             "seq" => Some(Mode::Dispatching(Place::OnCaller)),

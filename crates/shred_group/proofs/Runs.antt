@@ -1,4 +1,5 @@
 -- Runs of entries, groups and stages.
+pub mod Alone
 pub mod Forked
 pub mod ForkedRuns
 pub mod FramedRuns
@@ -12,4 +13,3 @@ pub mod Sweeps
 pub mod TakenTurns
 pub mod Viewed
 pub mod Zips
-pub mod Alone

@@ -2,7 +2,6 @@
 ghost use Rattle.std.specs.Prelude.{◌-◌, ◌≡◌, ◌≤◌, ℕ, List, suc};
 ghost use Rattle.shred_group.specs.Steppers.{HasLoanSlots, IsStepBy, IsStepper};
 ghost use Rattle.shred_table.specs.declared.id.ResourceId.{ResourceId};
-ghost use Rattle.shred_works.specs.OwnRules.{AreRulesOf};
 ghost use Rattle.shred_world.specs.Views.{lent_slot};
 
 use crate::turners::InOrder;
@@ -66,24 +65,19 @@ fn step_by<
     X,
     E: Drop,
     K: Works<V, X, E>,
-    D: Rules<V, X, E>,
     F: Fn(&mut X, &Loan<'_, V>, &mut Table<V>) -> Result<(), Fault<E>>,
->(
-    rules: &D,
-    run: &F,
-    depth: usize,
-    work: &mut X,
-    loan: &Loan<V>,
-    own: &mut Table<V>,
-) -> Result<(), Fault<E>>
-    requires stepper { (less : ℕ) → depth ≡ suc less → IsStepper V X E V.kind_of (D.may_keep rules.now) (D.step rules.now) (F.pre run.now) (F.post run.now) }
-    requires rules { (less : ℕ) → depth ≡ suc less → AreRulesOf K.keeps K.steps less (D.may_keep rules.now) (D.step rules.now) }
+>(run: &F, depth: usize, work: &mut X, loan: &Loan<V>, own: &mut Table<V>) -> Result<(), Fault<E>>
+    requires stepper { (less : ℕ) → depth ≡ suc less → IsStepper V X E V.kind_of (K.keeps less) (K.steps less) (F.pre run.now) (F.post run.now) }
     requires own_lists { K.keeps depth work.old loan.now.reads.now loan.now.writes.now }
     requires has { HasLoanSlots loan.now own.old }
     ensures step { IsStepBy V.kind_of (K.keeps depth) (K.steps depth) loan.now.reads.now loan.now.writes.now (lent_slot loan.now.shelf.now) work.old own.old result work.new own.new }
     ensures noted { K.noted work.new ≡ K.noted work.old }
 {
-    let by = ByRules { rules, run };
+    let rules = Depth {
+        depth: depth.saturating_sub(1),
+        works: PhantomData::<K>,
+    };
+    let by = ByRules { rules: &rules, run };
     K::step(&InOrder { by: &by }, depth, work, loan, own)
 }
 
@@ -106,9 +100,5 @@ pub fn step_in_order<V: ResourceValue + Drop, X, E: Drop, K: Works<V, X, E>>(
         requires { 1 ≤ depth × K.keeps (depth - 1) work.old loan.now.reads.now loan.now.writes.now × HasLoanSlots loan.now own.old }
         ensures { IsStepBy V.kind_of (K.keeps (depth - 1)) (K.steps (depth - 1)) loan.now.reads.now loan.now.writes.now (lent_slot loan.now.shelf.now) work.old own.old result work.new own.new }
     { step_in_order::<_, _, _, K>(depth - 1, work, loan, own) };
-    let rules = Depth {
-        depth: depth.saturating_sub(1),
-        works: PhantomData::<K>,
-    };
-    step_by::<_, _, _, K, _, _>(&rules, &step, depth, work, loan, own)
+    step_by::<_, _, _, K, _>(&step, depth, work, loan, own)
 }

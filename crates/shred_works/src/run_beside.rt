@@ -2,11 +2,10 @@
 ghost use Rattle.std.specs.Prelude.{◌-◌, ◌≡◌, ◌≤◌, ℕ, suc};
 ghost use Rattle.std.specs.Thread.{IsSync};
 ghost use Rattle.shred_group.specs.Steppers.{HasLoanSlots, IsStepBy, IsStepper};
-ghost use Rattle.shred_works.specs.OwnRules.{AreRulesOf};
 ghost use Rattle.shred_world.specs.Views.{lent_slot};
 
 use crate::beside::step_over;
-use crate::run::{ByRules, Depth, Rules};
+use crate::run::{ByRules, Depth};
 use crate::works::Works;
 use shred_group::Fault;
 use shred_group::dispatch::stepper::Loan;
@@ -20,12 +19,10 @@ fn step_by<
     V: ResourceValue + Drop + Send + Sync,
     X: Send,
     E: Drop + Send,
-    K: Works<V, X, E>,
-    D: Rules<V, X, E> + Sync,
+    K: Works<V, X, E> + Sync,
     F: Fn(&mut X, &Loan<'_, V>, &mut Table<V>) -> Result<(), Fault<E>> + Sync,
 >(
     rt: &R,
-    rules: &D,
     run: &F,
     depth: usize,
     work: &mut X,
@@ -33,14 +30,18 @@ fn step_by<
     own: &mut Table<V>,
     workers: usize,
 ) -> Result<(), Fault<E>>
-    requires stepper { (less : ℕ) → depth ≡ suc less → IsStepper V X E V.kind_of (D.may_keep rules.now) (D.step rules.now) (F.pre run.now) (F.post run.now) }
-    requires rules { (less : ℕ) → depth ≡ suc less → AreRulesOf K.keeps K.steps less (D.may_keep rules.now) (D.step rules.now) }
+    requires stepper { (less : ℕ) → depth ≡ suc less → IsStepper V X E V.kind_of (K.keeps less) (K.steps less) (F.pre run.now) (F.post run.now) }
     requires own_lists { K.keeps depth work.old loan.now.reads.now loan.now.writes.now }
     requires has { HasLoanSlots loan.now own.old }
     ensures step { IsStepBy V.kind_of (K.keeps depth) (K.steps depth) loan.now.reads.now loan.now.writes.now (lent_slot loan.now.shelf.now) work.old own.old result work.new own.new }
     ensures noted { K.noted work.new ≡ K.noted work.old }
 {
-    step_over::<_, _, _, _, K, _>(rt, &ByRules { rules, run }, depth, work, loan, own, workers)
+    let rules = Depth {
+        depth: depth.saturating_sub(1),
+        works: PhantomData::<K>,
+    };
+    let by = ByRules { rules: &rules, run };
+    step_over::<_, _, _, _, K, _>(rt, &by, depth, work, loan, own, workers)
 }
 
 /// The same step as `step_in_order`, the groups of each inner plan, at every depth, beside each other on at most `workers`
@@ -69,9 +70,5 @@ pub fn step_beside<
         requires { IsSync R.row × 1 ≤ depth × K.keeps (depth - 1) work.old loan.now.reads.now loan.now.writes.now × HasLoanSlots loan.now own.old }
         ensures { IsStepBy V.kind_of (K.keeps (depth - 1)) (K.steps (depth - 1)) loan.now.reads.now loan.now.writes.now (lent_slot loan.now.shelf.now) work.old own.old result work.new own.new }
     { step_beside::<_, _, _, _, K>(rt, depth - 1, work, loan, own, workers) };
-    let rules = Depth {
-        depth: depth.saturating_sub(1),
-        works: PhantomData::<K>,
-    };
-    step_by::<_, _, _, _, K, _, _>(rt, &rules, &step, depth, work, loan, own, workers)
+    step_by::<_, _, _, _, K, _>(rt, &step, depth, work, loan, own, workers)
 }

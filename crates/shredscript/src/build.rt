@@ -65,8 +65,8 @@ fn builder_of(alloc: Global, lines: Vec<PlanLine<'_>>) -> Result<ScriptBuilder, 
     }
 }
 
-/// The builder that has taken all lines, in their order, with this number of workers. Refused are a line that does not go into
-/// the plan, a batch without an end, an end without a batch, and want of memory.
+/// The builder that has taken all lines, in their order, with this number of workers. Refused where a line does not go into the
+/// plan, where a batch has no end or an end no batch, and where memory is wanting.
 pub(crate) fn builder_with(
     alloc: Global,
     lines: Vec<PlanLine<'_>>,

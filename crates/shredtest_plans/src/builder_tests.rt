@@ -4,7 +4,7 @@ use crate::builder_rows::{Add, FIVE, FIVE_PRINTED, ROWS, Row};
 use crate::calls::{built_with_names, expect_add, print_built};
 use crate::planned_system::{OnlyPlanned, PLAIN, system_of};
 use crate::stopping::{Stop, StoppingWriter};
-use shred::{AddError, DispatcherBuilder, PrintError, SystemId, ToWriter};
+use shred::{AddError, Dispatcher, DispatcherBuilder, PrintError, SystemId, SystemNames, ToWriter};
 use shredtest::values::Value;
 use std::alloc::Global;
 use std::process::Abort;
@@ -45,14 +45,25 @@ fn expect_printed(
     assert_eq!(rt; writer.written(), bytes);
 }
 
+/// The dispatcher, with the names of its systems, prints what the row says.
+fn expect_dispatcher_printed(
+    rt: &impl Abort,
+    alloc: Global,
+    dispatcher: &Dispatcher<Value, OnlyPlanned>,
+    names: &SystemNames,
+    row: &Row,
+) {
+    let mut writer = StoppingWriter::new(alloc, None);
+    let mut sink = ToWriter::new(&mut writer);
+    assert_eq!(rt; print_built(dispatcher, &mut sink, names), row.ended);
+    drop(sink);
+    assert_eq!(rt; writer.written(), row.printed.as_bytes());
+}
+
 /// The dispatcher of the builder prints so too.
 fn expect_built(rt: &impl Abort, alloc: Global, builder: Builder, row: &Row) {
     let (dispatcher, names) = built_with_names(builder);
-    let mut writer = StoppingWriter::new(alloc, None);
-    let mut sink = ToWriter::new(&mut writer);
-    assert_eq!(rt; print_built(&dispatcher, &mut sink, &names), row.ended);
-    drop(sink);
-    assert_eq!(rt; writer.written(), row.printed.as_bytes());
+    expect_dispatcher_printed(rt, alloc, &dispatcher, &names, row);
     assert_eq!(rt; dispatcher.max_threads(), row.threads);
 }
 

@@ -31,6 +31,15 @@ pub(crate) fn dispatcher_of<S: System<Value> + Drop>(
     Ok(new_dispatcher(builder.build(), ThreadLocal::new(alloc), 4))
 }
 
+fn add<S: System<Value> + Drop>(
+    builder: &mut DispatcherBuilder<Value, S>,
+    system: S,
+    name: &str,
+    dependencies: &[&str],
+) -> Result<SystemId, AddError> {
+    builder.add(system, name, dependencies)
+}
+
 /// The builder answers so to `add`.
 pub(crate) fn expect_add<S: System<Value> + Drop>(
     rt: &impl Abort,
@@ -40,7 +49,7 @@ pub(crate) fn expect_add<S: System<Value> + Drop>(
     dependencies: &[&str],
     answer: Result<SystemId, AddError>,
 ) {
-    assert_eq!(rt; builder.add(system, name, dependencies), answer);
+    assert_eq!(rt; add(builder, system, name, dependencies), answer);
 }
 
 pub(crate) fn built_with_names<S: System<Value> + Drop>(

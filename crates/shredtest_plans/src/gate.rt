@@ -3,7 +3,7 @@ ghost use Rattle.std.specs.Prelude.{[]};
 ghost use Rattle.shred_group.specs.declared.system.RunningTime.TheVariants.{Average};
 
 use crate::calls::{dispatched, dispatcher_of};
-use shred::{Fault, OutOfMemory, RunningTime, System, View, World};
+use shred::{Dispatcher, Fault, OutOfMemory, RunningTime, System, View, World};
 use shredtest::values::Value;
 use std::alloc::{AllocError, Global};
 use std::process::Abort;
@@ -103,6 +103,29 @@ fn systems_of(
     Ok(systems)
 }
 
+fn dispatcher_meeting(
+    alloc: Global,
+    flags: &Flags,
+    count: usize,
+    turns: u32,
+) -> Result<Dispatcher<Value, Meets<'_>>, Fail> {
+    let systems = systems_of(alloc, flags, count, turns)?;
+    Ok(dispatcher_of(alloc, systems)?)
+}
+
+/// The dispatch ends so.
+fn expect_end(
+    rt: &(impl Abort + AllocGlobal + Threads + Sync),
+    mut dispatcher: Dispatcher<Value, Meets<'_>>,
+    on_threads: bool,
+    ended: &str,
+) -> Result<(), Fail> {
+    let mut world: World<Value> = World::empty(rt.alloc());
+    let end = dispatched(rt, &mut dispatcher, &mut world, on_threads)?;
+    assert_eq!(rt; end.as_str(), ended);
+    Ok(())
+}
+
 /// So many systems stand in one stage, each in a group of its own, and their dispatch ends so.
 fn expect_meeting(
     rt: &(impl Abort + AllocGlobal + Threads + Sync),
@@ -116,13 +139,9 @@ fn expect_meeting(
         last: AtomicBool::new(false),
         between: AtomicBool::new(false),
     };
-    let systems = systems_of(rt.alloc(), &flags, count, turns)?;
-    let mut dispatcher = dispatcher_of(rt.alloc(), systems)?;
-    let mut world: World<Value> = World::empty(rt.alloc());
+    let dispatcher = dispatcher_meeting(rt.alloc(), &flags, count, turns)?;
     assert_eq!(rt; dispatcher.max_threads(), count);
-    let end = dispatched(rt, &mut dispatcher, &mut world, on_threads)?;
-    assert_eq!(rt; end.as_str(), ended);
-    Ok(())
+    expect_end(rt, dispatcher, on_threads, ended)
 }
 
 #[test]

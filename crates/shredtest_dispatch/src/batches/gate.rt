@@ -5,7 +5,7 @@ ghost use Rattle.shred_group.specs.declared.system.RunningTime.TheVariants.{Aver
 use crate::ended::{DONE, Ended, ended, run_ended};
 use shred::{
     AddError, BatchBuilder, BatchController, BatchDispatcher, DispatcherBuilder, Fault, Now,
-    OutOfMemory, RunningTime, System, View, World,
+    OutOfMemory, RunningTime, System, SystemId, View, World,
 };
 use shredtest::values::Value;
 use std::alloc::Global;
@@ -136,17 +136,30 @@ struct Ring {
     turns: u32,
 }
 
+fn builder_on<'f>(alloc: Global, workers: usize) -> Builder<'f> {
+    let builder: Builder = DispatcherBuilder::empty(alloc);
+    builder.with_pool(workers)
+}
+
+fn add_meeting<'f>(builder: &mut Builder<'f>, meets: Meets<'f>) -> Result<SystemId, AddError> {
+    builder.add(meets, "", &[])
+}
+
+fn add_batch<'f>(builder: &mut Builder<'f>, inner: Builder<'f>) -> Result<SystemId, AddError> {
+    builder.add_batch(Once, inner, "", &[])
+}
+
 fn ring_of(alloc: Global, flags: &[AtomicBool; 4], ring: Ring) -> Result<Builder<'_>, AddError> {
-    let mut builder: Builder = DispatcherBuilder::empty(alloc);
+    let mut builder = builder_on(alloc, ring.inner_workers);
     for place in 0..ring.systems.min(4) {
         let meets = Meets {
             own: &flags[place],
             other: &flags[(place + 1) % ring.systems.min(4)],
             turns: ring.turns,
         };
-        builder.add(meets, "", &[])?;
+        add_meeting(&mut builder, meets)?;
     }
-    Ok(builder.with_pool(ring.inner_workers))
+    Ok(builder)
 }
 
 fn inside<'f>(alloc: Global, inner: Builder<'f>) -> Result<Builder<'f>, AddError> {
@@ -161,30 +174,75 @@ fn outermost<'f>(
     batch: Builder<'f>,
     ring: Ring,
 ) -> Result<Builder<'f>, AddError> {
-    let mut builder: Builder = DispatcherBuilder::empty(alloc);
+    let mut builder = builder_on(alloc, ring.workers);
     if ring.beside {
         let meets = Meets {
             own: alone,
             other: alone,
             turns: 1,
         };
-        builder.add(meets, "", &[])?;
+        add_meeting(&mut builder, meets)?;
     }
-    builder.add_batch(Once, batch, "", &[])?;
-    Ok(builder.with_pool(ring.workers))
+    add_batch(&mut builder, batch)?;
+    Ok(builder)
 }
 
-fn called<'f>(
+// The builder of the ring in as many batches as it says, and of what stands beside them.
+fn builder_of<'f>(
+    alloc: Global,
+    flags: &'f [AtomicBool; 4],
+    alone: &'f AtomicBool,
+    ring: Ring,
+) -> Result<Builder<'f>, AddError> {
+    let mut builder = ring_of(alloc, flags, ring)?;
+    for _ in 1..ring.levels {
+        builder = inside(alloc, builder)?;
+    }
+    outermost(alloc, alone, builder, ring)
+}
+
+fn dispatched(
     rt: &(impl Threads + Sync),
-    dispatcher: &mut Dispatcher<'f>,
+    dispatcher: &mut Dispatcher<'_>,
+    world: &mut World<Value>,
+) -> Ended {
+    ended(dispatcher.dispatch(rt, world))
+}
+
+fn dispatched_par(
+    rt: &(impl Threads + Sync),
+    dispatcher: &mut Dispatcher<'_>,
+    world: &mut World<Value>,
+) -> Ended {
+    ended(dispatcher.dispatch_par(rt, world))
+}
+
+fn run(
+    rt: &(impl Threads + Sync),
+    dispatcher: &mut Dispatcher<'_>,
+    world: &mut World<Value>,
+) -> Ended {
+    run_ended(dispatcher.run_now(rt, world.local()))
+}
+
+fn called(
+    rt: &(impl Threads + Sync),
+    dispatcher: &mut Dispatcher<'_>,
     world: &mut World<Value>,
     call: Call,
 ) -> Ended {
     match call {
-        Call::Dispatch => ended(dispatcher.dispatch(rt, world)),
-        Call::DispatchPar => ended(dispatcher.dispatch_par(rt, world)),
-        Call::RunNow => run_ended(dispatcher.run_now(rt, world.local())),
+        Call::Dispatch => dispatched(rt, dispatcher, world),
+        Call::DispatchPar => dispatched_par(rt, dispatcher, world),
+        Call::RunNow => run(rt, dispatcher, world),
     }
+}
+
+/// How that call ends, over an empty world.
+fn end_of(rt: &(impl AllocGlobal + Threads + Sync), builder: Builder<'_>, call: Call) -> Ended {
+    let mut dispatcher = builder.build();
+    let mut world: World<Value> = World::empty(rt.alloc());
+    called(rt, &mut dispatcher, &mut world, call)
 }
 
 /// The plan with this ring, run by this call, ends so.
@@ -201,14 +259,8 @@ fn expect_meeting(
         AtomicBool::new(false),
     ];
     let alone = AtomicBool::new(false);
-    let alloc = rt.alloc();
-    let mut builder = ring_of(alloc, &flags, ring)?;
-    for _ in 1..ring.levels {
-        builder = inside(alloc, builder)?;
-    }
-    let mut dispatcher = outermost(alloc, &alone, builder, ring)?.build();
-    let mut world: World<Value> = World::empty(alloc);
-    assert_eq!(rt; called(rt, &mut dispatcher, &mut world, call), end);
+    let builder = builder_of(rt.alloc(), &flags, &alone, ring)?;
+    assert_eq!(rt; end_of(rt, builder, call), end);
     Ok(())
 }
 

@@ -11,7 +11,7 @@ use std::thread::Threads;
 
 pub(crate) type Builder = BatchBuilder<Value, Adds, Bounds, Now<Adds>>;
 
-type Dispatcher = BatchDispatcher<Value, Adds, Bounds, Now<Adds>>;
+pub(crate) type Dispatcher = BatchDispatcher<Value, Adds, Bounds, Now<Adds>>;
 
 /// A builder with these systems, which depend on nothing.
 pub(crate) fn plan_of(alloc: Global, systems: &[Adds]) -> Result<Builder, AddError> {
@@ -57,6 +57,26 @@ pub(crate) enum Call {
     RunBatchesNow,
 }
 
+fn interleaved(
+    rt: &(impl Threads + Sync),
+    dispatcher: &mut Dispatcher,
+    world: &mut World<Value>,
+) -> Ended {
+    ended(dispatch_batches_interleaved(rt, dispatcher, world))
+}
+
+fn run(rt: &(impl Threads + Sync), dispatcher: &mut Dispatcher, world: &mut World<Value>) -> Ended {
+    run_ended(dispatcher.run_now(rt, world.local()))
+}
+
+fn run_batches(
+    rt: &(impl Threads + Sync),
+    dispatcher: &mut Dispatcher,
+    world: &mut World<Value>,
+) -> Ended {
+    run_ended(run_batches_now(rt, dispatcher, world.local()))
+}
+
 /// How the call ends.
 pub(crate) fn called(
     rt: &(impl Threads + Sync),
@@ -69,9 +89,9 @@ pub(crate) fn called(
         Call::Seq => ended(dispatcher.dispatch_seq(world)),
         Call::Par => ended(dispatcher.dispatch_par(rt, world)),
         Call::Both => ended(dispatcher.dispatch(rt, world)),
-        Call::Interleaved => ended(dispatch_batches_interleaved(rt, dispatcher, world)),
+        Call::Interleaved => interleaved(rt, dispatcher, world),
         Call::ThreadLocal => ended(dispatcher.dispatch_thread_local(rt, world)),
-        Call::RunNow => run_ended(dispatcher.run_now(rt, world.local())),
-        Call::RunBatchesNow => run_ended(run_batches_now(rt, dispatcher, world.local())),
+        Call::RunNow => run(rt, dispatcher, world),
+        Call::RunBatchesNow => run_batches(rt, dispatcher, world),
     }
 }

@@ -2,7 +2,7 @@
 
 use crate::batches::adds::{Adds, IDLE, expect_counts, world_of};
 use crate::batches::bounds::{Bounds, NEVER, times};
-use crate::batches::plans::{Builder, Call, around, called, plan_of};
+use crate::batches::plans::{Builder, Call, Dispatcher, around, called, plan_of};
 use crate::ended::{DONE, Ended};
 use shred::AddError;
 use std::alloc::Global;
@@ -198,6 +198,11 @@ fn builder_of(alloc: Global, row: &Row) -> Result<Builder, AddError> {
     Ok(builder)
 }
 
+fn dispatcher_of(alloc: Global, row: &Row, workers: usize) -> Result<Dispatcher, AddError> {
+    let builder = builder_of(alloc, row)?;
+    Ok(builder.with_pool(workers).build())
+}
+
 /// A call, and the workers of its dispatcher.
 struct Way {
     call: Call,
@@ -242,7 +247,7 @@ fn expect_run(
     way: &Way,
 ) -> Result<(), Fail> {
     let mut world = world_of(rt.alloc(), row.before)?;
-    let mut dispatcher = builder_of(rt.alloc(), row)?.with_pool(way.workers).build();
+    let mut dispatcher = dispatcher_of(rt.alloc(), row, way.workers)?;
     assert_eq!(rt; called(rt, &mut dispatcher, &mut world, way.call), row.end);
     expect_counts(rt, &world, row.after);
     Ok(())

@@ -1,11 +1,15 @@
 //! A plan with a batch and a thread-local system, from setup to disposal.
 
-use crate::batches::adds::{Adds, adds_to, expect_counts, world_of};
+use crate::batches::adds::{Adds, IDLE, expect_counts, world_of};
 use crate::batches::bounds::{Bounds, times};
-use crate::batches::plans::{Call, around, called, plan_of};
-use crate::ended::{DONE, ended};
-use shred::Now;
+use crate::batches::plans::{Call, Dispatcher, around, called, plan_of};
+use crate::ended::{DONE, Ended, ended};
+use shred::{AddError, Now, World};
+use shredtest::values::Value;
+use std::alloc::Global;
+use std::process::Abort;
 use std::test::Fail;
+use std::thread::Threads;
 
 /// A call, and the counts of the system of the batch, of its controller and of the thread-local system after it.
 struct Turn {
@@ -40,31 +44,56 @@ const TURNS: &[Turn] = &[
     },
 ];
 
-#[test]
-fn a_batch_is_set_up_run_and_disposed_of(rt: HostRuntime) -> Result<(), Fail> {
-    let mut world = world_of(rt.alloc(), &[])?;
+const SYSTEM: Adds = Adds {
+    number: 0,
+    amount: 2,
+    inserts: Some(5),
+    leaves: Some(0),
+    ..IDLE
+};
+
+const LOCAL: Adds = Adds {
+    number: 2,
+    amount: 5,
+    inserts: Some(0),
+    ..IDLE
+};
+
+/// The dispatcher of a batch that runs the system twice, and of the thread-local system.
+fn dispatcher_of(alloc: Global) -> Result<Dispatcher, AddError> {
     let controller = Bounds {
         inserts: Some(0),
         ..times(1, 2)
     };
-    let system = Adds {
-        inserts: Some(5),
-        leaves: Some(0),
-        ..adds_to(0, 2)
-    };
-    let local = Adds {
-        inserts: Some(0),
-        ..adds_to(2, 5)
-    };
-    let inner = plan_of(rt.alloc(), &[system])?;
-    let mut builder = around(rt.alloc(), &[], controller, inner)?;
-    builder.add_thread_local(Now(local))?;
-    let mut dispatcher = builder.build();
+    let inner = plan_of(alloc, &[SYSTEM])?;
+    let mut builder = around(alloc, &[], controller, inner)?;
+    builder.add_thread_local(Now(LOCAL))?;
+    Ok(builder.build())
+}
+
+/// The call is done, and leaves these counts.
+fn expect_turn(
+    rt: &(impl Abort + Threads + Sync),
+    dispatcher: &mut Dispatcher,
+    world: &mut World<Value>,
+    turn: &Turn,
+) {
+    assert_eq!(rt; called(rt, dispatcher, world, turn.call), DONE);
+    expect_counts(rt, world, &turn.counts);
+}
+
+fn disposed(dispatcher: Dispatcher, world: &mut World<Value>) -> Ended {
+    ended(dispatcher.dispose(world))
+}
+
+#[test]
+fn a_batch_is_set_up_run_and_disposed_of(rt: HostRuntime) -> Result<(), Fail> {
+    let mut world = world_of(rt.alloc(), &[])?;
+    let mut dispatcher = dispatcher_of(rt.alloc())?;
     for turn in TURNS {
-        assert_eq!(rt; called(&rt, &mut dispatcher, &mut world, turn.call), DONE);
-        expect_counts(&rt, &world, &turn.counts);
+        expect_turn(&rt, &mut dispatcher, &mut world, turn);
     }
-    assert_eq!(rt; ended(dispatcher.dispose(&mut world)), DONE);
+    assert_eq!(rt; disposed(dispatcher, &mut world), DONE);
     expect_counts(&rt, &world, &[0, 8, 20]);
     Ok(())
 }

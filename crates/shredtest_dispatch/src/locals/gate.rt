@@ -4,7 +4,8 @@ ghost use Rattle.shred_group.specs.declared.system.RunningTime.TheVariants.{Aver
 
 use crate::ended::{DONE, Ended, ended, run_ended};
 use shred::{
-    AddError, Dispatcher, DispatcherBuilder, Fault, OutOfMemory, RunningTime, System, View, World,
+    AddError, Dispatcher, DispatcherBuilder, Fault, OutOfMemory, RunningTime, System, SystemId,
+    View, World,
 };
 use shredtest::values::Value;
 use std::alloc::Global;
@@ -75,6 +76,10 @@ impl<'f> System<Value> for Meets<'f> {
     }
 }
 
+type Builder<'f> = DispatcherBuilder<Value, Meets<'f>>;
+
+type Meeting<'f> = Dispatcher<Value, Meets<'f>>;
+
 /// By which call the systems are run.
 #[derive(Clone, Copy)]
 enum Call {
@@ -83,31 +88,60 @@ enum Call {
     RunNow,
 }
 
+fn add_meeting<'f>(builder: &mut Builder<'f>, meets: Meets<'f>) -> Result<SystemId, AddError> {
+    builder.add(meets, "", &[])
+}
+
 // The dispatcher of four systems, each in a group of its own of one stage, on that many workers.
 fn meeting(
     alloc: Global,
     flags: &[AtomicBool; 4],
     workers: usize,
     turns: u32,
-) -> Result<Dispatcher<Value, Meets<'_>>, AddError> {
-    let builder: DispatcherBuilder<Value, Meets> = DispatcherBuilder::new(alloc);
+) -> Result<Meeting<'_>, AddError> {
+    let builder: Builder = DispatcherBuilder::new(alloc);
     let mut builder = builder.with_pool(workers);
     for own in flags {
-        builder.add(Meets { flags, own, turns }, "", &[])?;
+        add_meeting(&mut builder, Meets { flags, own, turns })?;
     }
     Ok(builder.build())
 }
 
-fn called(
+fn dispatched(
     rt: &(impl Threads + Sync),
-    dispatcher: &mut Dispatcher<Value, Meets<'_>>,
+    dispatcher: &mut Meeting<'_>,
     world: &mut World<Value>,
+) -> Ended {
+    ended(dispatcher.dispatch(rt, world))
+}
+
+fn dispatched_par(
+    rt: &(impl Threads + Sync),
+    dispatcher: &mut Meeting<'_>,
+    world: &mut World<Value>,
+) -> Ended {
+    ended(dispatcher.dispatch_par(rt, world))
+}
+
+fn run(
+    rt: &(impl Threads + Sync),
+    dispatcher: &mut Meeting<'_>,
+    world: &mut World<Value>,
+) -> Ended {
+    run_ended(dispatcher.run_now(rt, world.local()))
+}
+
+/// How that call ends, over an empty world.
+fn end_of(
+    rt: &(impl AllocGlobal + Threads + Sync),
+    mut dispatcher: Meeting<'_>,
     call: Call,
 ) -> Ended {
+    let mut world: World<Value> = World::empty(rt.alloc());
     match call {
-        Call::Dispatch => ended(dispatcher.dispatch(rt, world)),
-        Call::DispatchPar => ended(dispatcher.dispatch_par(rt, world)),
-        Call::RunNow => run_ended(dispatcher.run_now(rt, world.local())),
+        Call::Dispatch => dispatched(rt, &mut dispatcher, &mut world),
+        Call::DispatchPar => dispatched_par(rt, &mut dispatcher, &mut world),
+        Call::RunNow => run(rt, &mut dispatcher, &mut world),
     }
 }
 
@@ -125,11 +159,9 @@ fn expect_meeting(
         AtomicBool::new(false),
         AtomicBool::new(false),
     ];
-    let mut dispatcher = meeting(rt.alloc(), &flags, workers, turns)?;
-    let mut world: World<Value> = World::empty(rt.alloc());
+    let dispatcher = meeting(rt.alloc(), &flags, workers, turns)?;
     assert_eq!(rt; dispatcher.max_threads(), 4);
-    let found = called(rt, &mut dispatcher, &mut world, call);
-    assert_eq!(rt; found, end);
+    assert_eq!(rt; end_of(rt, dispatcher, call), end);
     Ok(())
 }
 

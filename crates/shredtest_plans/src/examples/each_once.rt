@@ -1,5 +1,7 @@
 //! The examples of worlds of numbers, with what comes out.
-use shred::{AddError, Dispatcher, DispatcherBuilder, Only, Plain, World, WorldError, only_id};
+use shred::{
+    AddError, Dispatcher, DispatcherBuilder, Only, Plain, SystemId, World, WorldError, only_id,
+};
 use shred_orders::dispatch_interleaved;
 use shredexamples::batch::added_in_rounds;
 use shredexamples::boxed_systems::copied_by_boxes;
@@ -9,7 +11,9 @@ use shredexamples::plan_text::text_of_three;
 use shredexamples::same_end::both_added;
 use shredexamples::world_alone::{double, number_in, number_or_five, set, take, world_of};
 use std::alloc::Global;
+use std::process::Abort;
 use std::test::Fail;
+use std::thread::Threads;
 
 #[test]
 fn a_dispatch_sets_the_count(rt: HostRuntime) {
@@ -54,12 +58,18 @@ fn a_plan_is_printed(rt: HostRuntime) {
     assert_eq!(rt; text.as_str(), THREE);
 }
 
+type Builder = DispatcherBuilder<Only<i64>, Plain<Add>>;
+
+fn add(builder: &mut Builder, system: Add) -> Result<SystemId, AddError> {
+    builder.add(Plain(system), "", &[])
+}
+
 // Two that add, each to a number of its own, on at most so many threads.
 fn adding(alloc: Global, workers: usize) -> Result<Dispatcher<Only<i64>, Plain<Add>>, AddError> {
-    let mut builder: DispatcherBuilder<Only<i64>, Plain<Add>> = DispatcherBuilder::new(alloc);
+    let mut builder: Builder = DispatcherBuilder::new(alloc);
     builder.add_pool(workers);
-    builder.add(Plain(Add { to: 0, amount: 3 }), "", &[])?;
-    builder.add(Plain(Add { to: 1, amount: 4 }), "", &[])?;
+    add(&mut builder, Add { to: 0, amount: 3 })?;
+    add(&mut builder, Add { to: 1, amount: 4 })?;
     Ok(builder.build())
 }
 
@@ -78,15 +88,40 @@ fn taken(world: &mut World<Only<i64>>) -> [Option<i64>; 2] {
     ]
 }
 
+#[derive(Drop)]
+struct WithWorld {
+    dispatcher: Dispatcher<Only<i64>, Plain<Add>>,
+    numbers: World<Only<i64>>,
+}
+
+fn over_two_numbers(alloc: Global, workers: usize) -> Result<WithWorld, Fail> {
+    let dispatcher = adding(alloc, workers)?;
+    let numbers = two_numbers(alloc)?;
+    Ok(WithWorld {
+        dispatcher,
+        numbers,
+    })
+}
+
+/// Both are done, and leave 8 at place 0 and 10 at place 1.
+fn expect_same(rt: &(impl Abort + Threads + Sync), mut first: WithWorld, mut second: WithWorld) {
+    let are_done = both_added(
+        rt,
+        &mut first.dispatcher,
+        &mut first.numbers,
+        &mut second.dispatcher,
+        &mut second.numbers,
+    );
+    assert!(rt; are_done);
+    assert_eq!(rt; taken(&mut first.numbers), [Some(8), Some(10)]);
+    assert_eq!(rt; taken(&mut second.numbers), [Some(8), Some(10)]);
+}
+
 #[test]
 fn dispatches_on_one_thread_and_on_two_end_the_same(rt: HostRuntime) -> Result<(), Fail> {
-    let mut first = adding(rt.alloc(), 1)?;
-    let mut second = adding(rt.alloc(), 2)?;
-    let mut numbers = two_numbers(rt.alloc())?;
-    let mut others = two_numbers(rt.alloc())?;
-    assert!(rt; both_added(&rt, &mut first, &mut numbers, &mut second, &mut others));
-    assert_eq!(rt; taken(&mut numbers), [Some(8), Some(10)]);
-    assert_eq!(rt; taken(&mut others), [Some(8), Some(10)]);
+    let first = over_two_numbers(rt.alloc(), 1)?;
+    let second = over_two_numbers(rt.alloc(), 2)?;
+    expect_same(&rt, first, second);
     Ok(())
 }
 

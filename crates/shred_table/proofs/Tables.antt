@@ -6,3 +6,4 @@ pub mod Ids
 pub mod Slots
 pub mod Held
 pub mod Moves
+pub mod Members

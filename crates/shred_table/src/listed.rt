@@ -1,5 +1,5 @@
 //! A list of a few slots, in the order of their ids.
-ghost use Rattle.std.specs.Prelude.{◌≡◌, ℕ, ◌<◌, ◌≤◌, length, AllPairs, None, Some, Option, IfOk, IfErr, OnOk, OnErr};
+ghost use Rattle.std.specs.Prelude.{◌≡◌, ℕ, ◌<◌, ◌≤◌, length, AllPairs, None, Some, Option, map, IfOk, IfErr, OnOk, OnErr};
 ghost use Rattle.std.specs.Borrow.{sem};
 ghost use Rattle.std.specs.Option.{option_copied, option_copied_mut};
 ghost use Rattle.std.proofs.Props.{props};
@@ -47,6 +47,16 @@ impl<V> Listed<V> {
         match self.place(id) {
             Ok(place) => Some(&self.slots[place].1),
             Err(_) => None,
+        }
+    }
+
+    // The ids that have a slot, in order.
+    pub(crate) fn ids(&self, alloc: Global) -> Result<Vec<ResourceId>, OutOfMemory>
+        ensures { IfOk result (λ ids. ids.items ≡ map (λ slot. slot.0) self.now.slots.items) }
+    {
+        match self.slots.iter().map(|slot| slot.0).collect(alloc) {
+            Ok(ids) => Ok(ids),
+            Err(_) => Err(OutOfMemory),
         }
     }
 

@@ -14,14 +14,28 @@ use std::alloc::Global;
 pub fn empty_hand<V: Drop>(alloc: Global, ids: &[ResourceId]) -> Result<Table<V>, OutOfMemory>
     ensures { IfOk result (IsEmptyHand ids.now) }
 {
-    let mut hand = Table::hand(alloc);
+    with_room(Table::hand(alloc), ids)
+}
+
+/// A world's table with an empty slot for each of these ids, and with no other slot.
+pub fn empty_table<V: Drop>(alloc: Global, ids: &[ResourceId]) -> Result<Table<V>, OutOfMemory>
+    ensures { IfOk result (IsEmptyHand ids.now) }
+{
+    with_room(Table::new(alloc), ids)
+}
+
+// A table that has no slot, with an empty slot for each of these ids.
+fn with_room<V: Drop>(mut table: Table<V>, ids: &[ResourceId]) -> Result<Table<V>, OutOfMemory>
+    requires { (id : ResourceId) → slot_at table id ≡ None }
+    ensures { IfOk result (IsEmptyHand ids.now) }
+{
     for id in ids {
-        match open(&mut hand, *id) {
+        match open(&mut table, *id) {
             Ok(()) => {}
             Err(error) => return Err(error),
         }
     }
-    Ok(hand)
+    Ok(table)
 }
 
 impl<V: Drop> Table<V> {

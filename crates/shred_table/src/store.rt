@@ -1,15 +1,17 @@
 //! Slots by id, hashed or listed.
-ghost use Rattle.std.specs.Prelude.{◌≡◌, None, Some, Option, OnOk, OnErr};
+ghost use Rattle.std.specs.Prelude.{◌≡◌, None, Some, Option, is_some, IfOk, OnOk, OnErr};
 ghost use Rattle.std.specs.Borrow.{sem};
+ghost use Rattle.std.specs.HashMap.{keys};
 ghost use Rattle.std.specs.Option.{option_copied, option_copied_mut};
 ghost use Rattle.shred_table.specs.Lent.{LendsKept};
-ghost use Rattle.shred_table.specs.Slots.{kept_at, with_at};
+ghost use Rattle.shred_table.specs.Slots.{kept_at, with_at, among};
 ghost use Rattle.shred_table.specs.declared.id.ResourceId.{ResourceId};
 
 use crate::accessor::OutOfMemory;
 use crate::id::ResourceId;
 use crate::listed::Listed;
 use crate::table::Slot;
+use std::alloc::Global;
 use std::collections::HashMap;
 
 /// The slots of a world are hashed, and the few of a hand are listed.
@@ -27,6 +29,16 @@ impl<V> Slots<V> {
         match self {
             Slots::Hashed(slots) => slots.get(&id),
             Slots::Listed(slots) => slots.get(id),
+        }
+    }
+
+    // The ids that have a slot.
+    pub(crate) fn ids(&self, alloc: Global) -> Result<Vec<ResourceId>, OutOfMemory>
+        ensures { IfOk result (λ ids. (q : ResourceId) → among ids.items q ≡ is_some (kept_at self.now q)) }
+    {
+        match self {
+            Slots::Hashed(slots) => hashed_ids(alloc, slots),
+            Slots::Listed(slots) => slots.ids(alloc),
         }
     }
 
@@ -67,5 +79,18 @@ impl<V> Slots<V> {
             Slots::Hashed(slots) => slots.remove(&id),
             Slots::Listed(slots) => slots.remove(id),
         }
+    }
+}
+
+// The ids that have a slot.
+fn hashed_ids<V>(
+    alloc: Global,
+    slots: &HashMap<ResourceId, Slot<V>>,
+) -> Result<Vec<ResourceId>, OutOfMemory>
+    ensures { IfOk result (λ ids. ids.items ≡ keys slots.now) }
+{
+    match slots.keys().copied().collect(alloc) {
+        Ok(ids) => Ok(ids),
+        Err(_) => Err(OutOfMemory),
     }
 }

@@ -1,5 +1,5 @@
 //! A table of slots, each of one id; the value of a slot may be moved out of it and back.
-ghost use Rattle.std.specs.Prelude.{◌≡◌, ◌≢◌, ◌||◌, false, IfNone, IfSome, None, Some, MatchOption, OnOk, OnErr, IfOk, IfErr};
+ghost use Rattle.std.specs.Prelude.{◌≡◌, ◌≢◌, ◌||◌, false, is_some, IfNone, IfSome, None, Some, MatchOption, OnOk, OnErr, IfOk, IfErr};
 ghost use Rattle.std.specs.Option.{option_copied, option_copied_mut};
 ghost use Rattle.std.specs.Borrow.{sem};
 ghost use Rattle.shred_table.specs.Slots.{slots_of, slot_at, noted_in, among, of_kind, held, slot_held, with_at};
@@ -135,6 +135,13 @@ impl<V> Table<V> {
         }
     }
 
+    /// The ids that have a slot.
+    pub fn ids(&self) -> Result<Vec<ResourceId>, OutOfMemory>
+        ensures { IfOk result (λ ids. (q : ResourceId) → among ids.items q ≡ is_some (slot_at self.now q)) }
+    {
+        self.slots.ids(self.allocator())
+    }
+
     // Takes the slot of an id away, with its value.
     pub(crate) fn close(&mut self, id: ResourceId)
     where
@@ -262,4 +269,16 @@ pub fn resource_mut<V: ResourceValue, R: Resource<V>>(
 {
     let slot = table.slot_mut(id)?;
     slot.resource_mut()
+}
+
+/// The value that is held under an id, to write.
+pub fn value_mut<V: ResourceValue>(table: &mut Table<V>, id: ResourceId) -> Option<&mut V>
+    ensures shown { option_copied_mut result ≡ held V.kind_of table.old id }
+    ensures* written { sem 𝓛 (LendsHeld V.row V.row (λ v. v) table.entry id result) }
+{
+    if table.get(id).is_none() {
+        return None;
+    }
+    let slot = table.slot_mut(id)?;
+    slot.value_mut()
 }

@@ -13,7 +13,7 @@ use Rattle.shred_table.specs.declared.table.Table.{Table}
 use Rattle.shred_table.specs.contracts.table.Table.{the_row as table_row}
 use Rattle.shred_world.specs.declared.world.view.View.{View}
 use Rattle.shred_world.specs.contracts.world.view.View.{the_row as view_row}
-use Rattle.shred_table.specs.Slots.{with_at}
+use Rattle.shred_table.specs.Slots.{of_kind, with_at}
 use Rattle.shred_world.specs.Views.{view_held, IsSameView}
 use Rattle.shred_world.specs.Worlds.{local_held, world_held}
 
@@ -73,7 +73,13 @@ LendsGot V R kind wrapped s id r = LendsSo (world_row V) R s r
     (λ n w. OnSome r (HoldsWith (world_held kind s.now) id (wrapped w) (world_held kind n)))
     (EndsSame kind s.now)
 
--- the same, or as it was where the call was refused
+-- the world ends with the value last written under the id, which is held there where it is of the id's kind, or as it was where there is none, and all else as it was
+abbrev pub LendsValueOf : (V : RattleType) → (V.Denot → Kind) → MutBor (World V.Denot) → ResourceId → Option (MutBor V.Denot) → Fml
+LendsValueOf V kind s id r = LendsSo (world_row V) V s r
+    (λ n w. OnSome r ((q : ResourceId) → world_held kind n q ≡ with_at (world_held kind s.now) id (of_kind kind id (Some w)) q))
+    (EndsSame kind s.now)
+
+-- the same as of `LendsGot`, or as it was where the call was refused
 abbrev pub LendsGotOk : (V R : RattleType) → (V.Denot → Kind) → (R.Denot → V.Denot) → MutBor (World V.Denot) → ResourceId → {E : Type 0} → Result (MutBor R.Denot) E → Fml
 LendsGotOk V R kind wrapped s id r = LendsSoOk (world_row V) R s r
     (λ n w. HoldsWith (world_held kind s.now) id (wrapped w) (world_held kind n))

@@ -2,6 +2,7 @@
 #![tactic(auto)]
 
 pub mod parting;
+pub mod values;
 pub mod world;
 
 pub use shred_table::{

@@ -1,13 +1,14 @@
 -- What a table holds after a slot of it was written or taken away.
 use Rattle.std.proofs.Common.{◌≡◌, Bool, true, false, Option, Some, None, cond, nat_eq, refl, sym, ◌∙◌, ap, arith}
-use Rattle.std.specs.Prelude.{OnSome, IfSome, IfNone}
-use Rattle.std.specs.Option.{option_map}
+use Rattle.std.specs.Borrow.{Bor, MutBor}
+use Rattle.std.specs.Prelude.{is_none, is_some, MatchOption, OnSome, IfSome, IfNone}
+use Rattle.std.specs.Option.{option_copied, option_copied_mut, option_map}
 use Rattle.std.proofs.lemmas.Bool.Decides.{nat_tests}
 use Rattle.shred_table.specs.declared.id.Kind.{Kind}
 use Rattle.shred_table.specs.declared.id.ResourceId.{ResourceId}
 use Rattle.shred_table.specs.declared.table.Table.{Table}
 use Rattle.shred_table.specs.Id.{same_id}
-use Rattle.shred_table.specs.Slots.{slot_at, slot_held, held, with_at, without_at}
+use Rattle.shred_table.specs.Slots.{of_kind, slot_at, slot_held, held, with_at, without_at}
 use Rattle.shred_table.proofs.Tables.Slots.{same_id-true}
 
 -- what follows from a fact, where there is a value
@@ -25,6 +26,24 @@ pub option_map-shown : {X V : Type 0} (f : X → V) (o : Option X) (h : Option V
 option_map-shown f (Some x) h some none = sym some
 option_map-shown f None h some none = sym none
 
+-- what is found is there
+pub copied-some : {X : Type 0} (r : Option (Bor X)) → is_none r ≡ false → is_some (option_copied r) ≡ true
+copied-some (Some r) there = refl
+copied-some None there = absurd (cc)
+
+-- what is lent of a value is the value
+pub copied-value : {X : Type 0} (r : Option (MutBor X)) (o : Option X) → MatchOption r (o ≡ None) (λ x. o ≡ Some x.now) → option_copied_mut r ≡ o
+copied-value (Some r) o is = sym is
+copied-value None o is = sym is
+
+-- a value that is of the kind is held
+pub of_kind-all : {V : Type 0} (kind : V → Kind) (id : ResourceId) (o : Option V) → is_some (of_kind kind id o) ≡ true → of_kind kind id o ≡ o
+of_kind-all {V} kind id (Some v) there = told (nat_eq (kind v).0 id.kind.0) there where
+  told : (b : Bool) → is_some (let h : Option V = cond b (Some v) None in h) ≡ true → cond b (Some v) None ≡ Some v
+  told true some = refl
+  told false some = absurd (cc)
+of_kind-all kind id None there = refl
+
 module _ {V : Type 0} (kind : V → Kind) (t n : Table V) (id : ResourceId) where
   -- the value v of the id's kind was written
   pub held-written : (v : V) → kind v ≡ id.kind → ((q : ResourceId) → slot_at n q ≡ with_at (slot_at t) id (Some (record { value = Some v })) q) → (q : ResourceId) → held kind n q ≡ with_at (held kind t) id (Some v) q
@@ -34,6 +53,13 @@ module _ {V : Type 0} (kind : V → Kind) (t n : Table V) (id : ResourceId) wher
 
     told : (b : Bool) → same_id id q ≡ b → slot_held kind q (cond b (Some (record { value = Some v })) (slot_at t q)) ≡ cond b (Some v) (held kind t q)
     told true e = rw (right e) refl
+    told false e = refl
+
+  -- a value was written that may be of any kind
+  pub held-lent : (v : V) → ((q : ResourceId) → slot_at n q ≡ with_at (slot_at t) id (Some (record { value = Some v })) q) → (q : ResourceId) → held kind n q ≡ with_at (held kind t) id (of_kind kind id (Some v)) q
+  held-lent v is q = ap (slot_held kind q) (is q) ∙ told (same_id id q) refl where
+    told : (b : Bool) → same_id id q ≡ b → slot_held kind q (cond b (Some (record { value = Some v })) (slot_at t q)) ≡ cond b (of_kind kind id (Some v)) (held kind t q)
+    told true e = ap (λ (i : ResourceId). of_kind kind i (Some v)) (sym (same_id-true id q e))
     told false e = refl
 
   -- the slot was taken away

@@ -1,0 +1,10 @@
+//! Cells whose values many may read or one may write, and a world whose values threads borrow, each from a cell of its own.
+#![tactic(auto)]
+
+mod bits;
+pub mod cell;
+pub mod fact;
+pub mod word;
+
+pub use cell::{InvalidBorrow, Ref, RefMut, TrustCell};
+pub use fact::{Anything, Fact};

@@ -21,6 +21,10 @@ table_of_local l = l.table
 abbrev pub table_of_world : {V : Type 0} → World V → Table V
 table_of_world w = w.local.table
 
+-- the world over a table
+abbrev pub world_over : {V : Type 0} → Table V → World V
+world_over t = record { local = record { table = t } }
+
 -- what a local world holds under an id
 abbrev pub local_held : {V : Type 0} → (V → Kind) → LocalWorld V → ResourceId → Option V
 local_held kind l id = held kind l.table id

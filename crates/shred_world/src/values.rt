@@ -3,7 +3,7 @@ ghost use Rattle.std.specs.Prelude.{◌≡◌};
 ghost use Rattle.std.specs.Borrow.{sem};
 ghost use Rattle.std.specs.Option.{option_copied, option_copied_mut};
 ghost use Rattle.shred_world.specs.Lent.{LendsValueOf};
-ghost use Rattle.shred_world.specs.Worlds.{table_of_world, world_held};
+ghost use Rattle.shred_world.specs.Worlds.{table_of_world, world_held, world_over};
 
 use crate::parting::table_of;
 use crate::world::World;
@@ -37,7 +37,7 @@ pub fn into_table<V>(world: World<V>) -> Table<V>
 
 /// The world over a table.
 pub fn from_table<V>(table: Table<V>) -> World<V>
-    ensures { table_of_world result ≡ table }
+    ensures { result ≡ world_over table }
 {
     World {
         local: LocalWorld { table },

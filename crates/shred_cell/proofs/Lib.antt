@@ -1,2 +1,3 @@
 pub mod Holders
 pub mod Turns
+pub mod Enclosed

@@ -1,0 +1,23 @@
+-- What a clause sees of a shared world and of what it lends.
+use Rattle.std.specs.Prelude.{Bool, Option}
+use Rattle.shred_table.specs.declared.id.Kind.{Kind}
+use Rattle.shred_table.specs.declared.id.ResourceId.{ResourceId}
+use Rattle.shred_table.specs.declared.resource.Resource as resource
+use Rattle.shred_table.specs.declared.resource.ResourceValue as value
+use Rattle.shred_cell.specs.declared.shared.CellRef.{CellRef}
+use Rattle.shred_cell.specs.declared.shared.SharedFetch.{SharedFetch}
+use Rattle.shred_cell.specs.declared.shared.SharedWorld.{SharedWorld}
+use Rattle.shred_cell.specs.Cells.{shown_by, tag_of}
+use Rattle.shred_cell.specs.Shared.{has_cell}
+
+-- whether a value is held under an id, in whose cell it is
+abbrev pub shares : {V : Type 0} {g : value.Ghosts V} → SharedWorld V g → ResourceId → Bool
+shares world id = has_cell world.cells id
+
+-- the kind of the values of a cell
+abbrev pub cell_kind : {V : Type 0} → CellRef V → Kind
+cell_kind cell = tag_of cell.cell.now
+
+-- the value that a guard shows, for as long as it lives
+abbrev pub fetch_shows : {V R : Type 0} {g : resource.Ghosts R V} → SharedFetch V R g → Option V
+fetch_shows fetch = shown_by fetch.guard

@@ -1,0 +1,80 @@
+//! From a world to a shared world, and back.
+ghost use Rattle.std.specs.Prelude.{◌≡◌, ◌||◌, IfErr, IfOk, is_some};
+ghost use Rattle.shred_cell.specs.Shared.{ArePlaced, has_cell};
+ghost use Rattle.shred_cell.specs.SharedWorlds.{shares};
+ghost use Rattle.shred_table.specs.Slots.{among, held, slot_at};
+ghost use Rattle.shred_table.specs.declared.id.ResourceId.{ResourceId};
+ghost use Rattle.shred_world.specs.Worlds.{world_held, world_over};
+
+use super::moves::{enclose, release};
+use super::{OfKind, SharedWorld};
+use crate::cell::TrustCell;
+use shred_table::id::ResourceId;
+use shred_table::parting::empty_table;
+use shred_table::resource::ResourceValue;
+use shred_table::table::Table;
+use shred_world::values::{from_table, into_table};
+use shred_world::world::World;
+
+// The shared world of the values that are held in the table, and of those that are in the cells.
+fn share<V: ResourceValue + Drop>(
+    mut table: Table<V>,
+    ids: Vec<ResourceId>,
+    mut cells: Table<TrustCell<V, OfKind>>,
+) -> SharedWorld<V>
+    requires homes { (q : ResourceId) → is_some (slot_at table q) ≡ among ids.items q }
+    requires covered { (q : ResourceId) → is_some (slot_at cells q) ≡ among ids.items q }
+    requires placed { ArePlaced cells }
+    ensures { (q : ResourceId) → shares result q ≡ (is_some (held V.kind_of table q) || has_cell cells q) }
+{
+    enclose(&mut table, ids.as_slice(), &mut cells);
+    SharedWorld { table, cells, ids }
+}
+
+// The shared world of the values that are held in the table, whose slots are of these ids; or the world over the table as it
+// was, where memory is refused.
+fn share_each<V: ResourceValue + Drop>(
+    table: Table<V>,
+    ids: Vec<ResourceId>,
+) -> Result<SharedWorld<V>, World<V>>
+    requires { (q : ResourceId) → among ids.items q ≡ is_some (slot_at table q) }
+    ensures ok { IfOk result (λ shared. (q : ResourceId) → shares shared q ≡ is_some (held V.kind_of table q)) }
+    ensures err { IfErr result (λ back. back ≡ world_over table) }
+{
+    match empty_table(table.allocator(), ids.as_slice()) {
+        Ok(cells) => Ok(share(table, ids, cells)),
+        Err(_) => Err(from_table(table)),
+    }
+}
+
+impl<V: ResourceValue + Drop> SharedWorld<V> {
+    /// The world, with each of its values in a cell of its own; or the world as it was, where memory is refused.
+    pub fn new(world: World<V>) -> Result<SharedWorld<V>, World<V>>
+        ensures ok { IfOk result (λ shared. (id : ResourceId) → shares shared id ≡ is_some (world_held V.kind_of world id)) }
+        ensures err { IfErr result (λ back. back ≡ world) }
+    {
+        let table = into_table(world);
+        match table.ids() {
+            Ok(ids) => share_each(table, ids),
+            Err(_) => Err(from_table(table)),
+        }
+    }
+
+    /// The world, with the values that the cells have; or the shared world, where a guard that writes was forgotten. It takes
+    /// no memory.
+    pub fn into_world(self) -> Result<World<V>, SharedWorld<V>>
+        ensures ok { IfOk result (λ world. (id : ResourceId) → is_some (world_held V.kind_of world id) ≡ shares self id) }
+        ensures err { IfErr result (λ shared. (id : ResourceId) → shares shared id ≡ shares self id) }
+    {
+        let SharedWorld {
+            mut table,
+            mut cells,
+            ids,
+        } = self;
+        if release(&mut table, ids.as_slice(), &mut cells) {
+            Ok(from_table(table))
+        } else {
+            Err(share(table, ids, cells))
+        }
+    }
+}

@@ -1,0 +1,4 @@
+pub mod Kinds
+pub mod MetaTables
+pub mod Walks
+pub mod MetaWalks

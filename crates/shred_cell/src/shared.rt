@@ -57,6 +57,7 @@ pub struct SharedWorld<V: ResourceValue + Drop> {
 }
 
 /// The cell of an id, whose values are read whole.
+#[derive(Drop)]
 pub struct CellRef<'a, V: ResourceValue + Drop> {
     cell: &'a TrustCell<V, OfKind>,
 }

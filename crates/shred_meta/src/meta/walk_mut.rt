@@ -14,10 +14,7 @@ use shred_world::values::value_of_mut;
 use shred_world::world::World;
 
 // The first of the kinds of which a value is held, and the kinds after it.
-fn first_of<'a, V: ResourceValue>(
-    world: &World<V>,
-    kinds: &'a [Kind],
-) -> Option<(Kind, &'a [Kind])>
+fn first_of<'a, V: ResourceValue>(world: &World<V>, kinds: &'a [Kind]) -> Option<(Kind, &'a [Kind])>
     ensures { MatchOption result (walk (world_held V.kind_of world.now) kinds.now ≡ []) (λ first. (first_held (world_held V.kind_of world.now) kinds.now ≡ Some first.0) × (first.1.now ≡ after_first (world_held V.kind_of world.now) kinds.now)) }
 {
     let mut left = kinds;

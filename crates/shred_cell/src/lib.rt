@@ -7,6 +7,5 @@ pub mod fact;
 pub mod shared;
 pub mod word;
 
-pub use cell::{InvalidBorrow, Ref, RefMut, TrustCell};
 pub use fact::{Anything, Fact};
 pub use shared::{CellRef, OfKind, SharedError, SharedFetch, SharedFetchMut, SharedWorld};

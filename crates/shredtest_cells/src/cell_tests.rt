@@ -1,5 +1,5 @@
 //! One thread on a cell.
-use shred_cell::{InvalidBorrow, TrustCell};
+use shred_cell::cell::{InvalidBorrow, TrustCell};
 use std::test::Fail;
 
 #[test]

@@ -2,7 +2,8 @@
 use crate::numbers::{Number, Sum};
 use crate::shared_total::{add_one, added_by_each};
 use crate::worlds::two_shared_sums;
-use shred_cell::{SharedError, SharedWorld, TrustCell};
+use shred_cell::cell::TrustCell;
+use shred_cell::{SharedError, SharedWorld};
 use std::sync::Wait;
 use std::test::Fail;
 use std::thread::map_indices;

@@ -1,7 +1,8 @@
 //! One thread on a shared world.
 use crate::numbers::{Number, Product, Sum};
 use crate::worlds::{second_sum, sum_of, two_shared_sums};
-use shred_cell::{InvalidBorrow, SharedError, SharedWorld};
+use shred_cell::cell::InvalidBorrow;
+use shred_cell::{SharedError, SharedWorld};
 use shred_world::{Kind, ResourceId};
 use std::test::Fail;
 

@@ -1,7 +1,6 @@
 //! What a guard gives.
 ghost use Rattle.std.specs.Prelude.{◌≡◌, IfOk, Some};
-ghost use Rattle.std.specs.Borrow.{sem};
-ghost use Rattle.shred_cell.specs.Cells.{LendsToWrite, guard_tag, shown_by, tag_of, value_to_write};
+ghost use Rattle.shred_cell.specs.Cells.{guard_tag, shown_by, tag_of, value_to_write};
 
 use super::{InvalidBorrow, Ref, RefMut, TrustCell};
 use crate::fact::{Fact, Kept};
@@ -73,7 +72,6 @@ impl<T: Drop> DerefMut for RefMut<'_, T> {
     ghost deref_mut_gives = { λ guard value. value ≡ value_to_write guard };
 
     fn deref_mut(&mut self) -> &mut T
-        ensures* written { sem 𝓛 (LendsToWrite T.row self.entry result) }
         ensures shown { result.now ≡ value_to_write self.old }
     {
         &mut self.value

@@ -1,8 +1,7 @@
 //! What the guards of a shared world give.
 ghost use Rattle.std.specs.Prelude.{◌≡◌, IfErr, IfOk, Some};
-ghost use Rattle.std.specs.Borrow.{sem};
 ghost use Rattle.shred_cell.specs.Cells.{guard_tag, shown_by};
-ghost use Rattle.shred_cell.specs.SharedWorlds.{LendsResourceToWrite, cell_kind, fetch_shows, resource_to_write};
+ghost use Rattle.shred_cell.specs.SharedWorlds.{cell_kind, fetch_shows, resource_to_write};
 
 use super::{CellRef, OfKind, SharedError, SharedFetch, SharedFetchMut};
 use crate::cell::{InvalidBorrow, Ref};
@@ -76,7 +75,6 @@ impl<V: ResourceValue + Drop, R: Resource<V>> DerefMut for SharedFetchMut<'_, V,
     ghost deref_mut_gives = { λ fetch resource. resource ≡ resource_to_write fetch };
 
     fn deref_mut(&mut self) -> &mut R
-        ensures* written { sem 𝓛 (LendsResourceToWrite V.row R.row self.entry result) }
         ensures shown { result.now ≡ resource_to_write self.old }
     {
         &mut self.resource

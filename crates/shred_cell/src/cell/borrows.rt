@@ -95,8 +95,8 @@ impl<T: Drop, F: Fact<T>> TrustCell<T, F> {
         }
     }
 
-    #[tactic(auto, using(crate::proofs::Turns::turns, crate::proofs::Turns::gains))]
     // A party comes in by one exchange, of the number that was seen for that of the word that the table gives.
+    #[tactic(auto, using(crate::proofs::Turns::turns, crate::proofs::Turns::gains))]
     fn come_in(&self, seen: u64, ask: Ask) -> Result<Claim<'_, Option<Kept<T, F>>>, Missed>
         requires { 0 < right_of ask }
         ensures right { IfOk result (λ hand. hand.right ≡ right_of ask) }

@@ -117,6 +117,10 @@ pub use dispatch::dispatcher::{Dispatcher, new_dispatcher};
 pub use dispatch::names::SystemNames;
 pub use dispatch::nests::Nests;
 pub use shred_batch::{BatchController, MultiDispatchController, MultiDispatcher};
+pub use shred_cell::{
+    CellRef, OfKind, SharedError, SharedFetch, SharedFetchMut, SharedWorld, cell, word,
+};
+pub use shred_meta::{Common, MetaIter, MetaIterMut, MetaMut, MetaTable};
 pub use shred_stage::{
     AddError, Fault, Holds, NoBatch, Occupant, PlanSink, PrintError, RunningTime, RunsInOrder,
     Settles, SinkFailed, Stage, StageFault, StagesBuilder, System, SystemId, ToWriter,

@@ -1,3 +1,2 @@
 pub mod Planner
 pub mod Names
-pub mod Runs

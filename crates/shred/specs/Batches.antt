@@ -4,15 +4,15 @@ use Rattle.shred_model.specs.Access.{Access}
 use Rattle.shred_model.specs.Plan.{Plan, PlanEntry}
 use Rattle.shred_model.specs.Record.{Agent}
 use Rattle.shred_table.specs.declared.id.ResourceId.{ResourceId}
-use Rattle.shred_group.specs.declared.system.RunningTime.{RunningTime}
-use Rattle.shred_batch.specs.Depths.{batch_of}
-use Rattle.shred_batch.specs.KeptControllers.{control_access}
-use Rattle.shred_batch.specs.Works.{tiers_plan}
-use Rattle.shred_batch.specs.declared.work.Nested.{Nested}
-use Rattle.shred_batch.specs.declared.work.Tier.{Tier}
-use Rattle.shred_batch.specs.declared.work.Work.{Work}
-use Rattle.shred_batch.specs.declared.work.Work.TheVariants.{Batch}
-use Rattle.shred_batch.specs.Batches.{IsKeptBatch, IsOneDeeper, joined_access}
+use Rattle.shred_run.specs.declared.system.RunningTime.{RunningTime}
+use Rattle.shred_run.specs.Depths.{batch_of}
+use Rattle.shred_run.specs.KeptControllers.{control_access}
+use Rattle.shred_run.specs.Works.{tiers_plan}
+use Rattle.shred_run.specs.declared.work.Nested.{Nested}
+use Rattle.shred_run.specs.declared.work.Tier.{Tier}
+use Rattle.shred_run.specs.declared.work.Work.{Work}
+use Rattle.shred_run.specs.declared.work.Work.TheVariants.{Batch}
+use Rattle.shred_run.specs.Batches.{IsKeptBatch, IsOneDeeper, joined_access}
 use Rattle.shred_stage.specs.Inner.{tiers_states}
 use Rattle.shred.specs.Built.{Built, IsEntryAdded}
 

@@ -1,13 +1,15 @@
 -- Builders of dispatchers, and what they have come to.
+use Rattle.shred_run.specs.declared.work.Nested.{Nested}
+use Rattle.shred_run.specs.declared.work.Work.{Work}
 use Rattle.std.specs.Prelude.{List}
 use Rattle.shred_stage.specs.BuilderPlan.{planned, barrier_of, builder_states}
-use Rattle.shred_systems.specs.ThreadLocals.{systems_of}
+use Rattle.shred.specs.ThreadLocals.{systems_of}
 use Rattle.shred.specs.Built.{Built}
 use Rattle.shred_stage.specs.Names.{NamedId, names_of, named_ids}
 use Rattle.shred.specs.declared.dispatch.builder.DispatcherBuilder.{DispatcherBuilder}
 
 -- what a builder has come to
-abbrev pub built : {V S B L N A : Type 0} {g : _} → DispatcherBuilder V S B L N A g → Built S L
+abbrev pub built : {V S C L N A M B : Type 0} {vd : _} {sd : _} {ad : _} {cd : _} {bd : _} → DispatcherBuilder V S C L N A M B vd sd ad cd bd → Built (Work S (Nested V S C)) L
 built builder = record {
   plan = planned builder.stages;
   states = builder_states builder.stages;
@@ -19,5 +21,5 @@ built builder = record {
 }
 
 -- its names, with what they stand for
-abbrev pub builder_pairs : {V S B L N A : Type 0} {g : _} → DispatcherBuilder V S B L N A g → List NamedId
+abbrev pub builder_pairs : {V S C L N A M B : Type 0} {vd : _} {sd : _} {ad : _} {cd : _} {bd : _} → DispatcherBuilder V S C L N A M B vd sd ad cd bd → List NamedId
 builder_pairs builder = named_ids builder.names

@@ -5,10 +5,10 @@ use Rattle.shred_model.specs.Plan.{PlanEntry, Plan}
 use Rattle.shred_model.specs.Record.{Agent}
 use Rattle.shred_stage.specs.Added.{AreSame, IsAdded}
 use Rattle.shred_stage.specs.Earlier.{HasIdAt, IsFromBarrier, StandsAfter, AllBeforeBarrier}
-use Rattle.shred_group.specs.Kept.{IsKept}
+use Rattle.shred_run.specs.Kept.{IsKept}
 use Rattle.shred_stage.specs.Known.{Known, known_ids, with_name}
 use Rattle.shred_stage.specs.Placement.{IsPlaced}
-use Rattle.shred_group.specs.declared.system.RunningTime.{RunningTime}
+use Rattle.shred_run.specs.declared.system.RunningTime.{RunningTime}
 
 -- A plan with its systems, the known names, the barrier, the number of the next id, the thread-local systems, and on how many threads a stage runs at most.
 pub record Built (S L : Type 0) : Type 0 where

@@ -1,10 +1,11 @@
-pub mod Done
-pub mod Standing
 pub mod Interleaved
-pub mod NestedInterleaved
 pub mod SameRuns
 pub mod OfKinds
+pub mod OneStep
+pub mod OneRun
+pub mod Done
+pub mod OwnRecords
+pub mod OwnWorks
 pub mod OneEnd
-pub mod OwnEnds
 pub mod Made
 pub mod Needed

@@ -1,5 +1,5 @@
 -- Which systems are deterministic: those whose steps are functions, and those made of deterministic ones, as one that runs alone, a plain one and one of two.
-use Rattle.std.proofs.Common.{◌≡◌, Bool, true, false, cond, ◌||◌, List, [], Option, None, Err, inl, inr, refl, sym, ◌∙◌, ap, subst}
+use Rattle.std.proofs.Common.{◌≡◌, Bool, true, false, cond, ◌||◌, List, [], Option, None, Err, Result, inl, inr, refl, sym, ◌∙◌, ap, subst}
 use Rattle.std.proofs.Math.Path.{fun_ext}
 use Rattle.std.specs.Option.{option_map}
 use Rattle.shred_model.specs.Access.{Access, Declares}
@@ -8,15 +8,18 @@ use Rattle.shred_table.specs.declared.id.ResourceId.{ResourceId}
 use Rattle.shred_table.specs.Slots.{among}
 use Rattle.shred_table.proofs.Tables.Ids.{among-false}
 use Rattle.shred_world.specs.Worked.{Held}
-use Rattle.shred_group.specs.declared.system.Fault.TheVariants.{OutOfMemory}
-use Rattle.shred_group.specs.Alone.{IsStepOver, StepsAlone}
-use Rattle.shred_group.specs.Steps.{Outcome, Step, Written, IsStep, declared_of}
-use Rattle.shred_systems.specs.declared.now.Now.{Now}
-use Rattle.shred_systems.specs.declared.one_of.OneOf.{OneOf}
-use Rattle.shred_systems.specs.declared.one_of.OneOf.TheVariants.{First, Second}
-use Rattle.shred_systems.specs.declared.plain.Plain.{Plain}
-use Rattle.shred_systems.specs.Made.{of_either, StepsEither}
-use Rattle.shred_orders.specs.OneEnd.{AreOfKinds, EndSame, IsDeterministic, IsDeterministicLocal, own_access}
+use Rattle.shred_model.specs.Record.{Agent, Record}
+use Rattle.shred_run.specs.declared.system.Fault.{Fault}
+use Rattle.shred_run.specs.declared.system.Fault.TheVariants.{OutOfMemory}
+use Rattle.shred_run.specs.Controls.{Control, keeping}
+use Rattle.shred_run.specs.Alone.{IsStepOver, StepsAlone}
+use Rattle.shred_run.specs.Steps.{Outcome, Step, Written, declared_of}
+use Rattle.shred.specs.declared.now.Now.{Now}
+use Rattle.shred.specs.declared.one_of.OneOf.{OneOf}
+use Rattle.shred.specs.declared.one_of.OneOf.TheVariants.{First, Second}
+use Rattle.shred.specs.declared.plain.Plain.{Plain}
+use Rattle.shred.specs.Made.{of_either, StepsEither}
+use Rattle.shred_orders.specs.OneEnd.{AreOfKinds, EndSame, IsCall, IsDeterministic, IsDeterministicLocal, own_access}
 use Rattle.shred_orders.proofs.OfKinds.{declared-of-kinds}
 
 module _ {V : Type 0} (access : Access ResourceId) where
@@ -40,7 +43,7 @@ module _ {V : Type 0} (access : Access ResourceId) where
 over : {V S E : Type 0} → Access ResourceId → S → Held V → Outcome E → S → Held V → Written V S E
 over access old before outcome new after = record { agent = []; access = access; before = old; seen = declared_of access before; outcome = outcome; after = new; left = declared_of access after }
 
-over-step : {V S E : Type 0} (kind : V → Kind) (step : Step V S E) (access : Access ResourceId) (old : S) (before : Held V) (outcome : Outcome E) (new : S) (after : Held V) → IsStepOver kind step access old before outcome new after → IsStep kind step access (over access old before outcome new after)
+over-step : {V S E : Type 0} (kind : V → Kind) (step : Step V S E) (access : Access ResourceId) (old : S) (before : Held V) (outcome : Outcome E) (new : S) (after : Held V) → IsStepOver kind step access old before outcome new after → IsCall kind step access (over access old before outcome new after)
 unfolding over
 over-step {V} kind step access old before outcome new after is = record {
   declared = refl;
@@ -86,18 +89,18 @@ pub plain-deterministic : {V T E : Type 0} (kind : V → Kind) (step : Step V T 
 plain-deterministic {V} {T} {E} kind step reads writes Admitted one r q of_r of_q before seen sound admit_r admit_q =
     let end = one (with_states r.before.0 r.after.0 r) (with_states q.before.0 q.after.0 q) (inside r of_r) (inside q of_q) (ap (λ (plain : Plain T). plain.0) before) seen sound admit_r admit_q in
     record { outcome = end.outcome; after = λ i. record { 0 = end.after i }; left = end.left } where
-      inside : (r : Written V (Plain T) E) → IsStep kind (λ (before : Plain T) seen outcome (after : Plain T) left. step before.0 seen outcome after.0 left) (own_access reads writes r.before.0) r → IsStep kind step (own_access reads writes r.before.0) (with_states r.before.0 r.after.0 r)
+      inside : (r : Written V (Plain T) E) → IsCall kind (λ (before : Plain T) seen outcome (after : Plain T) left. step before.0 seen outcome after.0 left) (own_access reads writes r.before.0) r → IsCall kind step (own_access reads writes r.before.0) (with_states r.before.0 r.after.0 r)
       inside r is = record { declared = is.declared; lies = is.lies; sees_only = is.sees_only; keeps_kinds = is.keeps_kinds; frame = is.frame }
 
 module _ {V A B E : Type 0} (kind : V → Kind) (first : Step V A E) (second : Step V B E) (reads writes : A → List ResourceId) (its_reads its_writes : B → List ResourceId) (Admitted : Outcome E → Type 0)
     (one : IsDeterministic kind first reads writes Admitted) (other : IsDeterministic kind second its_reads its_writes Admitted) where
-  is_first : (r : Written V (OneOf A B) E) (b t : A) → IsStep kind (StepsEither first second) (own_access reads writes b) (with_states (First b) (First t) r) → IsStep kind first (own_access reads writes b) (with_states b t r)
+  is_first : (r : Written V (OneOf A B) E) (b t : A) → IsCall kind (StepsEither first second) (own_access reads writes b) (with_states (First b) (First t) r) → IsCall kind first (own_access reads writes b) (with_states b t r)
   is_first r b t is = record { declared = is.declared; lies = is.lies; sees_only = is.sees_only; keeps_kinds = is.keeps_kinds; frame = is.frame }
 
-  is_second : (r : Written V (OneOf A B) E) (b t : B) → IsStep kind (StepsEither first second) (own_access its_reads its_writes b) (with_states (Second b) (Second t) r) → IsStep kind second (own_access its_reads its_writes b) (with_states b t r)
+  is_second : (r : Written V (OneOf A B) E) (b t : B) → IsCall kind (StepsEither first second) (own_access its_reads its_writes b) (with_states (Second b) (Second t) r) → IsCall kind second (own_access its_reads its_writes b) (with_states b t r)
   is_second r b t is = record { declared = is.declared; lies = is.lies; sees_only = is.sees_only; keeps_kinds = is.keeps_kinds; frame = is.frame }
 
-  either : (r q : Written V (OneOf A B) E) (b c t u : OneOf A B) → IsStep kind (StepsEither first second) (own_access (of_either reads its_reads) (of_either writes its_writes) b) (with_states b t r) → IsStep kind (StepsEither first second) (own_access (of_either reads its_reads) (of_either writes its_writes) c) (with_states c u q)
+  either : (r q : Written V (OneOf A B) E) (b c t u : OneOf A B) → IsCall kind (StepsEither first second) (own_access (of_either reads its_reads) (of_either writes its_writes) b) (with_states b t r) → IsCall kind (StepsEither first second) (own_access (of_either reads its_reads) (of_either writes its_writes) c) (with_states c u q)
       → c ≡ b → q.seen ≡ r.seen → AreOfKinds kind r.seen → Admitted r.outcome → Admitted q.outcome → EndSame (with_states b t r) (with_states c u q)
   either r q (First b) (First c) (First t) (First u) of_r of_q before seen sound admit_r admit_q =
       let end = one (with_states b t r) (with_states c u q) (is_first r b t of_r) (is_first q c u of_q) (let e : c ≡ b = cc in e) seen sound admit_r admit_q in
@@ -115,3 +118,9 @@ module _ {V A B E : Type 0} (kind : V → Kind) (first : Step V A E) (second : S
   -- one of two systems is deterministic where both are
   pub one-of-deterministic : IsDeterministic kind (StepsEither first second) (of_either reads its_reads) (of_either writes its_writes) Admitted
   one-of-deterministic r q of_r of_q before seen sound admit_r admit_q = either r q r.before q.before r.after q.after of_r of_q before seen sound admit_r admit_q
+
+-- where a relation allows one end, so it does where the lists stay too
+pub keeping-deterministic : {V X A E : Type 0} (kind : V → Kind) (relation : Control V X A E) (reads writes : X → List ResourceId) (Admitted : Result A (Fault E) → Type 0) → IsDeterministic kind relation reads writes Admitted → IsDeterministic kind (keeping reads writes relation) reads writes Admitted
+keeping-deterministic {V} {X} {A} {E} kind relation reads writes Admitted one r q of_r of_q before seen sound admit_r admit_q = one r q (inside r of_r) (inside q of_q) before seen sound admit_r admit_q where
+  inside : (r : Record Agent ResourceId V X (Result A (Fault E))) → IsCall kind (keeping reads writes relation) (own_access reads writes r.before) r → IsCall kind relation (own_access reads writes r.before) r
+  inside r is = record { declared = is.declared; lies = is.lies.0; sees_only = is.sees_only; keeps_kinds = is.keeps_kinds; frame = is.frame }

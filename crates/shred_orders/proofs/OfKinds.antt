@@ -1,5 +1,5 @@
 -- Values of their ids' kinds: those of a world, those that a system declares of them, and those that a step leaves.
-use Rattle.std.proofs.Common.{◌≡◌, Bool, true, false, cond, ◌||◌, Option, Some, None, inl, inr, sym, ◌∙◌, ap, subst}
+use Rattle.std.proofs.Common.{◌≡◌, Bool, true, false, cond, ◌||◌, Option, Some, None, Result, inl, inr, sym, ◌∙◌, ap, subst}
 use Rattle.std.specs.Prelude.{is_some}
 use Rattle.std.specs.Option.{option_map}
 use Rattle.shred_model.specs.Access.{Access, Declares}
@@ -15,7 +15,11 @@ use Rattle.shred_world.specs.declared.world.World.{World}
 use Rattle.shred_world.specs.Worked.{Held}
 use Rattle.shred_world.specs.Worlds.{world_held}
 use Rattle.shred_world.proofs.Views.HeldKinds.{slot_held-kind}
-use Rattle.shred_group.specs.Steps.{Step, Written, IsStep, declared_of}
+use Rattle.shred_run.specs.declared.system.Fault.{Fault}
+use Rattle.shred_run.specs.Controls.{Control}
+use Rattle.shred_run.specs.NestedRecords.{NestedRecord, IsNestedStep, Reply}
+use Rattle.shred_run.specs.Occupants.{AgentState}
+use Rattle.shred_run.specs.Steps.{declared_of}
 use Rattle.shred_orders.specs.OneEnd.{AreOfKinds}
 use Rattle.shred_orders.proofs.SameRuns.{moved}
 
@@ -34,7 +38,8 @@ declared-of-kinds kind access values sound id k e = shown (among access.reads id
   shown true e = sound id k e
   shown false e = absurd (let f : None ≡ Some k = e in cc)
 
-module _ {V S E : Type 0} (kind : V → Kind) (step : Step V S E) (access : Access ResourceId) (g : Agent → Agent) (c y : Configuration Agent ResourceId V S) (r : Written V S E) (is : IsStep kind step access r) (goes : Goes (moved g r) c y) (sound : AreOfKinds kind c.values) where
+module _ {V S C E X A : Type 0} (kind : V → Kind) (relation : Control V X A E) (state : X → AgentState S C) (reply : A → Reply) (access : Access ResourceId) (answer : Result A (Fault E)) (g : Agent → Agent) (c y : Configuration Agent ResourceId V (AgentState S C)) (r : NestedRecord V S C E)
+    (is : IsNestedStep kind relation state reply access answer r) (goes : Goes (moved g r) c y) (sound : AreOfKinds kind c.values) where
   -- what a step sees
   pub seen-of-kinds : AreOfKinds kind r.seen
   seen-of-kinds id k e = elim (is_declared tell_ids r.access id) [

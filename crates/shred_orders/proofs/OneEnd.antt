@@ -1,146 +1,57 @@
--- Two runs from one place end the same, where all systems allow one end and no memory was wanting.
-use Rattle.std.proofs.Common.{◌≡◌, ℕ, suc, List, [], ◌∷◌, ◌++◌, map, Option, Some, Ok, Err, inl, inr, refl, sym, ◌∙◌, ap, subst}
+-- Two dispatches from one place end the same, where all relations allow one end and no memory was wanting.
+use Rattle.std.proofs.Common.{◌≡◌, ◌≢◌, ℕ, suc, true, false, List, [], ◌∷◌, ◌++◌, map, Ok, Err, Result, All, refl, sym, ◌∙◌, ap, subst}
 use Rattle.std.proofs.Math.Path.{fun_ext}
 use Rattle.std.specs.Prelude.{MatchResult}
 use Rattle.std.specs.List.{AllByRecursion}
-use Rattle.shred_model.specs.Access.{Access, Declares}
+use Rattle.std.proofs.lemmas.List.Elements.{recursion_from_All}
 use Rattle.shred_model.specs.InTurn.{InTurn}
+use Rattle.shred_model.proofs.Records.Framed.{AllByRecursion-weaker}
 use Rattle.shred_model.specs.Plan as model
 use Rattle.shred_model.specs.Record.{Agent}
-use Rattle.shred_model.specs.Replay.{Configuration, AreAlike, Goes, Replays}
+use Rattle.shred_model.specs.Replay.{Configuration, AreAlike, Replays}
 use Rattle.shred_model.specs.Runs.{Answer}
-use Rattle.shred_model.specs.States.{configuration_of}
-use Rattle.shred_model.proofs.Orders.ReplaySteps.{Replays-from_alike}
-use Rattle.shred_model.proofs.Records.Membership.{is_declared}
 use Rattle.shred_table.specs.declared.id.Kind.{Kind}
 use Rattle.shred_table.specs.declared.id.ResourceId.{ResourceId}
-use Rattle.shred_table.proofs.Tables.Ids.{tell_ids}
 use Rattle.shred_world.specs.Worked.{Held}
-use Rattle.shred_group.specs.declared.dispatch.run.StageFault.{StageFault}
-use Rattle.shred_group.specs.declared.dispatch.run.StageFault.TheVariants.{System, Memory}
-use Rattle.shred_group.specs.Entries.{EntryRun, GroupRun, StageTurn, entry_answer}
-use Rattle.shred_group.specs.Steps.{Outcome, Step, Written, IsStep}
-use Rattle.shred_systems.specs.declared.dispatch_error.DispatchError.{DispatchError}
-use Rattle.shred_systems.specs.declared.dispatch_error.DispatchError.TheVariants.{StageMemory}
-use Rattle.shred_systems.specs.LocalRuns.{LocalRun, LocalsRun, local_answer}
-use Rattle.shred_stage.specs.Dispatched.{Dispatched, Situation}
+use Rattle.shred_run.specs.declared.entry.StageFault.{StageFault}
+use Rattle.shred_run.specs.declared.entry.StageFault.TheVariants.{System, Memory}
+use Rattle.shred_run.specs.declared.system.Fault.{Fault}
+use Rattle.shred_run.specs.declared.system.Fault.TheVariants.{OutOfMemory}
+use Rattle.shred_run.specs.Controls.{Control}
+use Rattle.shred_run.specs.Depths.{Declared, Related}
+use Rattle.shred_run.specs.Dispatched.{configuration_in, occupants_of}
+use Rattle.shred_run.specs.NestedRecords.{NestedRecord, again, bound, done}
+use Rattle.shred_run.specs.NestedRuns.{NestedPlanRun, NestedRun}
+use Rattle.shred_run.specs.Occupants.{AgentState, Occupants, of_controller, of_system}
+use Rattle.shred_run.specs.Steps.{Outcome, Step}
+use Rattle.shred_stage.specs.declared.dispatch.dispatch_error.DispatchError.{DispatchError}
+use Rattle.shred_stage.specs.Situations.{dispatch_answer}
+use Rattle.shred.specs.LocalRuns.{LocalRun, LocalsRun, local_answer}
 use Rattle.shred.specs.FullRuns.{FullyDispatched, Whole}
-use Rattle.shred.specs.PlanRuns.{PlanTurn, PlanRun, dispatch_answer}
-use Rattle.shred_orders.specs.OneEnd.{AreOfKinds, EndSame, IsDeterministicLocal, IsSameButThreads, SameEnd}
-use Rattle.shred_orders.proofs.OfKinds.{seen-of-kinds, left-of-kinds}
-use Rattle.shred_orders.proofs.SameRuns.{AreSameRuns, EachAdmitted, FitEach, HasOneRun, KeepsApart, moved, UpToFault-one, Each-one, Goes-one}
+use Rattle.shred_orders.specs.OneEnd.{AllowOneEnd, AreOfKinds, HadMemory, IsDeterministic, IsDeterministicLocal, IsDone, IsNotOutOfMemory, IsSameButThreads, SameEnd, TellsNoLocalWant}
+use Rattle.shred_orders.proofs.Done.{plan_done}
+use Rattle.shred_orders.proofs.OneRun.{nested-one, plan-one}
+use Rattle.shred_orders.proofs.OneStep.{EndsIn, HasOwnLists, IsFine, step-run-one}
+use Rattle.shred_orders.proofs.OwnRecords.{KeepDeclared, OwnsAt, PlanOwns, own-records}
+use Rattle.shred_orders.proofs.SameRuns.{EachFine, moved}
 
--- each answer
-abbrev Each : {F : Type 0} → Answer F → Type 0
-Each a = Unit {0}
+as_joined : {V S C E : Type 0} (list : List (NestedRecord V S C E)) → list ≡ map (moved (λ a. a)) list ++ []
+as_joined [] = refl
+as_joined (r ∷ list) = ap (λ l. r ∷ l) (as_joined list)
 
--- the stage was not refused for memory
-abbrev WasBegun : {E : Type 0} → Answer (StageFault E) → Type 0
-WasBegun (Ok done) = Unit {0}
-WasBegun (Err (System id fault)) = Unit {0}
-WasBegun (Err Memory) = ⊥
-
--- steps under this access, from the state that stands there and over values of their ids' kinds, have one end among the admitted outcomes
-abbrev pub HasOneStep : {V S E : Type 0} → (V → Kind) → Step V S E → (Outcome E → Type 0) → model.PlanEntry ResourceId → (Agent → Option S) → Type 0
-HasOneStep {V} {S} {E} kind step Admitted entry states = (r q : Written V S E) → states [] ≡ Some r.before → IsStep kind step entry.access r → IsStep kind step entry.access q → q.before ≡ r.before → q.seen ≡ r.seen → AreOfKinds kind r.seen → Admitted r.outcome → Admitted q.outcome → EndSame r q
-
--- so it is of each entry of a plan, from the state at its place
-abbrev pub HaveOneStep : {V S E : Type 0} → (V → Kind) → Step V S E → (Outcome E → Type 0) → model.Plan ResourceId → (Agent → Option S) → Type 0
-HaveOneStep kind step Admitted plan states = FitEach (FitEach (FitEach (HasOneStep kind step Admitted) 0) 0) 0 plan states
-
--- two steps from one state that see the same and end the same are the same
-same-record : {V S E : Type 0} (access : Access ResourceId) (r q : Written V S E) → r.agent ≡ [] → q.agent ≡ [] → r.access ≡ access → q.access ≡ access → q.before ≡ r.before → q.seen ≡ r.seen → EndSame r q → r ≡ q
-same-record access r q at_r at_q is_r is_q before seen end i = record {
-  agent = (at_r ∙ sym at_q) i;
-  access = (is_r ∙ sym is_q) i;
-  before = sym before i;
-  seen = sym seen i;
-  outcome = sym end.outcome i;
-  after = sym end.after i;
-  left = sym end.left i;
-}
-
-module _ {V S E : Type 0} (kind : V → Kind) (step : Step V S E) (Admitted : Outcome E → Type 0) (Fine : Answer (DispatchError E) → Type 0) (fine : Fine (Ok tt)) (no_stage : (n : ℕ) → Fine (Err (StageMemory n)) → ⊥) where
-  -- two steps under one access from one place are the same
-  step-one : (entry : model.PlanEntry ResourceId) (g : Agent → Agent) (c y z : Configuration Agent ResourceId V S) (r q : Written V S E) → AreOfKinds kind c.values → HasOneStep kind step Admitted entry (λ w. c.states (g w)) → r.agent ≡ [] → q.agent ≡ []
-      → IsStep kind step entry.access r → IsStep kind step entry.access q → Admitted r.outcome → Admitted q.outcome → Goes (moved g r) c y → Goes (moved g q) c z → r ≡ q
-  step-one entry g c y z r q sound one at_r at_q of_r of_q admit_r admit_q go_r go_q =
-      let found_r : c.states (g []) ≡ Some r.before = ap (λ (a : Agent). c.states (g a)) (sym at_r) ∙ go_r.finds_state in
-      let found_q : c.states (g []) ≡ Some q.before = ap (λ (a : Agent). c.states (g a)) (sym at_q) ∙ go_q.finds_state in
-      let before : q.before ≡ r.before = cc in
-      let seen : q.seen ≡ r.seen = fun_ext (λ id. elim (is_declared tell_ids entry.access id) [
-        | inl d ↦ sym (go_q.finds id (subst (λ access. Declares access id) (sym of_q.declared) d)) ∙ go_r.finds id (subst (λ access. Declares access id) (sym of_r.declared) d)
-        | inr n ↦ of_q.sees_only id n ∙ sym (of_r.sees_only id n)
-      ]) in
-      same-record entry.access r q at_r at_q of_r.declared of_q.declared before seen (one r q found_r of_r of_q before seen (seen-of-kinds kind step entry.access g c y r of_r go_r sound) admit_r admit_q)
-
-  entry-one : HasOneRun (AreOfKinds kind) Admitted (EntryRun kind step) Each (HasOneStep kind step Admitted)
-  entry-one n entry g c y z l m rest others a b apart sound fit fa fb al am (r, is, at_r, of_r, is_a) (q, at, at_q, of_q, is_b) p s =
-      let admit_r : EachAdmitted Admitted (r ∷ []) = subst (λ (w : List (Written V S E)). EachAdmitted Admitted w) is al in
-      let admit_q : EachAdmitted Admitted (q ∷ []) = subst (λ (w : List (Written V S E)). EachAdmitted Admitted w) at am in
-      let first : Replays c (moved g r ∷ rest) y = subst (λ (w : List (Written V S E)). Replays c (map (moved g) w ++ rest) y) is p in
-      let second : Replays c (moved g q ∷ others) z = subst (λ (w : List (Written V S E)). Replays c (map (moved g) w ++ others) z) at s in
-      let same = step-one entry g c first.0 second.0 r q sound fit at_r at_q of_r of_q admit_r.0 admit_q.0 first.1 second.1 in
-      let again : Goes (moved g r) c second.0 = subst (λ (w : Written V S E). Goes (moved g w) c second.0) (sym same) second.1 in
-      record {
-        list = is ∙ (λ i. same i ∷ []) ∙ sym at;
-        answer = is_a ∙ (λ i. entry_answer entry.id (same i).outcome) ∙ sym is_b;
-        middle = first.0;
-        first = first.2;
-        second = Replays-from_alike first.0 second.0 others z (Goes-one tell_ids (moved g r) c first.0 second.0 first.1 again) second.2;
-        sound = left-of-kinds kind step entry.access g c first.0 r of_r first.1 sound;
-        kept = λ w out. first.1.other_states w (λ e. out r.agent (sym e));
-      }
-
-  group-one : HasOneRun (AreOfKinds kind) Admitted (GroupRun kind step) Each (FitEach (HasOneStep kind step Admitted) 0)
-  group-one n group g c y z l m rest others a b apart sound fit fa fb al am run other p q = UpToFault-one (AreOfKinds kind) Admitted (EntryRun kind step) Each (HasOneStep kind step Admitted) tt entry-one 0 group g c y z l m rest others a b apart sound fit tt tt al am run other p q
-
-  stage-one : (stage : model.Stage ResourceId) (g : Agent → Agent) (c y z : Configuration Agent ResourceId V S) (l m rest others : List (Written V S E)) (a b : Answer (StageFault E)) → KeepsApart g → AreOfKinds kind c.values → FitEach (FitEach (HasOneStep kind step Admitted) 0) 0 stage (λ w. c.states (g w)) → WasBegun a → WasBegun b
-      → EachAdmitted Admitted l → EachAdmitted Admitted m → StageTurn kind step stage l a → StageTurn kind step stage m b → Replays c (map (moved g) l ++ rest) y → Replays c (map (moved g) m ++ others) z → AreSameRuns (AreOfKinds kind) g c l m rest others a b y z
-  stage-one stage g c y z l m rest others a b apart sound fit fa fb al am (inl run) (inl other) p q = Each-one (AreOfKinds kind) Admitted (GroupRun kind step) (FitEach (HasOneStep kind step Admitted) 0) group-one 0 stage g c y z l m rest others a b apart sound fit al am run other p q
-  stage-one stage g c y z l m rest others a b apart sound fit fa fb al am (inr refused) other p q = absurd (subst WasBegun refused.1 fa)
-  stage-one stage g c y z l m rest others a b apart sound fit fa fb al am (inl run) (inr refused) p q = absurd (subst WasBegun refused.1 fb)
-
-  begun : (n : ℕ) (a : Answer (StageFault E)) → Fine (dispatch_answer n a) → WasBegun a
-  begun n (Ok done) h = tt
-  begun n (Err (System id fault)) h = tt
-  begun n (Err Memory) h = no_stage n h
-
-  turn-one : HasOneRun (AreOfKinds kind) Admitted (PlanTurn kind step) Fine (FitEach (FitEach (HasOneStep kind step Admitted) 0) 0)
-  turn-one n stage g c y z l m rest others a b apart sound fit fa fb al am (a1, turn, is_a) (b1, other, is_b) p q =
-      let same = stage-one stage g c y z l m rest others a1 b1 apart sound fit (begun n a1 (subst Fine is_a fa)) (begun n b1 (subst Fine is_b fb)) al am turn other p q in
-      record {
-        list = same.list;
-        answer = is_a ∙ ap (dispatch_answer n) same.answer ∙ sym is_b;
-        middle = same.middle;
-        first = same.first;
-        second = same.second;
-        sound = same.sound;
-        kept = same.kept;
-      }
-
-  as_moved : (list : List (Written V S E)) → list ≡ map (moved (λ a. a)) list ++ []
-  as_moved [] = refl
-  as_moved (r ∷ list) = ap (λ (l : List (Written V S E)). r ∷ l) (as_moved list)
-
-  plan-one : (plan : model.Plan ResourceId) (c y z : Configuration Agent ResourceId V S) (l m : List (Written V S E)) (a b : Answer (DispatchError E)) → AreOfKinds kind c.values → HaveOneStep kind step Admitted plan c.states → Fine a → Fine b → EachAdmitted Admitted l → EachAdmitted Admitted m
-      → PlanRun kind step plan l a → PlanRun kind step plan m b → Replays c l y → Replays c m z → (a ≡ b) × AreAlike y z
-  plan-one plan c y z l m a b sound fit fa fb al am run other p q =
-      let same = UpToFault-one (AreOfKinds kind) Admitted (PlanTurn kind step) Fine (FitEach (FitEach (HasOneStep kind step Admitted) 0) 0) fine turn-one 0 plan (λ w. w) c y z l m [] [] a b (λ v w e. e) sound fit fa fb al am run other
-      (subst (λ (w : List (Written V S E)). Replays c w y) (as_moved l) p) (subst (λ (w : List (Written V S E)). Replays c w z) (as_moved m) q) in
+module _ {V S C E : Type 0} (kind : V → Kind) (related : Related V S C E) (declared : Declared S C) (Admitted : Fault E → Type 0)
+    (steps : IsDeterministic kind related.steps declared.reads declared.writes (EndsIn Admitted)) (begins : IsDeterministic kind related.begins declared.control_reads declared.control_writes (EndsIn Admitted)) (asks : IsDeterministic kind related.asks declared.control_reads declared.control_writes (EndsIn Admitted)) where
+  -- two runs of a plan from one place, of fine records, answer the same and lead to one place
+  pub runs-one : {F : Type 0} (answers : ℕ → Answer (StageFault E) → Answer F) (depth other : ℕ) (occupants : Occupants) (plan : model.Plan ResourceId) (c y z : Configuration Agent ResourceId V (AgentState S C)) (l m : List (NestedRecord V S C E)) (a b : Answer F) → AreOfKinds kind c.values
+      → EachFine (IsFine declared Admitted) l → EachFine (IsFine declared Admitted) m → NestedPlanRun false (NestedRun false kind related depth) answers occupants plan l a → NestedPlanRun false (NestedRun false kind related other) answers occupants plan m b → Replays c l y → Replays c m z → (a ≡ b) × AreAlike y z
+  runs-one answers depth other occupants plan c y z l m a b sound fl fm run its p q =
+      let own = nested-one (AreOfKinds kind) (IsFine declared Admitted) kind related
+      (λ access. step-run-one kind related.steps of_system (λ ended. done) access declared.reads declared.writes declared Admitted (λ x y e. cc) (λ x h. h) steps)
+      (λ access. step-run-one kind related.begins of_controller bound access declared.control_reads declared.control_writes declared Admitted (λ x y e. cc) (λ x h. h) begins)
+      (λ access. step-run-one kind related.asks of_controller again access declared.control_reads declared.control_writes declared Admitted (λ x y e. cc) (λ x h. h) asks) depth other in
+      let same = plan-one (AreOfKinds kind) (IsFine declared Admitted) (NestedRun false kind related depth) (NestedRun false kind related other) own answers occupants plan (λ w. w) c y z l m [] [] a b sound fl fm run its
+      (subst (λ (w : List (NestedRecord V S C E)). Replays c w y) (as_joined l) p) (subst (λ (w : List (NestedRecord V S C E)). Replays c w z) (as_joined m) q) in
       (same.answer, record { values = λ id. same.second.values id ∙ sym (same.first.values id); states = λ w. same.second.states w ∙ sym (same.first.states w) })
-
-  -- Two dispatches of one plan from one place end the same, whichever calls they are: where no stage was refused for memory, and each outcome is admitted.
-  pub plan-run-deterministic : (before other after end : Situation (model.Plan ResourceId) V S) (answer its : Answer (DispatchError E)) → AreOfKinds kind before.values → HaveOneStep kind step Admitted before.plan before.states → other ≡ before → Fine answer → Fine its
-      → (ran : Dispatched kind (PlanRun kind step) before answer after) → (too : Dispatched kind (PlanRun kind step) other its end) → EachAdmitted Admitted ran.ran.list → EachAdmitted Admitted too.ran.list → (its ≡ answer) × (end ≡ after)
-  plan-run-deterministic before other after end answer its sound one same fa fb ran too al am =
-      let same_start : configuration_of other.states other.values ≡ configuration_of before.states before.values = (λ i. configuration_of (same i).states (same i).values) in
-      let ends = plan-one before.plan (configuration_of before.states before.values) (configuration_of after.states after.values) (configuration_of end.states end.values) ran.ran.list too.ran.list answer its sound one fa fb al am
-      ran.ran.run (subst (λ (plan : model.Plan ResourceId). PlanRun kind step plan too.ran.list its) (λ i. (same i).plan) too.ran.run)
-      ran.ran.replays (subst (λ (c : Configuration Agent ResourceId V S). Replays c too.ran.list (configuration_of end.states end.values)) same_start too.ran.replays) in
-      let states = fun_ext ends.1.states in
-      let values = fun_ext ends.1.values in
-      (sym ends.0, λ i. record { plan = (too.plan ∙ (λ j. (same j).plan) ∙ sym ran.plan) i; states = states i; values = values i })
 
 -- two calls on an element, from one sound place, with answers that are fine, end the same, at a sound place
 abbrev HasOneTurn : {X H F : Type 0} → (H → Type 0) → (ℕ → X → H → Answer F → X → H → Type 0) → (Answer F → Type 0) → X → Type 0
@@ -167,7 +78,7 @@ module _ {X H F : Type 0} (Sound : H → Type 0) (Own : ℕ → X → H → Answ
 
 -- what comes after the plan's run in a full run
 abbrev Later : {V L E : Type 0} → (V → Kind) → Step V L E → Answer (DispatchError E) → Held V → List L → Answer (DispatchError E) → List L → Held V → Type 0
-Later kind runs of_plan middle before answer after values = MatchResult of_plan (λ done. LocalsRun kind runs before middle answer after values) (λ error. (after ≡ before) × (values ≡ middle) × (answer ≡ Err error))
+Later kind runs of_plan middle before answer after values = MatchResult of_plan (λ ended. LocalsRun kind runs before middle answer after values) (λ error. (after ≡ before) × (values ≡ middle) × (answer ≡ Err error))
 
 module _ {V L E : Type 0} (kind : V → Kind) (runs : Step V L E) (Admitted : Outcome E → Type 0) (Fine : Answer (DispatchError E) → Type 0) (fine : Fine (Ok tt)) (admits : (n : ℕ) (o : Outcome E) → Fine (local_answer n o) → Admitted o) where
   local-one : (x : L) → IsDeterministicLocal kind runs Admitted x → HasOneTurn (AreOfKinds kind) (LocalRun kind runs) Fine x
@@ -180,30 +91,133 @@ module _ {V L E : Type 0} (kind : V → Kind) (runs : Step V L E) (Admitted : Ou
   locals-one (x ∷ xs) one = (local-one x one.0, locals-one xs one.1)
 
   planned : (of_plan : Answer (DispatchError E)) (middle : Held V) (before : List L) (a : Answer (DispatchError E)) (after : List L) (values : Held V) → Fine a → Later kind runs of_plan middle before a after values → Fine of_plan
-  planned (Ok done) middle before a after values h later = fine
+  planned (Ok ended) middle before a after values h later = fine
   planned (Err error) middle before a after values h later = subst Fine later.2 h
 
   later-one : (of_plan : Answer (DispatchError E)) (middle : Held V) (before : List L) (a : Answer (DispatchError E)) (after : List L) (values : Held V) (b : Answer (DispatchError E)) (end : List L) (held : Held V) → AreOfKinds kind middle → AllByRecursion (IsDeterministicLocal kind runs Admitted) before → Fine a → Fine b
       → Later kind runs of_plan middle before a after values → Later kind runs of_plan middle before b end held → (b ≡ a) × (end ≡ after) × (held ≡ values)
-  later-one (Ok done) middle before a after values b end held sound one fa fb later other = turns-one (AreOfKinds kind) (LocalRun kind runs) Fine fine 0 before middle a after values b end held sound (locals-one before one) fa fb later other
+  later-one (Ok ended) middle before a after values b end held sound one fa fb later other = turns-one (AreOfKinds kind) (LocalRun kind runs) Fine fine 0 before middle a after values b end held sound (locals-one before one) fa fb later other
   later-one (Err error) middle before a after values b end held sound one fa fb later other = (other.2 ∙ sym later.2, other.0 ∙ sym later.0, other.1 ∙ sym later.1)
 
-module _ {V S L E : Type 0} (kind : V → Kind) (step : Step V S E) (runs : Step V L E) (Admitted : Outcome E → Type 0) (Fine : Answer (DispatchError E) → Type 0) (fine : Fine (Ok tt)) (no_stage : (n : ℕ) → Fine (Err (StageMemory n)) → ⊥) (admits : (n : ℕ) (o : Outcome E) → Fine (local_answer n o) → Admitted o) where
-  -- Two full runs from one place end the same, whatever their threads: where no stage was refused for memory, and each outcome is admitted.
-  pub full-run-deterministic : (before other after end : Whole (model.Plan ResourceId) V S L) (answer its : Answer (DispatchError E)) → IsSameButThreads before other → AreOfKinds kind before.staged.values → HaveOneStep kind step Admitted before.staged.plan before.staged.states → AllByRecursion (IsDeterministicLocal kind runs Admitted) before.locals
-      → Fine answer → Fine its → (ran : FullyDispatched kind (PlanRun kind step) runs before answer after) → (too : FullyDispatched kind (PlanRun kind step) runs other its end)
-      → (Fine ran.of_plan → EachAdmitted Admitted ran.dispatched.ran.list) → (Fine too.of_plan → EachAdmitted Admitted too.dispatched.ran.list) → SameEnd answer its after end
-  full-run-deterministic before other after end answer its same sound one one_local fa fb ran too al am =
-      let fine_plan = planned kind runs Admitted Fine fine admits ran.of_plan ran.middle before.locals answer after.locals after.staged.values fa ran.locals in
-      let fine_its = planned kind runs Admitted Fine fine admits too.of_plan too.middle other.locals its end.locals end.staged.values fb too.locals in
-      let plans = plan-run-deterministic kind step Admitted Fine fine no_stage before.staged other.staged (record after.staged { values = ran.middle }) (record end.staged { values = too.middle }) ran.of_plan too.of_plan sound one same.staged fine_plan fine_its
-      ran.dispatched too.dispatched (al fine_plan) (am fine_its) in
-      let later : Later kind runs ran.of_plan ran.middle before.locals its end.locals end.staged.values =
-      subst (λ (l : List L). Later kind runs ran.of_plan ran.middle l its end.locals end.staged.values) same.locals
-      (subst (λ (h : Held V). Later kind runs ran.of_plan h other.locals its end.locals end.staged.values) (λ i. (plans.1 i).values)
-      (subst (λ (o : Answer (DispatchError E)). Later kind runs o too.middle other.locals its end.locals end.staged.values) plans.0 too.locals)) in
-      let ends = later-one kind runs Admitted Fine fine admits ran.of_plan ran.middle before.locals answer after.locals after.staged.values its end.locals end.staged.values (λ id k e. sound id k (sym (ran.dispatched.kinds id) ∙ e)) one_local fa fb ran.locals later in
-      record {
-        same_answer = ends.0;
-        same_whole = record { staged = λ i. record { plan = (plans.1 i).plan; states = (plans.1 i).states; values = ends.2 i }; locals = ends.1 };
-      }
+module _ {A E : Type 0} where
+  no-want : (o : Result A (Fault E)) → IsNotOutOfMemory o → EndsIn (λ fault. fault ≢ OutOfMemory) o
+  no-want (Ok x) h = tt
+  no-want (Err fault) h = λ e. h (ap Err e)
+
+  wants-none : (o : Result A (Fault E)) → EndsIn (λ fault. fault ≢ OutOfMemory) o → IsNotOutOfMemory o
+  wants-none (Ok x) h = λ e. cc
+  wants-none (Err fault) h = λ e. h cc
+
+  no-fault : (o : Result A (Fault E)) → IsDone o → EndsIn (λ fault. ⊥) o
+  no-fault (Ok x) h = tt
+  no-fault (Err fault) (x, e) = absurd (cc)
+
+  faults-none : (o : Result A (Fault E)) → EndsIn (λ fault. ⊥) o → IsDone o
+  faults-none (Ok x) h = (x, refl)
+  faults-none (Err fault) h = absurd h
+
+-- where fewer outcomes are admitted, one end is allowed too
+admitting-fewer : {V X A E : Type 0} (kind : V → Kind) (relation : Control V X A E) (reads writes : X → List ResourceId) (Fewer Admitted : Result A (Fault E) → Type 0) → ((o : Result A (Fault E)) → Fewer o → Admitted o) → IsDeterministic kind relation reads writes Admitted → IsDeterministic kind relation reads writes Fewer
+admitting-fewer kind relation reads writes Fewer Admitted fewer one r q of_r of_q before seen sound fine_r fine_q = one r q of_r of_q before seen sound (fewer r.outcome fine_r) (fewer q.outcome fine_q)
+
+done-stage : {E : Type 0} (n : ℕ) (a : Answer (StageFault E)) → dispatch_answer n a ≡ Ok tt → a ≡ Ok tt
+done-stage n (Ok ended) e = refl
+done-stage n (Err (System id fault)) e = absurd (cc)
+done-stage n (Err Memory) e = absurd (cc)
+
+-- a thread-local system whose answer tells of no want was not refused for memory
+tells-no-local : {E : Type 0} (n : ℕ) (o : Outcome E) → TellsNoLocalWant (local_answer n o) → IsNotOutOfMemory o
+tells-no-local n o h e = h n (ap (local_answer n) e)
+
+done-local : {E : Type 0} (n : ℕ) (o : Outcome E) → local_answer n o ≡ Ok tt → IsDone o
+done-local n (Ok ended) e = (tt, refl)
+done-local n (Err fault) e = absurd (cc)
+
+module _ {V S C L E : Type 0} (kind : V → Kind) (related : Related V S C E) (declared : Declared S C) (runs : Step V L E) (before other after end : Whole V S C L) (answer its : Answer (DispatchError E)) (same : IsSameButThreads before other)
+    (ran : FullyDispatched kind related runs before answer after) (too : FullyDispatched kind related runs other its end) (keep : KeepDeclared related declared) (sound : AreOfKinds kind before.staged.values)
+    (owns : (depth : ℕ) → PlanOwns declared (OwnsAt declared depth) (occupants_of before.staged) (configuration_in before.staged).states before.staged.plan) where
+  -- a plan, what stands in it, and a configuration
+  abbrev Start : Type 0
+  Start = model.Plan ResourceId × Occupants × Configuration Agent ResourceId V (AgentState S C)
+
+  abbrev start_of : Whole V S C L → Start
+  start_of whole = (whole.staged.plan, occupants_of whole.staged, configuration_in whole.staged)
+
+  same_start : start_of other ≡ start_of before
+  same_start i = (same.plan i, same.occupants i, same.configuration i)
+
+  own-first : AllByRecursion (λ r. HasOwnLists declared r.before r.access) ran.dispatched.list
+  own-first = own-records declared kind related keep dispatch_answer ran.dispatched.run.0 (occupants_of before.staged) before.staged.plan ran.dispatched.list ran.of_plan (configuration_in before.staged) (configuration_in (record after.staged { values = ran.middle })) (owns ran.dispatched.run.0) ran.dispatched.run.1 ran.dispatched.replays
+
+  replays-too : Replays (configuration_in before.staged) too.dispatched.list (configuration_in (record end.staged { values = too.middle }))
+  replays-too = subst (λ (start : Start). Replays start.2 too.dispatched.list (configuration_in (record end.staged { values = too.middle }))) same_start too.dispatched.replays
+
+  own-second : AllByRecursion (λ r. HasOwnLists declared r.before r.access) too.dispatched.list
+  own-second = own-records declared kind related keep dispatch_answer too.dispatched.run.0 (occupants_of before.staged) before.staged.plan too.dispatched.list too.of_plan (configuration_in before.staged) (configuration_in (record end.staged { values = too.middle })) (owns too.dispatched.run.0)
+      (subst (λ (start : Start). NestedPlanRun true (NestedRun true kind related too.dispatched.run.0) dispatch_answer start.1 start.0 too.dispatched.list too.of_plan) same_start too.dispatched.run.1) replays-too
+
+  module _ (Admitted : Fault E → Type 0) (Ends : Outcome E → Type 0) (Fine : Answer (DispatchError E) → Type 0) (fine : Fine (Ok tt)) (admits : (n : ℕ) (o : Outcome E) → Fine (local_answer n o) → Ends o)
+      (steps : IsDeterministic kind related.steps declared.reads declared.writes (EndsIn Admitted)) (begins : IsDeterministic kind related.begins declared.control_reads declared.control_writes (EndsIn Admitted)) (asks : IsDeterministic kind related.asks declared.control_reads declared.control_writes (EndsIn Admitted)) where
+    fine-records : (list : List (NestedRecord V S C E)) → AllByRecursion (λ r. HasOwnLists declared r.before r.access) list → AllByRecursion (λ r. EndsIn Admitted r.outcome) list → EachFine (IsFine declared Admitted) list
+    fine-records [] own ends = tt
+    fine-records (r ∷ list) own ends = ((own.0, ends.0), fine-records list own.1 ends.1)
+
+    -- Two full runs from one place end the same, whatever their threads: where no stage was refused for memory, and each outcome is admitted.
+    full-run-deterministic : AllByRecursion (IsDeterministicLocal kind runs Ends) before.locals → Fine answer → Fine its
+        → (run : (depth : ℕ) × NestedPlanRun false (NestedRun false kind related depth) dispatch_answer (occupants_of before.staged) before.staged.plan ran.dispatched.list ran.of_plan)
+        → (its_run : (depth : ℕ) × NestedPlanRun false (NestedRun false kind related depth) dispatch_answer (occupants_of other.staged) other.staged.plan too.dispatched.list too.of_plan)
+        → AllByRecursion (λ r. EndsIn Admitted r.outcome) ran.dispatched.list → AllByRecursion (λ r. EndsIn Admitted r.outcome) too.dispatched.list → SameEnd answer its after end
+    full-run-deterministic one_local fa fb run its_run ends its_ends =
+        let plans = runs-one kind related declared Admitted steps begins asks dispatch_answer run.0 its_run.0 (occupants_of before.staged) before.staged.plan (configuration_in before.staged) (configuration_in (record after.staged { values = ran.middle })) (configuration_in (record end.staged { values = too.middle }))
+        ran.dispatched.list too.dispatched.list ran.of_plan too.of_plan sound (fine-records ran.dispatched.list own-first ends) (fine-records too.dispatched.list own-second its_ends) run.1
+        (subst (λ (start : Start). NestedPlanRun false (NestedRun false kind related its_run.0) dispatch_answer start.1 start.0 too.dispatched.list too.of_plan) same_start its_run.1) ran.dispatched.replays replays-too in
+        let middles : too.middle ≡ ran.middle = fun_ext plans.1.values in
+        let states = fun_ext plans.1.states in
+        let later : Later kind runs ran.of_plan ran.middle before.locals its end.locals end.staged.values =
+        subst (λ (l : List L). Later kind runs ran.of_plan ran.middle l its end.locals end.staged.values) same.locals
+        (subst (λ (h : Held V). Later kind runs ran.of_plan h other.locals its end.locals end.staged.values) middles
+        (subst (λ (o : Answer (DispatchError E)). Later kind runs o too.middle other.locals its end.locals end.staged.values) (sym plans.0) too.locals)) in
+        let ends = later-one kind runs Ends Fine fine admits ran.of_plan ran.middle before.locals answer after.locals after.staged.values its end.locals end.staged.values (λ id k e. sound id k (sym (ran.dispatched.kinds id) ∙ e)) one_local fa fb ran.locals later in
+        record {
+          same_answer = ends.0;
+          same_whole = record {
+            plan = too.dispatched.plan ∙ same.plan ∙ sym ran.dispatched.plan;
+            occupants = fun_ext (λ path. too.dispatched.occupants path ∙ (λ i. same.occupants i path) ∙ sym (ran.dispatched.occupants path));
+            configuration = λ i. record { values = ends.2 i; states = states i };
+            locals = ends.1;
+          };
+        }
+
+  -- two full runs in which no memory was wanting
+  pub full-run-alike : AllowOneEnd kind related declared (λ A. IsNotOutOfMemory {A = A}) → All (IsDeterministicLocal kind runs IsNotOutOfMemory) before.locals → HadMemory kind related before.staged ran.dispatched.list ran.of_plan answer → HadMemory kind related other.staged too.dispatched.list too.of_plan its → SameEnd answer its after end
+  full-run-alike one one_local had had_too = full-run-deterministic (λ fault. fault ≢ OutOfMemory) IsNotOutOfMemory TellsNoLocalWant (λ index e. cc) tells-no-local
+      (admitting-fewer kind related.steps declared.reads declared.writes (EndsIn (λ fault. fault ≢ OutOfMemory)) IsNotOutOfMemory wants-none one.steps)
+      (admitting-fewer kind related.begins declared.control_reads declared.control_writes (EndsIn (λ fault. fault ≢ OutOfMemory)) IsNotOutOfMemory wants-none one.begins)
+      (admitting-fewer kind related.asks declared.control_reads declared.control_writes (EndsIn (λ fault. fault ≢ OutOfMemory)) IsNotOutOfMemory wants-none one.asks)
+      (recursion_from_All (IsDeterministicLocal kind runs IsNotOutOfMemory) before.locals one_local) had.told had_too.told had.run had_too.run (ended ran.dispatched.list had.steps) (ended too.dispatched.list had_too.steps) where
+        ended : (list : List (NestedRecord V S C E)) → All (λ r. IsNotOutOfMemory r.outcome) list → AllByRecursion (λ r. EndsIn (λ fault. fault ≢ OutOfMemory) r.outcome) list
+        ended list all = AllByRecursion-weaker (λ (r : NestedRecord V S C E). IsNotOutOfMemory r.outcome) (λ r. EndsIn (λ fault. fault ≢ OutOfMemory) r.outcome) (λ r h. no-want r.outcome h) list (recursion_from_All (λ (r : NestedRecord V S C E). IsNotOutOfMemory r.outcome) list all)
+
+  -- a full run that is Done is one in which no stage was refused for memory, and no outcome is a fault
+  abbrev RanDone : (start : Whole V S C L) (told : Answer (DispatchError E)) (last : Whole V S C L) → FullyDispatched kind related runs start told last → Type 0
+  RanDone start told last full = ((depth : ℕ) × NestedPlanRun false (NestedRun false kind related depth) dispatch_answer (occupants_of start.staged) start.staged.plan full.dispatched.list full.of_plan) × AllByRecursion (λ r. EndsIn (λ fault. ⊥) r.outcome) full.dispatched.list
+
+  ran-done : (start : Whole V S C L) (told : Answer (DispatchError E)) (last : Whole V S C L) (full : FullyDispatched kind related runs start told last) → told ≡ Ok tt → RanDone start told last full
+  ran-done start told last full is =
+      let ok : full.of_plan ≡ Ok tt = planned kind runs IsDone (λ (a : Answer (DispatchError E)). a ≡ Ok tt) refl done-local full.of_plan full.middle start.locals told last.locals last.staged.values is full.locals in
+      let both = plan_done kind related dispatch_answer done-stage full.dispatched.run.0 (occupants_of start.staged) start.staged.plan full.dispatched.list
+      (subst (λ (a : Answer (DispatchError E)). NestedPlanRun true (NestedRun true kind related full.dispatched.run.0) dispatch_answer (occupants_of start.staged) start.staged.plan full.dispatched.list a) ok full.dispatched.run.1) in (
+        (full.dispatched.run.0, subst (λ (a : Answer (DispatchError E)). NestedPlanRun false (NestedRun false kind related full.dispatched.run.0) dispatch_answer (occupants_of start.staged) start.staged.plan full.dispatched.list a) (sym ok) both.0),
+        AllByRecursion-weaker (λ (r : NestedRecord V S C E). IsDone r.outcome) (λ r. EndsIn (λ fault. ⊥) r.outcome) (λ r h. no-fault r.outcome h) full.dispatched.list both.1,
+      )
+
+  -- two full runs that are Done
+  pub full-run-alike-done : AllowOneEnd kind related declared (λ A. IsDone {A = A}) → All (IsDeterministicLocal kind runs IsDone) before.locals → answer ≡ Ok tt → its ≡ Ok tt → SameEnd answer its after end
+  full-run-alike-done one one_local is its_is =
+      let first = ran-done before answer after ran is in
+      let second = ran-done other its end too its_is in
+      full-run-deterministic (λ fault. ⊥) IsDone (λ (a : Answer (DispatchError E)). a ≡ Ok tt) refl done-local
+      (admitting-fewer kind related.steps declared.reads declared.writes (EndsIn (λ fault. ⊥)) IsDone faults-none one.steps)
+      (admitting-fewer kind related.begins declared.control_reads declared.control_writes (EndsIn (λ fault. ⊥)) IsDone faults-none one.begins)
+      (admitting-fewer kind related.asks declared.control_reads declared.control_writes (EndsIn (λ fault. ⊥)) IsDone faults-none one.asks)
+      (recursion_from_All (IsDeterministicLocal kind runs IsDone) before.locals one_local) is its_is first.0 second.0 first.1 second.1

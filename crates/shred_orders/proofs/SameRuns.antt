@@ -1,12 +1,10 @@
--- Two runs that begin at one place are the same, where their steps allow one end.
-use Rattle.std.proofs.Common.{◌≡◌, ◌≢◌, ◌≤◌, ℕ, suc, ◌+◌, slice_get, List, [], ◌∷◌, ◌++◌, map, Option, Some, Ok, Err, inl, inr, refl, sym, ◌∙◌, ap, subst, arith}
-use Rattle.std.proofs.Math.Path.{fun_ext}
-use Rattle.std.specs.Prelude.{option_and_then}
+-- Two runs that begin at one place are the same, where their steps are.
+use Rattle.std.proofs.Common.{◌≡◌, ℕ, suc, List, [], ◌∷◌, ◌++◌, map, Option, Ok, Err, inl, inr, refl, sym, ◌∙◌, ap, subst, append-nil}
 use Rattle.std.specs.List.{AllByRecursion}
+use Rattle.shred_model.specs.Access.{Access}
 use Rattle.shred_model.specs.Record.{Record, Agent, under}
 use Rattle.shred_model.specs.Replay.{Configuration, AreAlike, Goes, Replays}
 use Rattle.shred_model.specs.Runs.{Answer, RunsUpToFault, RunsEach, first_fault}
-use Rattle.shred_model.specs.States.{listed_states}
 use Rattle.shred_model.proofs.Records.Telling.{Tells, tell_agents}
 use Rattle.shred_model.proofs.Records.Membership.{is_declared}
 
@@ -14,176 +12,113 @@ use Rattle.shred_model.proofs.Records.Membership.{is_declared}
 abbrev pub moved : {I V S O : Type 0} → (Agent → Agent) → Record Agent I V S O → Record Agent I V S O
 moved g r = record r { agent = g r.agent }
 
--- different agents are made of different ones
-abbrev pub KeepsApart : (Agent → Agent) → Type 0
-KeepsApart g = (a b : Agent) → g a ≡ g b → a ≡ b
-
--- The runs are the same, with the same answer, what comes after them begins at one place, with values that are sound, and there the states of all agents but those of g are as before.
-pub record AreSameRuns {I V S O F : Type 0} (Sound : (I → Option V) → Type 0) (g : Agent → Agent) (c : Configuration Agent I V S) (l m rest others : List (Record Agent I V S O)) (a b : Answer F) (y z : Configuration Agent I V S) : Type 0 where
+-- The runs are the same, with the same answer, and what comes after them begins at one place, with values that are sound.
+pub record AreSameRuns {I V S O R : Type 0} (Sound : (I → Option V) → Type 0) (l m rest others : List (Record Agent I V S O)) (a b : R) (y z : Configuration Agent I V S) : Type 0 where
   pub list : l ≡ m
   pub answer : a ≡ b
   pub middle : Configuration Agent I V S
   pub first : Replays middle rest y
   pub second : Replays middle others z
   pub sound : Sound middle.values
-  pub kept : (w : Agent) → ((v : Agent) → g v ≢ w) → middle.states w ≡ c.states w
 
--- each outcome is admitted
-abbrev pub EachAdmitted : {I V S O : Type 0} → (O → Type 0) → List (Record Agent I V S O) → Type 0
-EachAdmitted Admitted list = AllByRecursion (λ r. Admitted r.outcome) list
+-- so it is of the access, the state before and the outcome of each record
+abbrev pub EachFine : {I V S O : Type 0} → (Access I → S → O → Type 0) → List (Record Agent I V S O) → Type 0
+EachFine Fine list = AllByRecursion (λ r. Fine r.access r.before r.outcome) list
 
--- two runs of an element that fits its states, whose answers are fine and whose outcomes are admitted, with which two replays from one place with sound values begin, are the same
-abbrev pub HasOneRun : {X I V S O F : Type 0} → ((I → Option V) → Type 0) → (O → Type 0) → (ℕ → X → List (Record Agent I V S O) → Answer F → Type 0) → (Answer F → Type 0) → (X → (Agent → Option S) → Type 0) → Type 0
-HasOneRun {X} {I} {V} {S} {O} {F} Sound Admitted Run Fine Fits = (n : ℕ) (x : X) (g : Agent → Agent) (c y z : Configuration Agent I V S) (l m rest others : List (Record Agent I V S O)) (a b : Answer F)
-    → KeepsApart g → Sound c.values → Fits x (λ w. c.states (g w)) → Fine a → Fine b → EachAdmitted Admitted l → EachAdmitted Admitted m → Run n x l a → Run n x m b → Replays c (map (moved g) l ++ rest) y → Replays c (map (moved g) m ++ others) z → AreSameRuns Sound g c l m rest others a b y z
+-- a run of the one and a run of the other, of fine records, with which two replays from one place with sound values begin, are the same
+abbrev pub HaveOneRun : {I V S O R : Type 0} → ((I → Option V) → Type 0) → (Access I → S → O → Type 0) → (List (Record Agent I V S O) → R → Type 0) → (List (Record Agent I V S O) → R → Type 0) → Type 0
+HaveOneRun {I} {V} {S} {O} {R} Sound Fine Run Its = (g : Agent → Agent) (c y z : Configuration Agent I V S) (l m rest others : List (Record Agent I V S O)) (a b : R)
+    → Sound c.values → EachFine Fine l → EachFine Fine m → Run l a → Its m b → Replays c (map (moved g) l ++ rest) y → Replays c (map (moved g) m ++ others) z → AreSameRuns Sound l m rest others a b y z
 
--- each element fits the states below its place; places count from n
-abbrev pub FitEach : {X S : Type 0} → (X → (Agent → Option S) → Type 0) → ℕ → List X → (Agent → Option S) → Type 0
-FitEach Fits n [] states = Unit {0}
-FitEach Fits n (x ∷ xs) states = Fits x (λ w. states (n ∷ w)) × FitEach Fits (suc n) xs states
-
-module _ {X S : Type 0} (Fits : X → (Agent → Option S) → Type 0) where
-  FitEach-kept : (n : ℕ) (xs : List X) (before after : Agent → Option S) → ((m : ℕ) (w : Agent) → n ≤ m → after (m ∷ w) ≡ before (m ∷ w)) → FitEach Fits n xs before → FitEach Fits n xs after
-  FitEach-kept n [] before after same fit = tt
-  FitEach-kept n (x ∷ xs) before after same fit = (
-    subst (λ (states : Agent → Option S). Fits x states) (fun_ext (λ w. sym (same n w (omega arith)))) fit.0,
-    FitEach-kept (suc n) xs before after (λ m w le. same m w (omega (arith, le))) fit.1,
-  )
-
-  -- after the run of the element at place n, the elements behind it still fit
-  later-fit : {I V : Type 0} (n : ℕ) (xs : List X) (g : Agent → Agent) (c middle : Configuration Agent I V S) → KeepsApart g → ((w : Agent) → ((v : Agent) → g (n ∷ v) ≢ w) → middle.states w ≡ c.states w)
-      → FitEach Fits (suc n) xs (λ w. c.states (g w)) → FitEach Fits (suc n) xs (λ w. middle.states (g w))
-  later-fit n xs g c middle apart kept fit = FitEach-kept (suc n) xs (λ w. c.states (g w)) (λ w. middle.states (g w)) (λ m w le. kept (g (m ∷ w)) (λ v e. other n m v w le (apart (n ∷ v) (m ∷ w) e))) fit where
-    other : (n m : ℕ) (v w : Agent) → suc n ≤ m → (n ∷ v) ≢ (m ∷ w)
-    other n m v w le e = let same : n ≡ m = cc in omega (arith, le, same)
-
-module _ {X Y S : Type 0} (Fits : X → (Agent → Option S) → Type 0) (view : Y → X) (states : Y → Agent → Option S) where
-  fit-behind : (n : ℕ) (ys all : List Y) → ((k : ℕ) → slice_get all (n + k) ≡ slice_get ys k) → AllByRecursion (λ y. Fits (view y) (states y)) ys → FitEach Fits n (map view ys) (listed_states states all)
-  fit-behind n [] all at h = tt
-  fit-behind n (y ∷ ys) all at h =
-      let here : slice_get all n ≡ Some y = ap (slice_get all) (let e : n ≡ n + 0 = omega arith in e) ∙ at 0 in (
-        subst (λ (below : Agent → Option S). Fits (view y) below) (fun_ext (λ w. ap (option_and_then (λ (z : Y). states z w)) (sym here))) h.0,
-        fit-behind (suc n) ys all (λ k. ap (slice_get all) (let e : suc n + k ≡ n + suc k = omega arith in e) ∙ at (suc k)) h.1,
-      )
-
-  -- where each element fits its own states, all of them fit theirs
-  pub listed-fit : (ys : List Y) → AllByRecursion (λ y. Fits (view y) (states y)) ys → FitEach Fits 0 (map view ys) (listed_states states ys)
-  listed-fit ys h = fit-behind 0 ys ys (λ k. ap (slice_get ys) (let e : 0 + k ≡ k = omega arith in e)) h
-
-apart-below : (g : Agent → Agent) (n : ℕ) → KeepsApart g → KeepsApart (λ w. g (n ∷ w))
-apart-below g n apart a b e = let same : (n ∷ a) ≡ (n ∷ b) = apart (n ∷ a) (n ∷ b) e in cc
+module _ {I V S O R T : Type 0} (Sound : (I → Option V) → Type 0) (f : R → T) (l m rest others : List (Record Agent I V S O)) (o p : R) (a b : T) (y z : Configuration Agent I V S) where
+  -- what is answered for their answers is the same too
+  pub told-same : AreSameRuns Sound l m rest others o p y z → a ≡ f o → b ≡ f p → AreSameRuns Sound l m rest others a b y z
+  told-same same is at = record { list = same.list; answer = is ∙ ap f same.answer ∙ sym at; middle = same.middle; first = same.first; second = same.second; sound = same.sound }
 
 module _ {I V S O : Type 0} where
-  regrouped : (g : Agent → Agent) (n : ℕ) (first more rest : List (Record Agent I V S O)) → map (moved g) (map (under n) first ++ more) ++ rest ≡ map (moved (λ a. g (n ∷ a))) first ++ (map (moved g) more ++ rest)
-  regrouped g n [] more rest = refl
-  regrouped g n (r ∷ first) more rest = ap (λ (l : List (Record Agent I V S O)). moved (λ a. g (n ∷ a)) r ∷ l) (regrouped g n first more rest)
+  regrouped : (g h : Agent → Agent) (first more rest : List (Record Agent I V S O)) → map (moved g) (map (moved h) first ++ more) ++ rest ≡ map (moved (λ a. g (h a))) first ++ (map (moved g) more ++ rest)
+  regrouped g h [] more rest = refl
+  regrouped g h (r ∷ first) more rest = ap (λ (l : List (Record Agent I V S O)). moved (λ a. g (h a)) r ∷ l) (regrouped g h first more rest)
 
-  regrouped-last : (g : Agent → Agent) (n : ℕ) (first rest : List (Record Agent I V S O)) → map (moved g) (map (under n) first) ++ rest ≡ map (moved (λ a. g (n ∷ a))) first ++ rest
-  regrouped-last g n [] rest = refl
-  regrouped-last g n (r ∷ first) rest = ap (λ (l : List (Record Agent I V S O)). moved (λ a. g (n ∷ a)) r ∷ l) (regrouped-last g n first rest)
-
-  begins : (g : Agent → Agent) (n : ℕ) (c y : Configuration Agent I V S) (l first more rest : List (Record Agent I V S O)) → l ≡ map (under n) first ++ more → Replays c (map (moved g) l ++ rest) y → Replays c (map (moved (λ a. g (n ∷ a))) first ++ (map (moved g) more ++ rest)) y
-  begins g n c y l first more rest is replays = subst (λ (w : List (Record Agent I V S O)). Replays c w y) (ap (λ (w : List (Record Agent I V S O)). map (moved g) w ++ rest) is ∙ regrouped g n first more rest) replays
-
-  begins-last : (g : Agent → Agent) (n : ℕ) (c y : Configuration Agent I V S) (l first rest : List (Record Agent I V S O)) → l ≡ map (under n) first → Replays c (map (moved g) l ++ rest) y → Replays c (map (moved (λ a. g (n ∷ a))) first ++ rest) y
-  begins-last g n c y l first rest is replays = subst (λ (w : List (Record Agent I V S O)). Replays c w y) (ap (λ (w : List (Record Agent I V S O)). map (moved g) w ++ rest) is ∙ regrouped-last g n first rest) replays
+  -- a replay of a joined list begins with the first part
+  begins : (g h : Agent → Agent) (c y : Configuration Agent I V S) (l first more rest : List (Record Agent I V S O)) → l ≡ map (moved h) first ++ more → Replays c (map (moved g) l ++ rest) y → Replays c (map (moved (λ a. g (h a))) first ++ (map (moved g) more ++ rest)) y
+  begins g h c y l first more rest is replays = subst (λ (w : List (Record Agent I V S O)). Replays c w y) (ap (λ (w : List (Record Agent I V S O)). map (moved g) w ++ rest) is ∙ regrouped g h first more rest) replays
 
   from_none : (g : Agent → Agent) (c y : Configuration Agent I V S) (l rest : List (Record Agent I V S O)) → l ≡ [] → Replays c (map (moved g) l ++ rest) y → Replays c rest y
   from_none g c y l rest none replays = subst (λ (w : List (Record Agent I V S O)). Replays c (map (moved g) w ++ rest) y) none replays
 
-module _ {I V S O : Type 0} (Admitted : O → Type 0) where
-  admitted-first : (n : ℕ) (first more : List (Record Agent I V S O)) → EachAdmitted Admitted (map (under n) first ++ more) → EachAdmitted Admitted first
-  admitted-first n [] more h = tt
-  admitted-first n (r ∷ first) more h = (h.0, admitted-first n first more h.1)
+module _ {I V S O : Type 0} (Sound : (I → Option V) → Type 0) (Fine : Access I → S → O → Type 0) where
+  -- what is so of the records of a joined list is so of those of its parts
+  fine-parts : (h : Agent → Agent) (l first more : List (Record Agent I V S O)) → l ≡ map (moved h) first ++ more → EachFine Fine l → EachFine Fine first × EachFine Fine more
+  fine-parts h l first more is all = parts first (subst (λ (w : List (Record Agent I V S O)). EachFine Fine w) is all) where
+    parts : (first : List (Record Agent I V S O)) → EachFine Fine (map (moved h) first ++ more) → EachFine Fine first × EachFine Fine more
+    parts [] all = (tt, all)
+    parts (r ∷ first) all = let rest = parts first all.1 in ((all.0, rest.0), rest.1)
 
-  admitted-more : (n : ℕ) (first more : List (Record Agent I V S O)) → EachAdmitted Admitted (map (under n) first ++ more) → EachAdmitted Admitted more
-  admitted-more n [] more h = h
-  admitted-more n (r ∷ first) more h = admitted-more n first more h.1
+  -- Runs that are joined of two parts are the same, where the first parts are, and the second ones after the same answer.
+  pub joined-one : {R T : Type 0} (h : Agent → Agent) (Run Its : List (Record Agent I V S O) → R → Type 0) → HaveOneRun Sound Fine Run Its → (More Less : R → List (Record Agent I V S O) → T → Type 0) → ((d : R) → HaveOneRun Sound Fine (More d) (Less d))
+      → (g : Agent → Agent) (c y z : Configuration Agent I V S) (l m first last more less rest others : List (Record Agent I V S O)) (d e : R) (a b : T) → Sound c.values → EachFine Fine l → EachFine Fine m
+      → Run first d → Its last e → More d more a → Less e less b → l ≡ map (moved h) first ++ more → m ≡ map (moved h) last ++ less → Replays c (map (moved g) l ++ rest) y → Replays c (map (moved g) m ++ others) z → (d ≡ e) × AreSameRuns Sound l m rest others a b y z
+  joined-one {R} h Run Its one More Less then g c y z l m first last more less rest others d e a b sound fine_l fine_m run other runs ends is at p q =
+      let of_l = fine-parts h l first more is fine_l in
+      let of_m = fine-parts h m last less at fine_m in
+      let here = one (λ w. g (h w)) c y z first last (map (moved g) more ++ rest) (map (moved g) less ++ others) d e sound of_l.0 of_m.0 run other (begins g h c y l first more rest is p) (begins g h c z m last less others at q) in
+      let there = then d g here.middle y z more less rest others a b here.sound of_l.1 of_m.1 runs (subst (λ (x : R). Less x less b) (sym here.answer) ends) here.first here.second in (
+        here.answer,
+        record {
+          list = is ∙ (λ i. map (moved h) (here.list i) ++ there.list i) ∙ sym at;
+          answer = there.answer;
+          middle = there.middle;
+          first = there.first;
+          second = there.second;
+          sound = there.sound;
+        },
+      )
 
-  admitted-under : (n : ℕ) (first : List (Record Agent I V S O)) → EachAdmitted Admitted (map (under n) first) → EachAdmitted Admitted first
-  admitted-under n [] h = tt
-  admitted-under n (r ∷ first) h = (h.0, admitted-under n first h.1)
+  -- where neither runs anything, nothing is there to differ
+  pub none-one : {R : Type 0} (said : R) → HaveOneRun Sound Fine (λ list answer. (list ≡ []) × (answer ≡ said)) (λ list answer. (list ≡ []) × (answer ≡ said))
+  none-one said g c y z l m rest others a b sound fl fm run other p q = record { list = run.0 ∙ sym other.0; answer = run.1 ∙ sym other.1; middle = c; first = from_none g c y l rest run.0 p; second = from_none g c z m others other.0 q; sound = sound }
 
-  admitted : (l m : List (Record Agent I V S O)) → l ≡ m → EachAdmitted Admitted l → EachAdmitted Admitted m
-  admitted l m same h = subst (λ (w : List (Record Agent I V S O)). EachAdmitted Admitted w) same h
+  module _ {X F : Type 0} (Run Its : ℕ → X → List (Record Agent I V S O) → Answer F → Type 0) (one : (n : ℕ) (x : X) → HaveOneRun Sound Fine (Run n x) (Its n x)) where
+    -- what follows an element's run: the runs of those behind it, or nothing after a fault
+    abbrev Behind : (List (Record Agent I V S O) → Answer F → Type 0) → Answer F → List (Record Agent I V S O) → Answer F → Type 0
+    Behind Runs (Ok done) list answer = Runs list answer
+    Behind Runs (Err fault) list answer = (list ≡ []) × (answer ≡ Err fault)
 
-module _ {I V S O F G : Type 0} (Sound : (I → Option V) → Type 0) (g : Agent → Agent) (n : ℕ) (c y z : Configuration Agent I V S) (l m first last : List (Record Agent I V S O)) (d e : Answer F) (a b : Answer G) where
-  -- where the runs of the element at place n are the same, and those of the elements behind it, so are the runs of all
-  followed : (more less rest others behind after : List (Record Agent I V S O)) (their its : Answer F) → (here : AreSameRuns Sound (λ w. g (n ∷ w)) c first last behind after d e y z) → (there : AreSameRuns Sound g here.middle more less rest others their its y z)
-      → l ≡ map (under n) first ++ more → m ≡ map (under n) last ++ less → a ≡ b → AreSameRuns Sound g c l m rest others a b y z
-  followed more less rest others behind after their its here there is at answer = record {
-    list = is ∙ (λ i. map (under n) (here.list i) ++ there.list i) ∙ sym at;
-    answer = answer;
-    middle = there.middle;
-    first = there.first;
-    second = there.second;
-    sound = there.sound;
-    kept = λ w out. there.kept w out ∙ here.kept w (λ v. out (n ∷ v));
-  }
+    behind-one : (Runs Ends : List (Record Agent I V S O) → Answer F → Type 0) → HaveOneRun Sound Fine Runs Ends → (d : Answer F) → HaveOneRun Sound Fine (Behind Runs d) (Behind Ends d)
+    behind-one Runs Ends then (Ok done) = then
+    behind-one Runs Ends then (Err fault) = none-one (Err fault)
 
-  -- where they are the same, and no element behind it runs, so are the runs of all
-  ended : (rest others : List (Record Agent I V S O)) → (here : AreSameRuns Sound (λ w. g (n ∷ w)) c first last rest others d e y z) → l ≡ map (under n) first → m ≡ map (under n) last → a ≡ b → AreSameRuns Sound g c l m rest others a b y z
-  ended rest others here is at answer = record {
-    list = is ∙ ap (map (under n)) here.list ∙ sym at;
-    answer = answer;
-    middle = here.middle;
-    first = here.first;
-    second = here.second;
-    sound = here.sound;
-    kept = λ w out. here.kept w (λ v. out (n ∷ v));
-  }
+    -- an element's run, and what follows it
+    abbrev Parted : (ℕ → X → List (Record Agent I V S O) → Answer F → Type 0) → ℕ → X → List X → List (Record Agent I V S O) → Answer F → Type 0
+    Parted Any n x xs list answer = (first : List (Record Agent I V S O)) × (d : Answer F) × Any n x first d × (more : List (Record Agent I V S O)) × (list ≡ map (under n) first ++ more) × Behind (RunsUpToFault Any (suc n) xs) d more answer
 
-module _ {X I V S O F : Type 0} (Sound : (I → Option V) → Type 0) (Admitted : O → Type 0) (Run : ℕ → X → List (Record Agent I V S O) → Answer F → Type 0) (Fine : Answer F → Type 0) (Fits : X → (Agent → Option S) → Type 0) (fine : Fine (Ok tt)) (one : HasOneRun Sound Admitted Run Fine Fits) where
-  pub UpToFault-one : (n : ℕ) (xs : List X) (g : Agent → Agent) (c y z : Configuration Agent I V S) (l m rest others : List (Record Agent I V S O)) (a b : Answer F)
-      → KeepsApart g → Sound c.values → FitEach Fits n xs (λ w. c.states (g w)) → Fine a → Fine b → EachAdmitted Admitted l → EachAdmitted Admitted m
-      → RunsUpToFault Run n xs l a → RunsUpToFault Run n xs m b → Replays c (map (moved g) l ++ rest) y → Replays c (map (moved g) m ++ others) z → AreSameRuns Sound g c l m rest others a b y z
-  UpToFault-one n [] g c y z l m rest others a b apart sound fit fa fb al am run other p q = record {
-    list = run.0 ∙ sym other.0;
-    answer = run.1 ∙ sym other.1;
-    middle = c;
-    first = from_none g c y l rest run.0 p;
-    second = from_none g c z m others other.0 q;
-    sound = sound;
-    kept = λ w out. refl;
-  }
-  UpToFault-one n (x ∷ xs) g c y z l m rest others a b apart sound fit fa fb al am (first, Ok d, run, (more, is, runs)) (last, Ok e, other, (less, at, ends)) p q =
-      let here = one n x (λ w. g (n ∷ w)) c y z first last (map (moved g) more ++ rest) (map (moved g) less ++ others) (Ok d) (Ok e) (apart-below g n apart) sound fit.0 fine fine
-      (admitted-first Admitted n first more (admitted Admitted l (map (under n) first ++ more) is al)) (admitted-first Admitted n last less (admitted Admitted m (map (under n) last ++ less) at am)) run other (begins g n c y l first more rest is p) (begins g n c z m last less others at q) in
-      let there = UpToFault-one (suc n) xs g here.middle y z more less rest others a b apart here.sound (later-fit Fits n xs g c here.middle apart here.kept fit.1) fa fb
-      (admitted-more Admitted n first more (admitted Admitted l (map (under n) first ++ more) is al)) (admitted-more Admitted n last less (admitted Admitted m (map (under n) last ++ less) at am)) runs ends here.first here.second in
-      followed Sound g n c y z l m first last (Ok d) (Ok e) a b more less rest others (map (moved g) more ++ rest) (map (moved g) less ++ others) a b here there is at there.answer
-  UpToFault-one n (x ∷ xs) g c y z l m rest others a b apart sound fit fa fb al am (first, Ok d, run, (more, is, runs)) (last, Err e, other, (at, same)) p q =
-      let here = one n x (λ w. g (n ∷ w)) c y z first last (map (moved g) more ++ rest) others (Ok d) (Err e) (apart-below g n apart) sound fit.0 fine (subst Fine same fb)
-      (admitted-first Admitted n first more (admitted Admitted l (map (under n) first ++ more) is al)) (admitted-under Admitted n last (admitted Admitted m (map (under n) last) at am)) run other (begins g n c y l first more rest is p) (begins-last g n c z m last others at q) in
-      absurd (let no = here.answer in cc)
-  UpToFault-one n (x ∷ xs) g c y z l m rest others a b apart sound fit fa fb al am (first, Err d, run, (is, is_a)) (last, Ok e, other, (less, at, ends)) p q =
-      let here = one n x (λ w. g (n ∷ w)) c y z first last rest (map (moved g) less ++ others) (Err d) (Ok e) (apart-below g n apart) sound fit.0 (subst Fine is_a fa) fine
-      (admitted-under Admitted n first (admitted Admitted l (map (under n) first) is al)) (admitted-first Admitted n last less (admitted Admitted m (map (under n) last ++ less) at am)) run other (begins-last g n c y l first rest is p) (begins g n c z m last less others at q) in
-      absurd (let no = here.answer in cc)
-  UpToFault-one n (x ∷ xs) g c y z l m rest others a b apart sound fit fa fb al am (first, Err d, run, (is, is_a)) (last, Err e, other, (at, is_b)) p q =
-      let here = one n x (λ w. g (n ∷ w)) c y z first last rest others (Err d) (Err e) (apart-below g n apart) sound fit.0 (subst Fine is_a fa) (subst Fine is_b fb)
-      (admitted-under Admitted n first (admitted Admitted l (map (under n) first) is al)) (admitted-under Admitted n last (admitted Admitted m (map (under n) last) at am)) run other (begins-last g n c y l first rest is p) (begins-last g n c z m last others at q) in
-      ended Sound g n c y z l m first last (Err d) (Err e) a b rest others here is at (is_a ∙ here.answer ∙ sym is_b)
+    parted : (Any : ℕ → X → List (Record Agent I V S O) → Answer F → Type 0) (n : ℕ) (x : X) (xs : List X) (list : List (Record Agent I V S O)) (answer : Answer F) → RunsUpToFault Any n (x ∷ xs) list answer → Parted Any n x xs list answer
+    parted Any n x xs list answer (first, Ok done, run, (more, is, runs)) = (first, Ok done, run, more, is, runs)
+    parted Any n x xs list answer (first, Err fault, run, (is, same)) = (first, Err fault, run, [], is ∙ sym (append-nil (map (under n) first)), (refl, same))
 
-module _ {X I V S O F : Type 0} (Sound : (I → Option V) → Type 0) (Admitted : O → Type 0) (Run : ℕ → X → List (Record Agent I V S O) → Answer F → Type 0) (Fits : X → (Agent → Option S) → Type 0) (one : HasOneRun Sound Admitted Run (λ a. Unit {0}) Fits) where
-  pub Each-one : (n : ℕ) (xs : List X) (g : Agent → Agent) (c y z : Configuration Agent I V S) (l m rest others : List (Record Agent I V S O)) (a b : Answer F)
-      → KeepsApart g → Sound c.values → FitEach Fits n xs (λ w. c.states (g w)) → EachAdmitted Admitted l → EachAdmitted Admitted m
-      → RunsEach Run n xs l a → RunsEach Run n xs m b → Replays c (map (moved g) l ++ rest) y → Replays c (map (moved g) m ++ others) z → AreSameRuns Sound g c l m rest others a b y z
-  Each-one n [] g c y z l m rest others a b apart sound fit al am run other p q = record {
-    list = run.0 ∙ sym other.0;
-    answer = run.1 ∙ sym other.1;
-    middle = c;
-    first = from_none g c y l rest run.0 p;
-    second = from_none g c z m others other.0 q;
-    sound = sound;
-    kept = λ w out. refl;
-  }
-  Each-one n (x ∷ xs) g c y z l m rest others a b apart sound fit al am (first, more, a1, a2, run, runs, is, is_a) (last, less, b1, b2, other, ends, at, is_b) p q =
-      let here = one n x (λ w. g (n ∷ w)) c y z first last (map (moved g) more ++ rest) (map (moved g) less ++ others) a1 b1 (apart-below g n apart) sound fit.0 tt tt
-      (admitted-first Admitted n first more (admitted Admitted l (map (under n) first ++ more) is al)) (admitted-first Admitted n last less (admitted Admitted m (map (under n) last ++ less) at am)) run other (begins g n c y l first more rest is p) (begins g n c z m last less others at q) in
-      let there = Each-one (suc n) xs g here.middle y z more less rest others a2 b2 apart here.sound (later-fit Fits n xs g c here.middle apart here.kept fit.1)
-      (admitted-more Admitted n first more (admitted Admitted l (map (under n) first ++ more) is al)) (admitted-more Admitted n last less (admitted Admitted m (map (under n) last ++ less) at am)) runs ends here.first here.second in
-      followed Sound g n c y z l m first last a1 b1 a b more less rest others (map (moved g) more ++ rest) (map (moved g) less ++ others) a2 b2 here there is at (is_a ∙ (λ i. first_fault (here.answer i) (there.answer i)) ∙ sym is_b)
+    -- runs up to the first fault
+    pub UpToFault-one : (n : ℕ) (xs : List X) → HaveOneRun Sound Fine (RunsUpToFault Run n xs) (RunsUpToFault Its n xs)
+    UpToFault-one n [] g c y z l m rest others a b sound fl fm run other p q = none-one (Ok tt) g c y z l m rest others a b sound fl fm run other p q
+    UpToFault-one n (x ∷ xs) g c y z l m rest others a b sound fl fm run other p q =
+        let (first, d, here, more, is, runs) = parted Run n x xs l a run in
+        let (last, e, there, less, at, ends) = parted Its n x xs m b other in
+        (joined-one (λ w. n ∷ w) (Run n x) (Its n x) (one n x) (Behind (RunsUpToFault Run (suc n) xs)) (Behind (RunsUpToFault Its (suc n) xs)) (behind-one (RunsUpToFault Run (suc n) xs) (RunsUpToFault Its (suc n) xs) (UpToFault-one (suc n) xs))
+        g c y z l m first last more less rest others d e a b sound fl fm here there runs ends is at p q).1
+
+    -- runs of all
+    pub Each-one : (n : ℕ) (xs : List X) → HaveOneRun Sound Fine (RunsEach Run n xs) (RunsEach Its n xs)
+    Each-one n [] g c y z l m rest others a b sound fl fm run other p q = none-one (Ok tt) g c y z l m rest others a b sound fl fm run other p q
+    Each-one n (x ∷ xs) g c y z l m rest others a b sound fl fm (first, more, a1, a2, run, runs, is, is_a) (last, less, b1, b2, other, ends, at, is_b) p q =
+        let same = joined-one (λ w. n ∷ w) (Run n x) (Its n x) (one n x) (λ d. RunsEach Run (suc n) xs) (λ d. RunsEach Its (suc n) xs) (λ d. Each-one (suc n) xs) g c y z l m first last more less rest others a1 b1 a2 b2 sound fl fm run other runs ends is at p q in
+        record {
+          list = same.1.list;
+          answer = is_a ∙ (λ i. first_fault (same.0 i) (same.1.answer i)) ∙ sym is_b;
+          middle = same.1.middle;
+          first = same.1.first;
+          second = same.1.second;
+          sound = same.1.sound;
+        }
 
 module _ {I V S O : Type 0} (tell_ids : Tells I) where
   -- one record leads from one place to one place

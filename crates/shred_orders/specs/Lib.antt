@@ -1,4 +1,2 @@
-pub mod Entries
 pub mod Interleavings
 pub mod OneEnd
-pub mod NestedInterleavings

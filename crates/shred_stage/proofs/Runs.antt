@@ -1,2 +1,2 @@
 -- Runs of stages.
-pub mod Dispatched
+pub mod Plans

@@ -5,16 +5,18 @@ use Rattle.shred_model.specs.Plan.{Plan}
 use Rattle.shred_model.specs.Record.{Agent}
 use Rattle.shred_stage.specs.Plans.{plan_states}
 use Rattle.shred_stage.specs.StagePlan.{plan_of}
+use Rattle.shred_run.specs.declared.work.Nested.{Nested}
+use Rattle.shred_run.specs.declared.work.Work.{Work}
 use Rattle.shred_stage.specs.declared.dispatch.stages_builder.StagesBuilder.{StagesBuilder}
 
 -- the builder's plan
-abbrev pub planned : {V S B N A : Type 0} {g : _} → StagesBuilder V S B N A g → Plan ResourceId
+abbrev pub planned : {V S C N A M B : Type 0} {vd : _} {sd : _} {ad : _} {cd : _} {bd : _} → StagesBuilder V S C N A M B vd sd ad cd bd → Plan ResourceId
 planned builder = plan_of builder.stages.items
 
 -- the stage from which on new entries are placed
-abbrev pub barrier_of : {V S B N A : Type 0} {g : _} → StagesBuilder V S B N A g → ℕ
+abbrev pub barrier_of : {V S C N A M B : Type 0} {vd : _} {sd : _} {ad : _} {cd : _} {bd : _} → StagesBuilder V S C N A M B vd sd ad cd bd → ℕ
 barrier_of builder = builder.barrier
 
 -- the states of its systems, by stage, group and position
-abbrev pub builder_states : {V S B N A : Type 0} {g : _} → StagesBuilder V S B N A g → Agent → Option S
+abbrev pub builder_states : {V S C N A M B : Type 0} {vd : _} {sd : _} {ad : _} {cd : _} {bd : _} → StagesBuilder V S C N A M B vd sd ad cd bd → Agent → Option (Work S (Nested V S C))
 builder_states builder path = plan_states builder.stages.items path

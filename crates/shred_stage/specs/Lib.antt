@@ -11,7 +11,7 @@ pub mod Prints
 pub mod Sinks
 pub mod Writers
 pub mod Plans
-pub mod Dispatched
+pub mod Situations
 pub mod Added
 pub mod EntriesAt
 pub mod Setups

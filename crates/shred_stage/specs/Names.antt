@@ -7,7 +7,7 @@ use Rattle.std.specs.Ordering.{is_lt, nat_cmp}
 use Rattle.std.specs.String.{string_bytes}
 use Rattle.std.specs.declared.string.String.{String}
 use Rattle.shred_stage.specs.Known.{Known}
-use Rattle.shred_group.specs.declared.dispatch.entry.SystemId.{SystemId}
+use Rattle.shred_run.specs.declared.entry.SystemId.{SystemId}
 
 -- a name, by its bytes, and the number of the id that it stands for
 abbrev pub NamedId : Type 0

@@ -2,7 +2,7 @@
 use Rattle.std.specs.Prelude.{◌≡◌, ◌≢◌, ℕ, ◌<◌, ◌≤◌, ◌-◌, ◌*◌, ◌⊎◌, List, [], ◌∷◌, ◌++◌, length, max, Some, slice_get, slice_range, slice_set, All, Any, Contains}
 use Rattle.shred_model.specs.Access.{Access, Conflicts}
 use Rattle.shred_model.specs.Plan.{PlanEntry, Group, Stage, Plan, group_ids, group_access, group_time, plan_ids}
-use Rattle.shred_group.specs.Left.{difference}
+use Rattle.shred_run.specs.Left.{difference}
 
 -- the dependencies less the ids in the stages from the barrier to k - 1, each occurrence for one
 abbrev pub dependencies_left : {I : Type 0} → Plan I → ℕ → List ℕ → ℕ → List ℕ

@@ -2,7 +2,7 @@
 use Rattle.std.specs.Prelude.{◌≡◌, ◌≢◌, ℕ, ◌≤◌, ◌-◌, ◌*◌, Bool, true, false, ◌||◌, ◌&&◌, not, ◌==◌, nat_lt, List, length, Option, Some, None, slice_get}
 use Rattle.shred_model.specs.Access.{Access, Conflicts}
 use Rattle.shred_model.specs.Plan.{PlanEntry, Group, Stage, Plan, group_access, group_time}
-use Rattle.shred_group.specs.Touching.{group_conflicts}
+use Rattle.shred_run.specs.Touching.{group_conflicts}
 use Rattle.shred_stage.specs.Placement.{greatest_time, dependencies_left, Admits, AdmitsNewGroup, AdmitsAtEndOf, NoneAdmits}
 use Rattle.shred_stage.specs.declared.dispatch.stage.Touched.{Touched}
 use Rattle.shred_stage.specs.declared.dispatch.stage.Touched.TheVariants.{Nothing, One, Several}

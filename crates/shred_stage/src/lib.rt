@@ -6,11 +6,8 @@ pub mod dispatch;
 pub mod look_up;
 
 pub use add_error::AddError;
+pub use dispatch::dispatch_error::DispatchError;
 pub use dispatch::printing::PrintError;
 pub use dispatch::sink::{PlanSink, SinkFailed, ToWriter};
 pub use dispatch::stage::Stage;
 pub use dispatch::stages_builder::StagesBuilder;
-pub use shred_group::{
-    Fault, Holds, NoBatch, Occupant, RunningTime, RunsInOrder, Settles, StageFault, System,
-    SystemId, system,
-};

@@ -6,11 +6,11 @@ ghost use Rattle.std.specs.Str.{bytes_eq};
 ghost use Rattle.std.specs.String.{string_eq};
 ghost use Rattle.shred_stage.specs.Known.{known_ids, texts_of, with_name, IsFirstUnknown, KnowsAll};
 ghost use Rattle.shred_stage.specs.Names.{names_of};
-ghost use Rattle.shred_group.specs.PlanOf.{numbers_of};
+ghost use Rattle.shred_run.specs.PlanOf.{numbers_of};
 ghost use Rattle.shred_stage.specs.Refusals.{IsRefusal, MayAdd};
 
 use crate::add_error::AddError;
-use shred_group::SystemId;
+use shred_run::SystemId;
 use shred_world::OutOfMemory;
 use std::alloc::Global;
 use std::collections::HashMap;

@@ -6,8 +6,8 @@ use Rattle.shred_table.specs.declared.id.ResourceId.{ResourceId}
 use Rattle.shred_table.specs.declared.only.Only.{Only}
 use Rattle.shred_world.specs.Worked.{Held}
 use Rattle.shred_world.specs.declared.world.view.DataError.{DataError}
-use Rattle.shred_group.specs.Steps.{Outcome, declared_of}
-use Rattle.shred_systems.specs.declared.plain.Plain.{Plain}
+use Rattle.shred_run.specs.Steps.{Outcome, declared_of}
+use Rattle.shred.specs.declared.plain.Plain.{Plain}
 use Rattle.shredexamples.specs.declared.enum_of_systems.Add.{Add}
 use Rattle.shredexamples.specs.declared.enum_of_systems.Copy.{Copy}
 use Rattle.shredexamples.specs.declared.enum_of_systems.Job.{Job}

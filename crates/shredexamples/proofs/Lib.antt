@@ -3,6 +3,8 @@ pub mod Refused
 pub mod Counted
 pub mod Doubled
 pub mod Adds
+pub mod Placed
+pub mod Done
 pub mod InOrder
 pub mod Copied
 pub mod Answered

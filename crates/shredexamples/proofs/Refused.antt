@@ -1,9 +1,9 @@
 -- A system's own view refuses what the system declares only where nothing is held.
 use Rattle.std.proofs.Common.{◌≡◌, Bool, true, false, cond, ◌||◌, List, Option, Some, None, Contains, ap, refl, subst, ◌∙◌}
 use Rattle.std.specs.Prelude.{is_some}
-use Rattle.shred_group.specs.Faults.{FaultGives}
-use Rattle.shred_group.specs.declared.system.Fault.{Fault}
-use Rattle.shred_group.specs.declared.system.Fault.TheVariants.{Refused}
+use Rattle.shred_run.specs.Faults.{FaultGives}
+use Rattle.shred_run.specs.declared.system.Fault.{Fault}
+use Rattle.shred_run.specs.declared.system.Fault.TheVariants.{Refused}
 use Rattle.shred_table.specs.declared.id.Kind.{Kind}
 use Rattle.shred_table.specs.declared.id.ResourceId.{ResourceId}
 use Rattle.shred_table.specs.Slots.{among}

@@ -1,41 +1,48 @@
 -- The dispatch of a plan of one system.
-use Rattle.std.proofs.Common.{◌≡◌, ℕ, List, [], ◌∷◌, Option, Some, Result, Ok, Err, inr, sym, ap, subst, ◌∙◌}
+use Rattle.std.proofs.Common.{◌≡◌, ℕ, List, [], ◌∷◌, Option, Some, Result, Ok, Err, inr, refl, sym, ap, subst, ◌∙◌}
 use Rattle.std.specs.List.{AllZip, Contains}
 use Rattle.std.specs.Option.{option_map}
 use Rattle.std.specs.Result.{IfOk, OnOk, result_ok}
-use Rattle.shred_model.specs.Serializable.{IsSerializable}
-use Rattle.shred_model.specs.Plan.{PlanEntry, Plan}
+use Rattle.shred_model.specs.Plan.{PlanEntry, Plan, entry_at}
 use Rattle.shred_model.specs.Record.{Agent}
 use Rattle.shred_model.specs.Replay.{Configuration, Replays}
 use Rattle.shred_table.specs.declared.id.Kind.{Kind}
 use Rattle.shred_table.specs.declared.id.ResourceId.{ResourceId}
 use Rattle.shred_world.specs.Worked.{Held}
-use Rattle.shred_stage.specs.Placement.{IsPlaced, in_new_group, at_end_of_group, in_new_stage}
-use Rattle.shred.specs.PlanRuns.{PlanRun}
-use Rattle.shred_group.specs.Steps.{Step, Written}
-use Rattle.shred_orders.specs.Entries.{entries_of_plan}
-use Rattle.shred_orders.proofs.Done.{IsDoneStep, plan_done}
+use Rattle.shred_run.specs.Depths.{Related}
+use Rattle.shred_run.specs.Dispatched.{Dispatched, Situation, configuration_in, occupants_of}
+use Rattle.shred_run.specs.NestedRecords.{NestedRecord}
+use Rattle.shred_run.specs.Occupants.{AgentState}
+use Rattle.shred_run.specs.declared.work.Nested.{Nested}
+use Rattle.shred_run.specs.declared.work.Work.{Work}
+use Rattle.shred_run.specs.declared.work.Work.TheVariants.{System}
+use Rattle.shred_stage.specs.Inserted.{IsInserted}
+use Rattle.shred_stage.specs.Placement.{IsPlaced}
+use Rattle.shred_stage.specs.Situations.{dispatch_answer}
+use Rattle.shred_stage.proofs.Planner.Earlier.{new_place-only}
+use Rattle.shredexamples.specs.TwoSystems.{entries_with_paths}
+use Rattle.shredexamples.proofs.Done.{Found, HoldSystems, IsDoneAt, plan-done, stands-there}
+use Rattle.shredexamples.proofs.Placed.{alone, first_path}
 
--- the first entry stands alone
-alone : (entry : PlanEntry ResourceId) (plan : Plan ResourceId) → IsPlaced [] 0 0 [] entry plan → plan ≡ ((entry ∷ []) ∷ []) ∷ []
-alone entry plan (in_new_group k stage from at none admits is) = absurd (cc)
-alone entry plan (at_end_of_group k g stage group from at none admits is) = absurd (cc)
-alone entry plan (in_new_stage none is) = is
-
-module _ {V S E : Type 0} (kind : V → Kind) (step : Step V S E) (id : ResourceId) (left : Option V) (leaves : (before : S) (seen : Held V) (after : S) (values : Held V) → step before seen (Ok tt) after values → values id ≡ left) where
-  one_step : (entry : PlanEntry ResourceId) (list : List (Written V S E)) (x y : Configuration Agent ResourceId V S) → Contains entry.access.writes id → AllZip (IsDoneStep kind step) (entry ∷ []) list → Replays x list y → y.values id ≡ left
+module _ {V S C E : Type 0} (kind : V → Kind) (related : Related V S C E) (id : ResourceId) (left : Option V) (leaves : (before : S) (seen : Held V) (after : S) (values : Held V) → related.steps before seen (Ok tt) after values → values id ≡ left) where
+  one_step : (entry : PlanEntry ResourceId) (list : List (NestedRecord V S C E)) (x y : Configuration Agent ResourceId V (AgentState S C)) → Contains entry.access.writes id → AllZip (IsDoneAt kind related.steps) ((first_path, entry) ∷ []) list → Replays x list y → y.values id ≡ left
   one_step entry [] x y writes made gone = absurd made
   one_step entry (r ∷ []) x y writes made (mid, goes, like) =
-      like.values id ∙ goes.puts id (inr (subst (λ a. Contains a.writes id) (sym made.0.is_step.declared) writes))
-      ∙ leaves r.before r.seen r.after r.left (subst (λ o. step r.before r.seen o r.after r.left) made.0.done made.0.is_step.lies)
+      let (old, new, before, after, lies) = made.0.lies in
+      like.values id ∙ goes.puts id (inr (subst (λ a. Contains a.writes id) (sym made.0.declared) writes)) ∙ leaves old r.seen new r.left lies
   one_step entry (r ∷ (q ∷ list)) x y writes made gone = absurd made.1
 
   -- where the one system of a plan is Done, the world holds what it left
-  pub single_leaves : (first plan placed : Plan ResourceId) (barrier : ℕ) (entry : PlanEntry ResourceId) (x y : Configuration Agent ResourceId V S) → first ≡ [] → barrier ≡ 0 → IsPlaced first barrier barrier [] entry placed → plan ≡ placed → Contains entry.access.writes id
-      → IsSerializable (λ list. PlanRun kind step plan list (Ok tt)) x y → y.values id ≡ left
-  single_leaves first plan placed barrier entry x y none start is_placed same writes ran =
-      let one : plan ≡ ((entry ∷ []) ∷ []) ∷ [] = same ∙ alone entry placed (subst (λ b. IsPlaced [] b b [] entry placed) start (subst (λ (p : Plan ResourceId). IsPlaced p barrier barrier [] entry placed) none is_placed)) in
-      one_step entry ran.list x y writes (subst (λ (p : Plan ResourceId). AllZip (IsDoneStep kind step) (entries_of_plan p) ran.list) one (plan_done kind step plan ran.list ran.run)) ran.replays
+  pub single_leaves : (empty placed : Plan ResourceId) (barrier : ℕ) (dependencies : List ℕ) (entry : PlanEntry ResourceId) (none works : Agent → Option (Work S (Nested V S C))) (system : S) (before after : Situation V S C) → empty ≡ [] → IsInserted empty placed none works barrier dependencies entry (System system)
+      → before.plan ≡ placed → before.works first_path ≡ works first_path → Contains entry.access.writes id → Dispatched kind related dispatch_answer before (Ok tt) after → after.values id ≡ left
+  single_leaves empty placed barrier dependencies entry none works system before after nothing inserted same_plan same_work writes ran =
+      let shape : placed ≡ ((entry ∷ []) ∷ []) ∷ [] = alone barrier barrier dependencies entry placed (subst (λ (p : Plan ResourceId). IsPlaced p barrier barrier dependencies entry placed) nothing inserted.placed) in
+      let place : inserted.added.place ≡ first_path = new_place-only inserted.added.place first_path (entry_at empty) (entry_at placed) entry entry inserted.added.entry_is_new (ap (λ (p : Plan ResourceId). entry_at p first_path) nothing) (ap (λ (p : Plan ResourceId). entry_at p first_path) shape) in
+      let stands : before.works first_path ≡ Some (System system) = same_work ∙ ap works (sym place) ∙ inserted.added.system_is_new.stands in
+      let order : entries_with_paths before.plan ≡ (first_path, entry) ∷ [] = ap entries_with_paths (same_plan ∙ shape) in
+      let held : HoldSystems (occupants_of before) (entries_with_paths before.plan) = subst (HoldSystems (occupants_of before)) (sym order) (stands-there before.works system first_path refl stands, tt) in
+      let (depth, run) = ran.run in
+      one_step entry ran.list (configuration_in before) (configuration_in after) writes (subst (λ (es : List Found). AllZip (IsDoneAt kind related.steps) es ran.list) order (plan-done kind related depth (occupants_of before) before.plan ran.list run held)) ran.replays
 
 -- what is said of an Ok
 pub on_ok : {T E P : Type 0} (result : Result T E) (value : T) → Some value ≡ result_ok result → OnOk result P → P

@@ -1,24 +1,23 @@
 -- Dispatchers of systems that add.
 use Rattle.std.specs.Prelude.{◌≡◌, ◌&&◌, ℤ, Bool, is_ok, [], ◌∷◌}
-use Rattle.shred_group.specs.Alone.{StepsAlone}
-use Rattle.shred_group.specs.Steps.{Step}
-use Rattle.shred_model.specs.Plan.{Plan}
+use Rattle.shred_run.specs.Alone.{StepsAlone}
+use Rattle.shred_run.specs.Steps.{Step}
+use Rattle.shred_run.specs.declared.no_batch.NoBatch.{NoBatch}
 use Rattle.shred_model.specs.Runs.{Answer}
-use Rattle.shred_systems.specs.declared.dispatch_error.DispatchError.{DispatchError}
-use Rattle.shred_systems.specs.declared.now.Now.{Now}
-use Rattle.shred_systems.specs.declared.plain.Plain.{Plain}
-use Rattle.shred_table.specs.declared.id.ResourceId.{ResourceId}
+use Rattle.shred_stage.specs.declared.dispatch.dispatch_error.DispatchError.{DispatchError}
+use Rattle.shred.specs.declared.now.Now.{Now}
+use Rattle.shred.specs.declared.plain.Plain.{Plain}
 use Rattle.shred_table.specs.declared.only.Only.{Only}
 use Rattle.shred_world.specs.declared.world.view.DataError.{DataError}
 use Rattle.shred.specs.FullRuns.{FullyDispatched, Whole}
-use Rattle.shred.specs.PlanRuns.{PlanRun}
 use Rattle.shredexamples.specs.declared.enum_of_systems.Add.{Add}
 use Rattle.shredexamples.specs.Jobs.{AddStep}
 use Rattle.shredexamples.specs.Numbers.{kind_of, number_id}
+use Rattle.shredexamples.specs.WithoutBatches.{without_batches}
 
 -- a dispatcher of systems that add, over numbers
 abbrev pub Adders : Type 0
-Adders = Whole (Plan ResourceId) (Only ℤ) (Plain Add) (Now (Plain Add))
+Adders = Whole (Only ℤ) (Plain Add) (NoBatch DataError) (Now (Plain Add))
 
 -- what a system that adds does in a plan
 abbrev pub PlainAddStep : Step (Only ℤ) (Plain Add) DataError
@@ -30,7 +29,7 @@ LocalAddStep before seen outcome after left = StepsAlone kind_of PlainAddStep (�
 
 -- a dispatch of such a dispatcher, with this answer
 abbrev pub IsAddersRun : Adders → Answer (DispatchError DataError) → Adders → Type 0
-IsAddersRun before answer after = FullyDispatched kind_of (PlanRun kind_of PlainAddStep) LocalAddStep before answer after
+IsAddersRun before answer after = FullyDispatched kind_of (without_batches (λ system. []) (λ system. number_id system.0.to ∷ []) PlainAddStep) LocalAddStep before answer after
 
 -- Both were dispatched, and this says whether both answered that they were Done.
 pub record AreBothRun (first second : Adders) (both : Bool) (left gone : Adders) : Type 0 where

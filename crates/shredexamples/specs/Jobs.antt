@@ -1,7 +1,7 @@
 -- What the systems of the enum do.
 use Rattle.std.specs.Prelude.{◌≡◌, ◌⊎◌, ℤ, List, [], ◌∷◌, Some, IsSome, MatchResult}
 use Rattle.std.specs.Int.{w64, int_wrapping_add}
-use Rattle.shred_group.specs.Steps.{Step}
+use Rattle.shred_run.specs.Steps.{Step}
 use Rattle.shred_table.specs.declared.id.ResourceId.{ResourceId}
 use Rattle.shred_table.specs.declared.only.Only.{Only}
 use Rattle.shred_world.specs.declared.world.view.DataError.{DataError}

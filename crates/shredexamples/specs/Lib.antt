@@ -2,6 +2,7 @@ pub mod Limits
 pub mod Numbers
 pub mod Refusals
 pub mod Jobs
+pub mod WithoutBatches
 pub mod OneSystem
 pub mod Rounds
 pub mod Adders

@@ -1,6 +1,6 @@
 -- What the system does that sets a count.
 use Rattle.std.specs.Prelude.{◌≡◌, Some, MatchResult, pos}
-use Rattle.shred_group.specs.Steps.{Step}
+use Rattle.shred_run.specs.Steps.{Step}
 use Rattle.shred_table.specs.Id.{id_of}
 use Rattle.shred_table.specs.declared.id.ResourceId.{ResourceId}
 use Rattle.shred_world.specs.declared.world.view.DataError.{DataError}

@@ -1,14 +1,20 @@
 -- What is printed of a plan.
-use Rattle.std.specs.Prelude.{◌≡◌, ℕ, Some, None, List, [], ◌∷◌, ◌++◌, codes, pos}
+use Rattle.std.specs.Prelude.{◌≡◌, ℕ, ℤ, Some, None, List, [], ◌∷◌, ◌++◌, codes, pos}
 use Rattle.shred_model.specs.Plan.{Plan, plan_ids}
 use Rattle.shred_table.specs.declared.id.ResourceId.{ResourceId}
 use Rattle.shred_stage.specs.declared.dispatch.printing.PrintError.{PrintError}
 use Rattle.shred_stage.specs.declared.dispatch.printing.PrintError.TheVariants.{Unnamed, Write}
 use Rattle.shred_stage.specs.Names.{AreNames, NamedId, first_unnamed}
 use Rattle.shred_stage.specs.Printed.{line_feed, plan_text}
-use Rattle.shred_group.specs.declared.system.RunningTime.TheVariants.{Average}
-use Rattle.shred_systems.specs.declared.now.Now.{Now}
-use Rattle.shred_systems.specs.declared.plain.Plain.{Plain}
+use Rattle.shred_run.specs.declared.no_batch.NoBatch.{NoBatch}
+use Rattle.shred_run.specs.declared.system.RunningTime.TheVariants.{Average}
+use Rattle.shred_run.specs.declared.work.Nested.{Nested}
+use Rattle.shred_run.specs.declared.work.Work.{Work}
+use Rattle.shred_run.specs.declared.work.Work.TheVariants.{System}
+use Rattle.shred_table.specs.declared.only.Only.{Only}
+use Rattle.shred_world.specs.declared.world.view.DataError.{DataError}
+use Rattle.shred.specs.declared.now.Now.{Now}
+use Rattle.shred.specs.declared.plain.Plain.{Plain}
 use Rattle.shred.specs.Built.{Built, IsAddition, IsNewBuilt}
 use Rattle.shredexamples.specs.declared.enum_of_systems.Job.{Job}
 use Rattle.shredexamples.specs.declared.enum_of_systems.Job.TheVariants as job
@@ -25,11 +31,11 @@ IsRefusalOf names plan Write = None ≡ first_unnamed names (plan_ids plan)
 
 -- what a builder of jobs has come to
 abbrev pub JobsBuilt : Type 0
-JobsBuilt = Built (Plain Job) (Now (Plain Job))
+JobsBuilt = Built (Work (Plain Job) (Nested (Only ℤ) (Plain Job) (NoBatch DataError))) (Now (Plain Job))
 
 -- the job is added under this name, after those of these names
 abbrev pub IsJobAdded : JobsBuilt → JobsBuilt → Job → List ℕ → List (List ℕ) → Type 0
-IsJobAdded old new added name dependencies = IsAddition old new name dependencies (job_reads added) (job_writes added) Average (record { 0 = added })
+IsJobAdded old new added name dependencies = IsAddition old new name dependencies (job_reads added) (job_writes added) Average (System (record { 0 = added }))
 
 -- The plan has a job "first" that adds 3 at place 1, a job "second" that adds 4 at place 2, and after both a job "third" that copies the number of place 1 to place 2.
 pub record HasThree (plan : JobsBuilt) : Type 0 where

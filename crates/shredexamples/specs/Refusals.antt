@@ -1,7 +1,7 @@
 -- How a system is refused for what no world holds.
 use Rattle.std.specs.Prelude.{◌≡◌, None}
-use Rattle.shred_group.specs.declared.system.Fault.{Fault}
-use Rattle.shred_group.specs.declared.system.Fault.TheVariants.{Refused}
+use Rattle.shred_run.specs.declared.system.Fault.{Fault}
+use Rattle.shred_run.specs.declared.system.Fault.TheVariants.{Refused}
 use Rattle.shred_table.specs.declared.id.ResourceId.{ResourceId}
 use Rattle.shred_world.specs.Worked.{Held}
 use Rattle.shred_world.specs.declared.world.view.DataError.{DataError}

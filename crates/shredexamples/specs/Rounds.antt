@@ -1,20 +1,19 @@
 -- How often a batch runs its plan, and what such a batch leaves.
 use Rattle.std.specs.Prelude.{◌≡◌, ℕ, ℤ, pos, negsuc, [], ◌∷◌, Some, None, Ok, MatchResult, codes}
-use Rattle.shred_model.specs.Plan.{Plan}
 use Rattle.shred_model.specs.Record.{Agent}
-use Rattle.shred_batch.specs.Controls.{Control, SaysYes}
-use Rattle.shred_batch.specs.Multi.{controller_of}
-use Rattle.shred_batch.specs.OwnDepth.{OwnStep}
-use Rattle.shred_batch.specs.declared.multi.MultiDispatcher.{MultiDispatcher}
-use Rattle.shred_batch.specs.declared.work.Nested.{Nested}
-use Rattle.shred_batch.specs.declared.work.Work.{Work}
-use Rattle.shred_batch.specs.declared.work.Work.TheVariants.{System as a_system}
-use Rattle.shred_group.specs.Steps.{Step}
-use Rattle.shred_group.specs.declared.system.Fault.TheVariants.{Refused}
-use Rattle.shred_group.specs.declared.system.RunningTime.TheVariants.{Average, VeryLong}
-use Rattle.shred_stage.specs.Dispatched.{Dispatched, Situation}
-use Rattle.shred_systems.specs.declared.now.Now.{Now}
-use Rattle.shred_systems.specs.declared.plain.Plain.{Plain}
+use Rattle.shred_run.specs.Controls.{Control, SaysYes}
+use Rattle.shred_run.specs.Multi.{controller_of}
+use Rattle.shred_run.specs.Depths.{Related, lists_of, relations_of}
+use Rattle.shred_run.specs.declared.multi.MultiDispatcher.{MultiDispatcher}
+use Rattle.shred_run.specs.declared.work.Nested.{Nested}
+use Rattle.shred_run.specs.declared.work.Work.{Work}
+use Rattle.shred_run.specs.declared.work.Work.TheVariants.{System as a_system}
+use Rattle.shred_run.specs.declared.system.Fault.TheVariants.{Refused}
+use Rattle.shred_run.specs.declared.system.RunningTime.TheVariants.{Average, VeryLong}
+use Rattle.shred_run.specs.Dispatched.{Dispatched, Situation}
+use Rattle.shred_stage.specs.Situations.{dispatch_answer}
+use Rattle.shred.specs.declared.now.Now.{Now}
+use Rattle.shred.specs.declared.plain.Plain.{Plain}
 use Rattle.shred_table.specs.Slots.{with_at}
 use Rattle.shred_table.specs.declared.id.ResourceId.{ResourceId}
 use Rattle.shred_table.specs.declared.only.Only.{Only}
@@ -23,7 +22,6 @@ use Rattle.shred_world.specs.declared.world.view.DataError.{DataError}
 use Rattle.shred_world.specs.declared.world.view.DataError.TheVariants.{Missing}
 use Rattle.shred.specs.Batches.{IsBatchAddition}
 use Rattle.shred.specs.Built.{Built, IsAddition, IsNewBuilt}
-use Rattle.shred.specs.PlanRuns.{PlanRun}
 use Rattle.shredexamples.specs.declared.batch.AsOften.{AsOften}
 use Rattle.shredexamples.specs.declared.enum_of_systems.Add.{Add}
 use Rattle.shredexamples.specs.Adders.{PlainAddStep}
@@ -70,11 +68,11 @@ five_and_rounds rounds = with_at (with_at (λ id. None) (number_id 0) (Some (num
 
 -- a plan of systems that add and batches of them, with what stands in it, over numbers
 abbrev pub RoundsSituation : Type 0
-RoundsSituation = Situation (Plan ResourceId) (Only ℤ) RoundsWork
+RoundsSituation = Situation (Only ℤ) (Plain Add) (MultiDispatcher AsOften)
 
--- what a step of what stands in an entry does: of a system that it adds, of a batch so many rounds of its plan
-abbrev pub RoundsStep : Step (Only ℤ) RoundsWork DataError
-RoundsStep = OwnStep kind_of (record { steps = PlainAddStep; begins = λ before seen bound after left. PlansAsOften before.controller seen bound after.controller left; asks = SaysYes })
+-- what its systems do, and its controllers: a batch has so many rounds as it is told, and in each its plan runs
+abbrev pub rounds_related : Related (Only ℤ) (Plain Add) (MultiDispatcher AsOften) DataError
+rounds_related = relations_of (lists_of (λ system. []) (λ system. number_id system.0.to ∷ []) (λ multi. number_id multi.controller.at ∷ []) (λ multi. [])) PlainAddStep (λ before seen bound after left. PlansAsOften before.controller seen bound after.controller left) SaysYes
 
 -- The number is left at place 0 by a dispatch of that plan, which was Done, over 5 at place 0 and the rounds at place 1.
 pub record AreLeftByRounds (rounds number : ℤ) : Type 0 where
@@ -83,7 +81,7 @@ pub record AreLeftByRounds (rounds number : ℤ) : Type 0 where
   pub before : RoundsSituation
   pub after : RoundsSituation
   pub its_plan : before.plan ≡ plan.plan
-  pub its_states : (path : Agent) → before.states path ≡ plan.states path
+  pub its_works : (path : Agent) → before.works path ≡ plan.states path
   pub its_values : (id : ResourceId) → before.values id ≡ five_and_rounds rounds id
-  pub ran : Dispatched kind_of (PlanRun kind_of RoundsStep) before (Ok tt) after
+  pub ran : Dispatched kind_of rounds_related dispatch_answer before (Ok tt) after
   pub left : after.values (number_id 0) ≡ Some (number_value number)

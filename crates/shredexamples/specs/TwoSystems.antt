@@ -7,8 +7,10 @@ use Rattle.shred_table.specs.declared.id.ResourceId.{ResourceId}
 use Rattle.shred_table.specs.declared.only.Only.{Only}
 use Rattle.shred_world.specs.Worked.{Held}
 use Rattle.shred_world.specs.declared.world.view.DataError.{DataError}
-use Rattle.shred_group.specs.Alone.{IsStepOver}
-use Rattle.shred_group.specs.Steps.{Step}
+use Rattle.shred_run.specs.Alone.{IsStepOver}
+use Rattle.shred_run.specs.Steps.{Step}
+use Rattle.shred_run.specs.declared.work.Work.{Work}
+use Rattle.shred_run.specs.declared.work.Work.TheVariants.{System}
 use Rattle.shred_orders.specs.OneEnd.{own_access}
 use Rattle.shredexamples.specs.Numbers.{kind_of, number_id, number_value}
 
@@ -31,15 +33,15 @@ pub record HasListsOf {S : Type 0} (reads writes : S → List ResourceId) (syste
   pub same_writes : entry.access.writes ≡ writes system
 
 -- The plan has two entries at different paths, the first with the one system and its lists, and the second with the other and its.
-pub record HasInOrder {S : Type 0} (reads writes : S → List ResourceId) (first second : S) (plan : Plan ResourceId) (states : Agent → Option S) : Type 0 where
+pub record HasInOrder {S B : Type 0} (reads writes : S → List ResourceId) (first second : S) (plan : Plan ResourceId) (works : Agent → Option (Work S B)) : Type 0 where
   pub path : Agent
   pub entry : PlanEntry ResourceId
   pub its_path : Agent
   pub its_entry : PlanEntry ResourceId
   pub order : entries_with_paths plan ≡ (path, entry) ∷ (its_path, its_entry) ∷ []
   pub apart : path ≢ its_path
-  pub stands : states path ≡ Some first
-  pub its_stands : states its_path ≡ Some second
+  pub stands : works path ≡ Some (System first)
+  pub its_stands : works its_path ≡ Some (System second)
   pub lists : HasListsOf reads writes first entry
   pub its_lists : HasListsOf reads writes second its_entry
 

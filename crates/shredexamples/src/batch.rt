@@ -1,22 +1,21 @@
 //! A batch: a plan that runs as often as a number says.
 ghost use Rattle.std.specs.Prelude.{◌≡◌, [], ◌∷◌, IfOk, IfSome};
 ghost use Rattle.shred_model.specs.Record.{Agent};
-ghost use Rattle.shred_stage.specs.Dispatched.{Dispatched};
-ghost use Rattle.shred_systems.specs.Made.{IsLeftAlone};
+ghost use Rattle.shred_run.specs.Dispatched.{Dispatched};
+ghost use Rattle.shred_stage.specs.Situations.{dispatch_answer};
+ghost use Rattle.shred.specs.Made.{IsLeftAlone};
 ghost use Rattle.shred_table.specs.declared.id.ResourceId.{ResourceId};
 ghost use Rattle.shred_world.specs.Worlds.{world_held};
 ghost use Rattle.shred.specs.Builders.{built};
-ghost use Rattle.shred.specs.Built.{IsNewBuilt};
 ghost use Rattle.shred.specs.Dispatchers.{dispatcher_over, dispatcher_plan, dispatcher_states};
-ghost use Rattle.shred.specs.PlanRuns.{PlanRun};
 ghost use Rattle.shredexamples.specs.Numbers.{kind_of, number_id};
-ghost use Rattle.shredexamples.specs.Rounds.{AreLeftByRounds, IsOfRounds, IsRound, PlansAsOften, RoundsBuilt, RoundsStep, five_and_rounds};
+ghost use Rattle.shredexamples.specs.Rounds.{AreLeftByRounds, IsOfRounds, IsRound, PlansAsOften, RoundsBuilt, five_and_rounds, rounds_related};
 
 use crate::enum_of_systems::Add;
 use shred::{
-    AddError, BatchAccessor, BatchBuilder, BatchDispatcher, DataError, DispatchError,
-    DispatcherBuilder, Fault, MultiDispatchController, MultiDispatcher, Now, Only, OutOfMemory,
-    Plain, View, World, WorldError, only_id,
+    AddError, BatchAccessor, DataError, DispatchError, Dispatcher, DispatcherBuilder, Fault,
+    MultiDispatchController, MultiDispatcher, Only, OutOfMemory, Plain, View, World, WorldError,
+    only_id,
 };
 use std::alloc::Global;
 
@@ -57,9 +56,9 @@ impl MultiDispatchController<Only<i64>> for AsOften {
 
 type Rounds = MultiDispatcher<AsOften>;
 
-type Builder = BatchBuilder<Only<i64>, Plain<Add>, Rounds, Now<Plain<Add>>>;
+type RoundsBuilder = DispatcherBuilder<Only<i64>, Plain<Add>, Rounds>;
 
-type Dispatcher = BatchDispatcher<Only<i64>, Plain<Add>, Rounds, Now<Plain<Add>>>;
+type RoundsDispatcher = Dispatcher<Only<i64>, Plain<Add>, Rounds>;
 
 // A world with 5 at place 0 and the number of rounds at place 1.
 fn world_of_rounds(alloc: Global, rounds: i64) -> Result<World<Only<i64>>, WorldError>
@@ -71,36 +70,29 @@ fn world_of_rounds(alloc: Global, rounds: i64) -> Result<World<Only<i64>>, World
     Ok(world)
 }
 
-// A plan in which nothing stands.
-fn empty_plan(alloc: Global) -> Builder
-    ensures { IsNewBuilt (built result) }
-{
-    DispatcherBuilder::empty(alloc)
-}
-
 // The plan of a round, which adds 3 at place 0.
-fn plan_of_round(alloc: Global) -> Result<Builder, AddError>
+fn plan_of_round(alloc: Global) -> Result<RoundsBuilder, AddError>
     ensures { IfOk result (λ builder. IsRound (built builder)) }
 {
-    empty_plan(alloc).with(Plain(Add { to: 0, amount: 3 }), "add", &[])
+    DispatcherBuilder::new(alloc).with(Plain(Add { to: 0, amount: 3 }), "add", &[])
 }
 
 // The dispatcher of a batch of that plan, which runs as often as place 1 says.
-fn dispatcher_of_rounds(alloc: Global) -> Result<Dispatcher, AddError>
+fn dispatcher_of_rounds(alloc: Global) -> Result<RoundsDispatcher, AddError>
     ensures { IfOk result (λ dispatcher. (plan : RoundsBuilt) × IsOfRounds plan × (dispatcher_plan dispatcher ≡ plan.plan) × ((path : Agent) → dispatcher_states dispatcher path ≡ plan.states path)) }
 {
     let round = plan_of_round(alloc)?;
     let controller = MultiDispatcher::new(AsOften { at: 1 });
-    let plan = empty_plan(alloc).with_batch(controller, round, "rounds", &[])?;
+    let plan = DispatcherBuilder::new(alloc).with_batch(controller, round, "rounds", &[])?;
     Ok(plan.build())
 }
 
 // A dispatch on the caller's thread.
 fn dispatched(
-    dispatcher: &mut Dispatcher,
+    dispatcher: &mut RoundsDispatcher,
     world: &mut World<Only<i64>>,
 ) -> Result<(), DispatchError<DataError>>
-    ensures { Dispatched kind_of (PlanRun kind_of RoundsStep) (dispatcher_over kind_of dispatcher.old world.old) result (dispatcher_over kind_of dispatcher.new world.new) }
+    ensures { Dispatched kind_of rounds_related dispatch_answer (dispatcher_over kind_of dispatcher.old world.old) result (dispatcher_over kind_of dispatcher.new world.new) }
 {
     dispatcher.dispatch_seq(world)
 }

@@ -1,6 +1,6 @@
 //! Systems behind a boxed interface of the caller's own, so that their types are not listed.
 ghost use Rattle.std.specs.Prelude.{◌≡◌, ℤ, List, IfOk, IfSome, false, is_some, pos};
-ghost use Rattle.shred_group.specs.Steps.{Outcome};
+ghost use Rattle.shred_run.specs.Steps.{Outcome};
 ghost use Rattle.shred_table.specs.Accessors.{batch_reads, batch_writes};
 ghost use Rattle.shred_table.specs.declared.id.ResourceId.{ResourceId};
 ghost use Rattle.shred_table.specs.declared.only.Only.{Only};

@@ -1,7 +1,7 @@
 //! A count that one system sets.
 ghost use Rattle.std.specs.Prelude.{◌≡◌, [], ◌∷◌, IfSome, pos};
-ghost use Rattle.shred_group.specs.declared.system.RunningTime.TheVariants.{Average};
-ghost use Rattle.shred_systems.specs.Made.{IsLeftAlone};
+ghost use Rattle.shred_run.specs.declared.system.RunningTime.TheVariants.{Average};
+ghost use Rattle.shred.specs.Made.{IsLeftAlone};
 ghost use Rattle.shredexamples.specs.declared.one_system.Value.TheVariants.{Count};
 ghost use Rattle.shredexamples.specs.OneSystem.{SetsToSeven, count_at};
 

@@ -1,14 +1,15 @@
 //! A dispatch of two systems, of whatever type.
 ghost use Rattle.std.specs.Prelude.{◌≡◌, IfOk, IfSome};
-ghost use Rattle.shred_stage.specs.Dispatched.{Dispatched};
+ghost use Rattle.shred_run.specs.Dispatched.{Dispatched};
 ghost use Rattle.shred_stage.specs.Plans.{plan_states};
+ghost use Rattle.shred_stage.specs.Situations.{dispatch_answer};
 ghost use Rattle.shred_stage.specs.StagePlan.{plan_of};
 ghost use Rattle.shred.specs.Dispatchers.{dispatcher_over, dispatcher_plan, dispatcher_states};
-ghost use Rattle.shred.specs.PlanRuns.{PlanRun};
 ghost use Rattle.shred_table.specs.declared.id.ResourceId.{ResourceId};
 ghost use Rattle.shred_world.specs.Worlds.{world_held};
 ghost use Rattle.shredexamples.specs.Numbers.{kind_of};
 ghost use Rattle.shredexamples.specs.TwoSystems.{AreLeftAtTwo, HasInOrder, five_and_zero};
+ghost use Rattle.shredexamples.specs.WithoutBatches.{without_batches};
 
 use shred::{
     DataError, DispatchError, Dispatcher, Only, OutOfMemory, Stage, StagesBuilder, System,
@@ -56,7 +57,7 @@ fn dispatched<S: System<Only<i64>, Error = DataError>>(
     dispatcher: &mut Dispatcher<Only<i64>, S>,
     world: &mut World<Only<i64>>,
 ) -> Result<(), DispatchError<DataError>>
-    ensures { Dispatched kind_of (PlanRun kind_of S.step) (dispatcher_over kind_of dispatcher.old world.old) result (dispatcher_over kind_of dispatcher.new world.new) }
+    ensures { Dispatched kind_of (without_batches S.reads S.writes S.step) dispatch_answer (dispatcher_over kind_of dispatcher.old world.old) result (dispatcher_over kind_of dispatcher.new world.new) }
 {
     dispatcher.dispatch_seq(world)
 }

@@ -5,20 +5,23 @@ use Rattle.std.specs.Prelude.{is_err, OnOk}
 use Rattle.std.specs.List.{AllZip, Contains}
 use Rattle.std.proofs.lemmas.Bool.Decides.{nat_tests}
 use Rattle.shred_model.specs.Access.{Declares}
-use Rattle.shred_model.specs.Serializable.{IsSerializable}
 use Rattle.shred_model.specs.Plan.{PlanEntry, Plan}
-use Rattle.shred_model.specs.Record.{Agent}
-use Rattle.shred_model.specs.Replay.{Configuration}
 use Rattle.shred_model.proofs.Records.Membership.{is_contained, is_declared}
 use Rattle.shred_table.specs.declared.id.ResourceId.{ResourceId}
 use Rattle.shred_world.specs.declared.world.view.DataError.{DataError}
 use Rattle.shred_table.proofs.Tables.Ids.{tell_ids}
 use Rattle.shred_stage.specs.Placement.{IsPlaced}
-use Rattle.shred.specs.PlanRuns.{PlanRun}
-use Rattle.shred_group.specs.Steps.{Outcome, Step, Written}
-use Rattle.shred_orders.specs.Entries.{entries_of_plan}
-use Rattle.shred_orders.proofs.Done.{IsDoneStep, plan_done}
-use Rattle.shred_systems.specs.declared.plain.Plain.{Plain}
+use Rattle.shred_stage.specs.Situations.{dispatch_answer}
+use Rattle.shred_run.specs.declared.no_batch.NoBatch.{NoBatch}
+use Rattle.shred_run.specs.Controls.{Refuses}
+use Rattle.shred_run.specs.declared.system.Fault.{Fault}
+use Rattle.shred_run.specs.declared.system.Fault.TheVariants.{OutOfMemory}
+use Rattle.shred_run.specs.Depths.{Declared, Related, lists_of, relations_of}
+use Rattle.shred_run.specs.Dispatched.{Dispatched, Situation, configuration_in, occupants_of}
+use Rattle.shred_run.specs.NestedRecords.{NestedRecord}
+use Rattle.shred_run.specs.Steps.{Step}
+use Rattle.shredmeasure.specs.Entries.{entries_of_plan}
+use Rattle.shred.specs.declared.plain.Plain.{Plain}
 use Rattle.shred_table.specs.declared.only.Only.{Only}
 use Rattle.shredmeasure.specs.declared.adder.AddOne.{AddOne}
 use Rattle.shredmeasure.specs.Adders.{HasOneForEach, occurrences}
@@ -26,6 +29,7 @@ use Rattle.shredmeasure.specs.Adds.{adds_one, IsOneMore}
 use Rattle.shredmeasure.specs.Counts.{kind_of, count_id, count_value, number_of}
 use Rattle.shredmeasure.specs.Measured.{IsCountedOnce}
 use Rattle.shredmeasure.proofs.Counted.{counted as stepped, steps_on}
+use Rattle.shredmeasure.proofs.Done.{IsDoneStep, plan_done}
 use Rattle.shredmeasure.proofs.Inserted.{placed_one}
 use Rattle.shredmeasure.proofs.Wraps.{one_more_time, other_number}
 
@@ -58,13 +62,25 @@ one_for_next most plan placed barrier start dependencies entry have writes is_pl
 abbrev adds : Step (Only ℤ) (Plain AddOne) DataError
 adds before seen outcome after left = adds_one before.0 seen outcome after.0 left
 
+-- the lists that they declare
+abbrev lists : Declared (Plain AddOne) (NoBatch DataError)
+lists = lists_of (λ system. count_id 0 ∷ []) (λ system. count_id system.0.number ∷ []) (λ none. []) (λ none. [])
+
+-- the relations of the systems that are dispatched, and of the controllers, of which none begins
+abbrev related : Related (Only ℤ) (Plain AddOne) (NoBatch DataError) DataError
+related = relations_of lists adds Refuses Refuses
+
+-- a record of such a dispatch
+abbrev Added : Type 0
+Added = NestedRecord (Only ℤ) (Plain AddOne) (NoBatch DataError) DataError
+
 -- a Done step of a system that writes the count of this number alone
-record Made (number : ℕ) (r : Written (Only ℤ) (Plain AddOne) DataError) : Type 0 where
+record Made (number : ℕ) (r : Added) : Type 0 where
   pub entry : PlanEntry ResourceId
   pub writes : entry.access.writes ≡ count_id number ∷ []
-  pub step : IsDoneStep kind_of adds entry r
+  pub step : IsDoneStep kind_of related entry r
 
-all_made : (ns : List ℕ) (entries : List (PlanEntry ResourceId)) (rs : List (Written (Only ℤ) (Plain AddOne) DataError)) → AllZip (λ number entry. entry.access.writes ≡ count_id number ∷ []) ns entries → AllZip (IsDoneStep kind_of adds) entries rs → AllZip Made ns rs
+all_made : (ns : List ℕ) (entries : List (PlanEntry ResourceId)) (rs : List Added) → AllZip (λ number entry. entry.access.writes ≡ count_id number ∷ []) ns entries → AllZip (IsDoneStep kind_of related) entries rs → AllZip Made ns rs
 all_made [] [] [] writes made = tt
 all_made [] [] (r ∷ rs) writes made = absurd made
 all_made [] (e ∷ es) rs writes made = absurd writes
@@ -81,37 +97,49 @@ only id q (zero, below, is) = is
 only id q (suc k, below, is) = absurd (omega arith)
 
 -- a written id is that of the number
-written : (number : ℕ) (r : Written (Only ℤ) (Plain AddOne) DataError) (id : ResourceId) → Made number r → Contains r.access.writes id → count_id number ≡ id
-written number r id made has = only (count_id number) id (subst (λ (ids : List ResourceId). Contains ids id) ((λ i. (made.step.is_step.declared i).writes) ∙ made.writes) has)
+written : (number : ℕ) (r : Added) (id : ResourceId) → Made number r → Contains r.access.writes id → count_id number ≡ id
+written number r id made has = only (count_id number) id (subst (λ (ids : List ResourceId). Contains ids id) ((λ i. (made.step.declared i).writes) ∙ made.writes) has)
+
+-- the id of the count of the system's own number
+abbrev own_id : (number : ℕ) (r : Added) → Made number r → ResourceId
+own_id number r made = count_id made.step.old.0.number
+
+one_of : (number : ℕ) (r : Added) (made : Made number r) → IsOneMore (r.seen (own_id number r made)) (r.left (own_id number r made))
+one_of number r made = made.step.lies.0.1
 
 -- where the step is Done, the system's own number is that of its count
-own_number : (number : ℕ) (r : Written (Only ℤ) (Plain AddOne) DataError) (made : Made number r) → IsOneMore (r.seen (count_id r.before.0.number)) (r.left (count_id r.before.0.number)) → number ≡ r.before.0.number
-own_number number r made one = elim (is_contained tell_ids r.access.writes (count_id r.before.0.number)) [
-  | inl has ↦ ap (λ (id : ResourceId). id.dynamic_id) (written number r (count_id r.before.0.number) made has)
-  | inr out ↦ absurd (other_number one.0 (ap number_of (sym one.2 ∙ made.step.is_step.frame (count_id r.before.0.number) out ∙ one.1)))
-]
+own_number : (number : ℕ) (r : Added) (made : Made number r) → number ≡ made.step.old.0.number
+own_number number r made =
+    let one = one_of number r made in
+    let own = own_id number r made in
+    elim (is_contained tell_ids r.access.writes own) [
+      | inl has ↦ ap (λ (id : ResourceId). id.dynamic_id) (written number r own made has)
+      | inr out ↦ absurd (other_number one.0 (ap number_of (sym one.2 ∙ made.step.frame own out ∙ one.1)))
+    ]
 
-one_of : (number : ℕ) (r : Written (Only ℤ) (Plain AddOne) DataError) → Made number r → IsOneMore (r.seen (count_id r.before.0.number)) (r.left (count_id r.before.0.number))
-one_of number r made = (subst (λ (outcome : Outcome DataError). adds r.before r.seen outcome r.after r.left) made.step.done made.step.is_step.lies).1
-
-hit : (k : ℕ) (r : Written (Only ℤ) (Plain AddOne) DataError) → Made k r → Declares r.access (count_id k) × ((v : Only ℤ) → r.seen (count_id k) ≡ Some v → r.left (count_id k) ≡ Some (more v))
+hit : (k : ℕ) (r : Added) → Made k r → Declares r.access (count_id k) × ((v : Only ℤ) → r.seen (count_id k) ≡ Some v → r.left (count_id k) ≡ Some (more v))
 hit k r made =
-    let one = one_of k r made in
-    let own : k ≡ r.before.0.number = own_number k r made one in
-    let there : IsOneMore (r.seen (count_id k)) (r.left (count_id k)) = subst (λ (n : ℕ). IsOneMore (r.seen (count_id n)) (r.left (count_id n))) (sym own) one in (
-      inr (subst (λ (ids : List ResourceId). Contains ids (count_id k)) (sym ((λ i. (made.step.is_step.declared i).writes) ∙ made.writes)) (0, omega arith, refl)),
+    let there : IsOneMore (r.seen (count_id k)) (r.left (count_id k)) = subst (λ (n : ℕ). IsOneMore (r.seen (count_id n)) (r.left (count_id n))) (sym (own_number k r made)) (one_of k r made) in (
+      inr (subst (λ (ids : List ResourceId). Contains ids (count_id k)) (sym ((λ i. (made.step.declared i).writes) ∙ made.writes)) (0, omega arith, refl)),
       λ v seen. there.2 ∙ (let same : count_value there.0 ≡ v = (let before = there.1 in cc) in ap (λ w. Some (more w)) same),
     )
 
-miss : (k n : ℕ) (r : Written (Only ℤ) (Plain AddOne) DataError) → n ≢ k → Made n r → Declares r.access (count_id k) → r.left (count_id k) ≡ r.seen (count_id k)
-miss k n r other made declared = made.step.is_step.frame (count_id k) (λ has. other (ap (λ (id : ResourceId). id.dynamic_id) (written n r (count_id k) made has)))
+miss : (k n : ℕ) (r : Added) → n ≢ k → Made n r → Declares r.access (count_id k) → r.left (count_id k) ≡ r.seen (count_id k)
+miss k n r other made declared = made.step.frame (count_id k) (λ has. other (ap (λ (id : ResourceId). id.dynamic_id) (written n r (count_id k) made has)))
+
+-- a plan of these systems, with them, and the counts of a world
+abbrev Adding : Type 0
+Adding = Situation (Only ℤ) (Plain AddOne) (NoBatch DataError)
+
+never_begins : {E : Type 0} (most : ℕ) (said : Result ℕ (Fault E)) → said ≡ Err OutOfMemory → said ≡ Ok most → ⊥
+never_begins most said refused says = absurd (let same : Err OutOfMemory ≡ Ok most = sym refused ∙ says in cc)
 
 -- where a dispatch is Done, each count from 1 to the number of systems is one more
-dispatched_one_more : (most : ℕ) (plan : Plan ResourceId) (x y : Configuration Agent ResourceId (Only ℤ) (Plain AddOne)) (k : ℕ) (number : ℤ) → HasOneForEach most plan → 0 < k → k ≤ most
-    → IsSerializable (λ list. PlanRun kind_of adds plan list (Ok tt)) x y → x.values (count_id k) ≡ Some (count_value number) → y.values (count_id k) ≡ Some (count_value (int_wrapping_add w64 number (pos 1)))
-dispatched_one_more most plan x y k number have above below ran here =
-    stepped Made more (count_id k) k (hit k) (miss k) (λ r. is_declared tell_ids r.access (count_id k)) have.numbers ran.list x y (count_value number)
-    (all_made have.numbers (entries_of_plan plan) ran.list have.entries (plan_done kind_of adds plan ran.list ran.run)) ran.replays here
+dispatched_one_more : (most : ℕ) (before after : Adding) (k : ℕ) (number : ℤ) → HasOneForEach most before.plan → 0 < k → k ≤ most
+    → Dispatched kind_of related dispatch_answer before (Ok tt) after → before.values (count_id k) ≡ Some (count_value number) → after.values (count_id k) ≡ Some (count_value (int_wrapping_add w64 number (pos 1)))
+dispatched_one_more most before after k number have above below ran here =
+    stepped Made more (count_id k) k (hit k) (miss k) (λ r. is_declared tell_ids r.access (count_id k)) have.numbers ran.list (configuration_in before) (configuration_in after) (count_value number)
+    (all_made have.numbers (entries_of_plan before.plan) ran.list have.entries (plan_done kind_of related (λ c d seen left most begins. never_begins most (Ok most) begins.0.refused refl) before.plan (occupants_of before) ran.list ran.run)) ran.replays here
     ∙ (let once : occurrences k have.numbers ≡ 1 = have.once k ∙ grind (arith, nat_tests) in ap (λ m. Some (steps_on more m (count_value number))) once)
 
 -- what is said of an answer that is no error
@@ -120,8 +148,8 @@ on_ok (Ok value) is none h = h
 on_ok (Err error) is none h = absurd (cc)
 
 -- one more dispatch that is Done leaves a plan with one system for each count, and each count one more
-pub dispatched_again : (plan left : Plan ResourceId) (x y : Configuration Agent ResourceId (Only ℤ) (Plain AddOne)) → left ≡ plan → IsSerializable (λ list. PlanRun kind_of adds plan list (Ok tt)) x y → IsCountedOnce plan x.values left y.values
-dispatched_again plan left x y same ran most times (have, counts) = (
-  subst (λ (p : Plan ResourceId). HasOneForEach most p) (sym same) have,
-  λ k above below. dispatched_one_more most plan x y k (int_wrap w64 (pos times)) have above below ran (counts k above below) ∙ ap (λ n. Some (count_value n)) (one_more_time times),
+pub dispatched_again : (before after : Adding) → Dispatched kind_of related dispatch_answer before (Ok tt) after → IsCountedOnce before.plan before.values after.plan after.values
+dispatched_again before after ran most times (have, counts) = (
+  subst (λ (p : Plan ResourceId). HasOneForEach most p) (sym ran.plan) have,
+  λ k above below. dispatched_one_more most before after k (int_wrap w64 (pos times)) have above below ran (counts k above below) ∙ ap (λ n. Some (count_value n)) (one_more_time times),
 )

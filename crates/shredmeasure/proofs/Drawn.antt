@@ -2,8 +2,8 @@
 use Rattle.std.proofs.Common.{◌≡◌, ℕ, suc, ◌+◌, ◌%◌, ◌^◌, List, [], length, subst, arith}
 use Rattle.shred_model.specs.Plan.{PlanEntry, Plan}
 use Rattle.shred_table.specs.declared.id.ResourceId.{ResourceId}
-use Rattle.shred_group.specs.declared.system.RunningTime.TheVariants.{Average}
-use Rattle.shred_group.specs.Kept.{IsKept}
+use Rattle.shred_run.specs.declared.system.RunningTime.TheVariants.{Average}
+use Rattle.shred_run.specs.Kept.{IsKept}
 use Rattle.shred_stage.specs.Placement.{IsPlaced}
 use Rattle.shredmeasure.specs.Random.{AreDrawn, AreDrawnOften, ids_drawn, next_seed, reads_drawn, seed_left, writes_drawn}
 

@@ -3,7 +3,7 @@ use Rattle.std.proofs.Common.{◌≡◌, ℕ, zero, suc, List, [], ◌∷◌, �
 use Rattle.std.specs.List.{slice_get, slice_set, flat_map}
 use Rattle.shred_model.specs.Plan.{PlanEntry, Plan}
 use Rattle.shred_stage.specs.Placement.{IsPlaced, in_new_group, at_end_of_group, in_new_stage}
-use Rattle.shred_orders.specs.Entries.{entries_of_stage, entries_of_plan}
+use Rattle.shredmeasure.specs.Entries.{entries_of_stage, entries_of_plan}
 
 -- one more stands somewhere in the list
 pub record HasOneMore {X : Type 0} (x : X) (old new : List X) : Type 0 where

@@ -3,7 +3,7 @@ use Rattle.std.specs.Prelude.{◌≡◌, ℕ, ◌+◌, ◌==◌, ◌&&◌, nat_l
 use Rattle.std.specs.List.{AllZip}
 use Rattle.shred_model.specs.Plan.{Plan}
 use Rattle.shred_table.specs.declared.id.ResourceId.{ResourceId}
-use Rattle.shred_orders.specs.Entries.{entries_of_plan}
+use Rattle.shredmeasure.specs.Entries.{entries_of_plan}
 use Rattle.shredmeasure.specs.Counts.{count_id}
 
 -- how often the number stands in the list

@@ -2,7 +2,7 @@
 use Rattle.std.specs.Prelude.{◌≡◌, ℤ, pos, Option, Some, IfOk}
 use Rattle.std.specs.Int.{w64, int_wrapping_add}
 use Rattle.shred_world.specs.declared.world.view.DataError.{DataError}
-use Rattle.shred_group.specs.Steps.{Step}
+use Rattle.shred_run.specs.Steps.{Step}
 use Rattle.shred_table.specs.declared.only.Only.{Only}
 use Rattle.shredmeasure.specs.declared.adder.AddOne.{AddOne}
 use Rattle.shredmeasure.specs.Counts.{count_id, count_value}

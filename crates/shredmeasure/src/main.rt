@@ -8,8 +8,8 @@
 
 ghost use Rattle.std.specs.Prelude.{◌≡◌, ℕ, ◌*◌, [], length, IfOk, OnOk, pos};
 ghost use Rattle.std.specs.Int.{w64, int_wrap};
-ghost use Rattle.shred_group.specs.Kept.{IsKept};
-ghost use Rattle.shred_group.specs.declared.system.RunningTime.TheVariants.{Average};
+ghost use Rattle.shred_run.specs.Kept.{IsKept};
+ghost use Rattle.shred_run.specs.declared.system.RunningTime.TheVariants.{Average};
 ghost use Rattle.shred_model.specs.Plan.{Plan, PlanEntry};
 ghost use Rattle.shred_stage.specs.BuilderPlan.{barrier_of, planned as plan_of};
 ghost use Rattle.shred_stage.specs.Placement.{IsPlaced};

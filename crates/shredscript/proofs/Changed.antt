@@ -2,7 +2,7 @@
 use Rattle.std.proofs.Common.{◌≡◌, ℤ, pos, negsuc, ◌^◌, ◌<◌, Bool, true, false, cond, nat_lt, Option, Some, None, Ok, Err, ok_or, FitsSigned, w64, refl, sym, ◌∙◌, ap, arith}
 use Rattle.std.proofs.lemmas.Int.{ints}
 use Rattle.std.proofs.lemmas.Bool.Decides.{nat_tests}
-use Rattle.shred_group.specs.declared.system.Fault.TheVariants.{Refused}
+use Rattle.shred_run.specs.declared.system.Fault.TheVariants.{Refused}
 use Rattle.shredscript_text.specs.declared.outcome.Refusal.TheVariants.{Overflow, Undeclared}
 use Rattle.shredscript_text.specs.declared.step.Operation.{Operation}
 use Rattle.shredscript.specs.Change.{fits, fitted, combined}

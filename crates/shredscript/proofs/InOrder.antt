@@ -4,8 +4,8 @@ use Rattle.std.specs.Result.{result_and}
 use Rattle.std.specs.Prelude.{is_ok}
 use Rattle.std.proofs.lemmas.List.{drop_more}
 use Rattle.shred_world.specs.Worked.{Held}
-use Rattle.shred_group.specs.declared.system.Fault.{Fault}
-use Rattle.shred_group.specs.Steps.{Outcome}
+use Rattle.shred_run.specs.declared.system.Fault.{Fault}
+use Rattle.shred_run.specs.Steps.{Outcome}
 use Rattle.shredscript_text.specs.declared.outcome.Refusal.{Refusal}
 use Rattle.shredscript_text.specs.declared.step.Step.{Step}
 use Rattle.shredscript_text.specs.declared.value.Value.{Value}

@@ -2,9 +2,9 @@
 use Rattle.std.proofs.Common.{◌≡◌, ℕ, List, [], ◌∷◌, ◌++◌, refl, sym, ◌∙◌, ap, subst, append_assoc}
 use Rattle.shred_table.specs.declared.id.ResourceId.{ResourceId}
 use Rattle.shred.specs.Built.{IsAddition, IsNewBuilt}
-use Rattle.shred_batch.specs.declared.work.Work.TheVariants.{System as a_system}
+use Rattle.shred_run.specs.declared.work.Work.TheVariants.{System as a_system}
 use Rattle.shred.specs.Batches.{IsBatchAddition}
-use Rattle.shred_group.specs.declared.system.RunningTime.TheVariants.{VeryLong}
+use Rattle.shred_run.specs.declared.system.RunningTime.TheVariants.{VeryLong}
 use Rattle.shred_stage.specs.Refusals.{IsBatchRefusal, MayAdd}
 use Rattle.shred_stage.specs.declared.add_error.AddError.{AddError}
 use Rattle.shred_stage.specs.declared.add_error.AddError.TheVariants.{NoSuchSystem, NameTaken, IdsExhausted, OutOfMemory, ThreadLocalInBatch}

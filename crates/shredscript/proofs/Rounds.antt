@@ -1,7 +1,7 @@
 -- Dispatches that come one after another.
 use Rattle.std.proofs.Common.{◌≡◌, ℕ, suc, ◌+◌, ◌-◌, ◌<◌, Ok, Err, refl, sym, subst, arith}
 use Rattle.shred_model.specs.Runs.{Answer}
-use Rattle.shred_systems.specs.declared.dispatch_error.DispatchError.{DispatchError}
+use Rattle.shred_stage.specs.declared.dispatch.dispatch_error.DispatchError.{DispatchError}
 use Rattle.shredscript_text.specs.declared.outcome.Refusal.{Refusal}
 use Rattle.shredscript.specs.Runs.{AreDispatched, IsOnce, Program}
 

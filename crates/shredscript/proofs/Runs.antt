@@ -17,13 +17,13 @@ use Rattle.shredscript.specs.Runs.{AreLinesNotRun, AreLinesRun, IsDispatch, IsMa
 
 -- the dispatcher has the plan and the systems that were built, and the values are the first ones
 pub run-of : (lines : List PlanLine) (prints : Bool) (manner : Manner) (first : Held Value) (resources : List (List ℕ)) (built : ScriptBuilt) (names : List NamedId) (begins : List ℕ) (start : Program) → IsMadeOf lines manner.workers built
-    → AreNames names built.known → IsPlanPart prints names built.plan begins → start.staged.plan ≡ built.plan → ((path : Agent) → start.staged.states path ≡ built.states path)
+    → AreNames names built.known → IsPlanPart prints names built.plan begins → start.staged.plan ≡ built.plan → ((path : Agent) → start.staged.works path ≡ built.states path)
     → start.staged.values ≡ first → start.locals ≡ built.locals → start.workers ≡ built.workers
     → (outcome : Outcome) (text : List ℕ) → IsDispatch start manner.times resources begins outcome text → AreLinesRun lines prints manner first resources outcome text
 run-of lines prints manner first resources built names begins start made known planned same_plan same_states same_held same_locals same_workers outcome text ran =
     let s = fun_ext same_states in
     let same : start ≡ program_of built first =
-    λ i. record { staged = record { plan = same_plan i; states = s i; values = same_held i }; locals = same_locals i; workers = same_workers i } in
+    λ i. record { staged = record { plan = same_plan i; works = s i; values = same_held i }; locals = same_locals i; workers = same_workers i } in
     record {
       built = built;
       made = made;

@@ -6,31 +6,33 @@ use Rattle.shred_model.specs.Record.{Agent}
 use Rattle.shred_model.specs.Runs.{Answer}
 use Rattle.shred_model.specs.States.{listed_states}
 use Rattle.shred_world.specs.Worked.{Held}
-use Rattle.shred_group.specs.declared.dispatch.entry.SystemEntry.{SystemEntry}
-use Rattle.shred_group.specs.declared.dispatch.entry.Group.{Group}
-use Rattle.shred_group.specs.declared.dispatch.run.StageFault.{StageFault}
-use Rattle.shred_group.specs.Entries.{entry_answer, entry_states, group_states}
-use Rattle.shred_group.specs.Setups.{EntrySetup, GroupSetup}
-use Rattle.shred_group.specs.Steps.{Outcome, Step}
-use Rattle.shred_systems.specs.declared.dispatch_error.DispatchError.{DispatchError}
-use Rattle.shred_systems.specs.LocalRuns.{LocalSetup, LocalsSetup, local_answer}
+use Rattle.shred_run.specs.declared.entry.SystemEntry.{SystemEntry}
+use Rattle.shred_run.specs.declared.entry.Group.{Group}
+use Rattle.shred_run.specs.declared.entry.StageFault.{StageFault}
+use Rattle.shred_run.specs.Entries.{entry_answer, entry_states, group_states}
+use Rattle.shred_run.specs.Setups.{EntrySetup, GroupSetup}
+use Rattle.shred_run.specs.Steps.{Outcome, Step}
+use Rattle.shred_stage.specs.declared.dispatch.dispatch_error.DispatchError.{DispatchError}
+use Rattle.shred.specs.LocalRuns.{LocalSetup, LocalsSetup, local_answer}
 use Rattle.shred_stage.specs.declared.dispatch.stage.Stage.{Stage}
 use Rattle.shred_stage.specs.Plans.{stage_states}
 use Rattle.shred.specs.declared.dispatch.dispatcher.Dispatcher.{Dispatcher}
 use Rattle.shred.specs.Dispatchers.{dispatcher_locals}
 use Rattle.shred.specs.FullRuns.{whole_with}
-use Rattle.shred.specs.PlanRuns.{dispatch_answer}
+use Rattle.shred_stage.specs.Situations.{dispatch_answer}
 use Rattle.shred.specs.Setups.{IsSetUp, StageSetupAt}
-use Rattle.shred_batch.specs.Depths.{batch_of}
-use Rattle.shred_batch.specs.declared.work.Nested.{Nested}
-use Rattle.shred_batch.specs.declared.work.Tier.{Tier}
-use Rattle.shred_batch.specs.declared.work.Work.{Work}
-use Rattle.shred_batch.specs.declared.work.Work.TheVariants.{System, Batch}
-use Rattle.shred_batch.specs.OwnDepth.{depth_of}
-use Rattle.shred_batch.specs.Setups.{OwnSetup, TierSetup, WorkSetup, outcome_within}
+use Rattle.shred_run.specs.Depths.{batch_of}
+use Rattle.shred_run.specs.declared.work.Nested.{Nested}
+use Rattle.shred_run.specs.declared.work.Tier.{Tier}
+use Rattle.shred_run.specs.declared.work.Work.{Work}
+use Rattle.shred_run.specs.declared.work.Work.TheVariants.{System, Batch}
+use Rattle.shred_run.specs.OwnDepth.{depth_of}
+use Rattle.shred_run.specs.WorkSetups.{OwnSetup, TierSetup, WorkSetup, outcome_within}
 use Rattle.shredscript.specs.Runs.{AtBoth, IsIdle, IsSetUpFrom, WasSetUp}
 use Rattle.shredscript.specs.Lines.{ScriptWork}
+use Rattle.shredscript.specs.declared.batch.ScriptBatch.{ScriptBatch}
 use Rattle.shredscript.specs.declared.local.ScriptLocal.{ScriptLocal}
+use Rattle.shredscript.specs.declared.system.ScriptSystem.{ScriptSystem}
 use Rattle.shredscript_text.specs.declared.outcome.Refusal.{Refusal}
 use Rattle.shredscript_text.specs.declared.value.Value.{Value}
 
@@ -85,15 +87,17 @@ module _ {V S E : Type 0} (staged : Step V S E) (R : S → S → Type 0) (idle :
       let r = turns-idle (λ place. EntrySetup staged) (λ x y. (path : Agent) → AtBoth R (entry_states x path) (entry_states y path)) entry-idle 0 x.entries.items y.entries.items h k a turns in
       (r.0, listed-both entry_states R x.entries.items y.entries.items r.1, r.2)
 
-  stage-idle : {B N A : Type 0} {g : _} (n : ℕ) (x : Stage V S B N A g) (h : Held V) (a : Answer (DispatchError E)) (y : Stage V S B N A g) (k : Held V) → StageSetupAt staged n x h a y k → (a ≡ Ok tt) × ((path : Agent) → AtBoth R (stage_states x path) (stage_states y path)) × (k ≡ h)
-  stage-idle n x h a y k (b, turns, is) =
-      let r = turns-idle (λ place. GroupSetup staged) (λ x y. (path : Agent) → AtBoth R (group_states x path) (group_states y path)) group-idle 0 x.groups.items y.groups.items h k b turns in
-      (is ∙ ap (dispatch_answer n) r.0, listed-both group_states R x.groups.items y.groups.items r.1, r.2)
-
   tier-idle : (n : ℕ) (x : Tier V S) (h : Held V) (a : Answer (StageFault E)) (y : Tier V S) (k : Held V) → TierSetup staged x h a y k → (a ≡ Ok tt) × Unit {0} × (k ≡ h)
   tier-idle n x h a y k turns =
       let r = turns-idle (λ place. GroupSetup staged) (λ x y. (path : Agent) → AtBoth R (group_states x path) (group_states y path)) group-idle 0 x.groups.items y.groups.items h k a turns in
       (r.0, tt, r.2)
+
+module _ {V S C E : Type 0} (staged : Step V (Work S (Nested V S C)) E) (R : Work S (Nested V S C) → Work S (Nested V S C) → Type 0)
+    (idle : (s : Work S (Nested V S C)) (h : Held V) (o : Outcome E) (t : Work S (Nested V S C)) (k : Held V) → staged s h o t k → R s t × (o ≡ Ok tt) × (k ≡ h)) where
+  stage-idle : {N A M B : Type 0} {vd : _} {sd : _} {ad : _} {cd : _} {bd : _} (n : ℕ) (x : Stage V S C N A M B vd sd ad cd bd) (h : Held V) (a : Answer (DispatchError E)) (y : Stage V S C N A M B vd sd ad cd bd) (k : Held V) → StageSetupAt staged n x h a y k → (a ≡ Ok tt) × ((path : Agent) → AtBoth R (stage_states x path) (stage_states y path)) × (k ≡ h)
+  stage-idle n x h a y k (b, turns, is) =
+      let r = turns-idle (λ place. GroupSetup staged) (λ x y. (path : Agent) → AtBoth R (group_states x path) (group_states y path)) (group-idle staged R idle) 0 x.groups.items y.groups.items h k b turns in
+      (is ∙ ap (dispatch_answer n) r.0, listed-both group_states R x.groups.items y.groups.items r.1, r.2)
 
 module _ {V S C E : Type 0} (system : Step V S E) (control : Step V C E)
     (idle : (s : S) (h : Held V) (o : Outcome E) (t : S) (k : Held V) → system s h o t k → (o ≡ Ok tt) × (k ≡ h)) (rests : (c : C) (h : Held V) (o : Outcome E) (d : C) (k : Held V) → control c h o d k → (o ≡ Ok tt) × (k ≡ h)) where
@@ -127,7 +131,7 @@ module _ {V L E : Type 0} (local : Step V L E) (idle : (s : L) (h : Held V) (o :
   local-same n x h a y k (o, own, is) = let i = idle x h o y k own in (is ∙ ap (local_answer n) i.1, i.0, i.2)
 
 -- a dispatcher of a script's plan is set up, and its thread-local systems and the values are as before
-pub is-set-up : {B N A : Type 0} {g : _} (old new : Dispatcher Value ScriptWork B ScriptLocal N A g) (h k : Held Value) (answer : Answer (DispatchError Refusal)) → IsSetUp (OwnSetup IsIdle IsIdle) IsIdle old h answer new k → (answer ≡ Ok tt) × IsSetUpFrom (whole_with old h) (whole_with new k)
+pub is-set-up : {N A M B : Type 0} {vd : _} {sd : _} {ad : _} {cd : _} {bd : _} (old new : Dispatcher Value ScriptSystem ScriptBatch ScriptLocal N A M B vd sd ad cd bd) (h k : Held Value) (answer : Answer (DispatchError Refusal)) → IsSetUp (OwnSetup IsIdle IsIdle) IsIdle old h answer new k → (answer ≡ Ok tt) × IsSetUpFrom (whole_with old h) (whole_with new k)
 is-set-up old new h k answer set =
     let s = turns-idle (StageSetupAt (OwnSetup IsIdle IsIdle)) (λ x y. (path : Agent) → AtBoth WasSetUp (stage_states x path) (stage_states y path)) (stage-idle (OwnSetup IsIdle IsIdle) WasSetUp own-idle) 0 old.stages.items new.stages.items h set.middle set.of_stages set.stages in
     let turns = subst (λ (c : Answer (DispatchError Refusal)). MatchResult c (λ done. LocalsSetup IsIdle (dispatcher_locals old) set.middle answer (dispatcher_locals new) k) (λ error. (dispatcher_locals new ≡ dispatcher_locals old) × (k ≡ set.middle) × (answer ≡ Err error))) s.0 set.locals in
@@ -135,7 +139,7 @@ is-set-up old new h k answer set =
       l.0,
       record {
         plan = set.plan;
-        states = listed-both stage_states WasSetUp old.stages.items new.stages.items s.1;
+        works = listed-both stage_states WasSetUp old.stages.items new.stages.items s.1;
         values = l.2 ∙ s.2;
         locals = both-same (dispatcher_locals old) (dispatcher_locals new) l.1;
         workers = set.workers;

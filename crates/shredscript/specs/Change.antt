@@ -1,8 +1,8 @@
 -- What a step makes of the number at its target.
 use Rattle.std.specs.Prelude.{ℕ, ℤ, pos, negsuc, Bool, cond, nat_lt, Option, Some, None, Result, Ok, Err, ◌^◌}
 use Rattle.shred_world.specs.Worked.{Held}
-use Rattle.shred_group.specs.declared.system.Fault.{Fault}
-use Rattle.shred_group.specs.declared.system.Fault.TheVariants.{Refused}
+use Rattle.shred_run.specs.declared.system.Fault.{Fault}
+use Rattle.shred_run.specs.declared.system.Fault.TheVariants.{Refused}
 use Rattle.shredscript_text.specs.declared.outcome.Refusal.{Refusal}
 use Rattle.shredscript_text.specs.declared.outcome.Refusal.TheVariants.{Overflow, Undeclared}
 use Rattle.shredscript_text.specs.declared.step.Operand.{Operand}

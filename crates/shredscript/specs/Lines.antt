@@ -3,10 +3,10 @@ use Rattle.std.specs.Prelude.{◌≡◌, ℕ, List, [], ◌∷◌, ◌++◌, ◌
 use Rattle.shredscript.specs.declared.local.ScriptLocal.{ScriptLocal}
 use Rattle.shred.specs.Batches.{IsBatchAddition}
 use Rattle.shred.specs.Built.{Built, IsAddition, IsBarrierSet, IsLocalAdded, IsNewBuilt}
-use Rattle.shred_batch.specs.declared.work.Nested.{Nested}
-use Rattle.shred_batch.specs.declared.work.Work.{Work}
-use Rattle.shred_batch.specs.declared.work.Work.TheVariants.{System as a_system}
-use Rattle.shred_group.specs.declared.system.RunningTime.TheVariants.{VeryLong}
+use Rattle.shred_run.specs.declared.work.Nested.{Nested}
+use Rattle.shred_run.specs.declared.work.Work.{Work}
+use Rattle.shred_run.specs.declared.work.Work.TheVariants.{System as a_system}
+use Rattle.shred_run.specs.declared.system.RunningTime.TheVariants.{VeryLong}
 use Rattle.shred_stage.specs.Refusals.{IsBatchRefusal, IsRefusal, MayAdd}
 use Rattle.shred_stage.specs.Known.{texts_of}
 use Rattle.shred_stage.specs.declared.add_error.AddError.{AddError}

@@ -1,23 +1,21 @@
 -- Runs of scripts.
-use Rattle.std.specs.Prelude.{◌≡◌, ℕ, zero, suc, ◌≤◌, Bool, true, None, List, ◌++◌, length, Option, Some, Result, Ok, Err, OnOk, IfErr, MatchResult}
+use Rattle.std.specs.Prelude.{◌≡◌, ℕ, zero, suc, ◌≤◌, Bool, true, None, List, [], ◌++◌, length, Option, Some, Result, Ok, Err, OnOk, IfErr, MatchResult}
 use Rattle.std.specs.Io.KnownBytes.{Appends, Consumes, IsAtEnd, Keeps}
 use Rattle.indexmap.specs.IndexMap.{values}
-use Rattle.shred_model.specs.Plan.{Plan, plan_ids}
+use Rattle.shred_model.specs.Plan.{plan_ids}
 use Rattle.shred_model.specs.Runs.{Answer}
-use Rattle.shred_table.specs.declared.id.ResourceId.{ResourceId}
 use Rattle.shred_world.specs.Worked.{Held}
 use Rattle.shredscript.specs.declared.local.ScriptLocal.{ScriptLocal}
 use Rattle.shred.specs.Built.{IsPoolSet}
 use Rattle.shred_stage.specs.Names.{AreNames, NamedId, first_unnamed}
 use Rattle.shred.specs.FullRuns.{FullyDispatched, Whole}
-use Rattle.shred.specs.PlanRuns.{PlanRun}
 use Rattle.shred_stage.specs.Sinks.{AppendsBeginning}
-use Rattle.shred_group.specs.Steps.{Outcome as Ends}
-use Rattle.shred_batch.specs.Controls.{Control}
+use Rattle.shred_run.specs.Steps.{Outcome as Ends}
+use Rattle.shred_run.specs.Controls.{Control}
 use Rattle.shred_model.specs.Record.{Agent}
-use Rattle.shred_batch.specs.OwnDepth.{OwnStep}
-use Rattle.shred_batch.specs.Setups.{OwnSetup}
-use Rattle.shred_systems.specs.declared.dispatch_error.DispatchError.{DispatchError}
+use Rattle.shred_run.specs.Depths.{Declared, Related, lists_of, relations_of}
+use Rattle.shred_run.specs.WorkSetups.{OwnSetup}
+use Rattle.shred_stage.specs.declared.dispatch.dispatch_error.DispatchError.{DispatchError}
 use Rattle.shredscript_text.specs.declared.error.ScriptError.{ScriptError}
 use Rattle.shredscript_text.specs.declared.error.ScriptError.TheVariants.{TooLong, InputFailed, Line, Refused, Unnamed, OutOfMemory, OutputFailed}
 use Rattle.shredscript_text.specs.declared.input.TheConstants.{MOST_BYTES}
@@ -55,9 +53,13 @@ batch_begins before seen outcome after left = (after ≡ before) × (outcome ≡
 abbrev pub batch_asks : Control Value ScriptBatch Bool Refusal
 batch_asks before seen outcome after left = (after ≡ before) × (outcome ≡ Ok true) × (left ≡ seen)
 
--- what a step of what stands in an entry of a script's plan does: of a system its steps, of a batch so many rounds of its plan
-abbrev pub work_step : ScriptWork → Held Value → Ends Refusal → ScriptWork → Held Value → Type 0
-work_step = OwnStep kind_of (record { steps = script_step; begins = batch_begins; asks = batch_asks })
+-- the lists that a script's systems declare; its batches' controllers declare none
+abbrev pub script_lists : Declared ScriptSystem ScriptBatch
+script_lists = lists_of (λ system. system.declared.reads.items) (λ system. system.declared.writes.items) (λ batch. []) (λ batch. [])
+
+-- the relations of a script's systems and of its batches' controllers: of a system its steps, of a batch so many rounds of its plan
+abbrev pub script_related : Related Value ScriptSystem ScriptBatch Refusal
+script_related = relations_of script_lists script_step batch_begins batch_asks
 
 -- the setup of a script's system, or of its batch's controller: nothing changes
 abbrev pub IsIdle : {S : Type 0} → S → Held Value → Ends Refusal → S → Held Value → Type 0
@@ -76,11 +78,11 @@ AtBoth R (Some old) None = ⊥
 
 -- a plan of a script's systems and batches, with these and its thread-local systems, and the values of a world
 abbrev pub Program : Type 0
-Program = Whole (Plan ResourceId) Value ScriptWork ScriptLocal
+Program = Whole Value ScriptSystem ScriptBatch ScriptLocal
 
 -- one dispatch: the plan's run, and where it is Done, that of the thread-local systems
 abbrev pub IsOnce : Program → Answer (DispatchError Refusal) → Program → Type 0
-IsOnce before answer after = FullyDispatched kind_of (PlanRun kind_of work_step) local_step before answer after
+IsOnce before answer after = FullyDispatched kind_of script_related local_step before answer after
 
 -- that many dispatches, one after another, up to the first that is not Done, whose answer is the answer; it is Done where there is none
 abbrev pub AreDispatched : ℕ → Program → Answer (DispatchError Refusal) → Program → Type 0
@@ -93,7 +95,7 @@ AreDispatched (suc n) before answer after = (a : Answer (DispatchError Refusal))
 -- What stands in the plan was set up, and all else is as before, the values too.
 pub record IsSetUpFrom (before after : Program) : Type 0 where
   pub plan : after.staged.plan ≡ before.staged.plan
-  pub states : (path : Agent) → AtBoth WasSetUp (before.staged.states path) (after.staged.states path)
+  pub works : (path : Agent) → AtBoth WasSetUp (before.staged.works path) (after.staged.works path)
   pub values : after.staged.values ≡ before.staged.values
   pub locals : after.locals ≡ before.locals
   pub workers : after.workers ≡ before.workers
@@ -116,7 +118,7 @@ IsMadeOf lines workers built = (all : ScriptBuilt) × IsBuiltBy lines all × IsP
 
 -- what was built, over these values
 abbrev pub program_of : ScriptBuilt → Held Value → Program
-program_of built held = record { staged = record { plan = built.plan; states = built.states; values = held }; locals = built.locals; workers = built.workers }
+program_of built held = record { staged = record { plan = built.plan; works = built.states; values = held }; locals = built.locals; workers = built.workers }
 
 -- Lines are run: with the number of workers that is asked for they make a plan, which is printed where that is asked for, and is set up and dispatched, from these first values on, as often as asked.
 pub record AreLinesRun (lines : List PlanLine) (prints : Bool) (manner : Manner) (first : Held Value) (resources : List (List ℕ)) (outcome : Outcome) (text : List ℕ) : Type 0 where

@@ -2,9 +2,9 @@
 use Rattle.std.specs.Prelude.{ℕ, ℤ, Some, cond, List, [], ◌∷◌, Result, Ok, Err, is_ok}
 use Rattle.std.specs.Result.{result_and}
 use Rattle.shred_world.specs.Worked.{Held}
-use Rattle.shred_group.specs.declared.system.Fault.{Fault}
-use Rattle.shred_group.specs.declared.system.Fault.TheVariants.{Refused}
-use Rattle.shred_group.specs.Steps.{Outcome}
+use Rattle.shred_run.specs.declared.system.Fault.{Fault}
+use Rattle.shred_run.specs.declared.system.Fault.TheVariants.{Refused}
+use Rattle.shred_run.specs.Steps.{Outcome}
 use Rattle.shred_table.specs.Slots.{with_at}
 use Rattle.shredscript_text.specs.declared.outcome.Refusal.{Refusal}
 use Rattle.shredscript_text.specs.declared.outcome.Refusal.TheVariants.{Code}

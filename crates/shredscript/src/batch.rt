@@ -1,6 +1,6 @@
 //! A script's batches: their controller.
 ghost use Rattle.std.specs.Prelude.{◌≡◌, [], Ok, true};
-ghost use Rattle.shred_group.specs.declared.system.RunningTime.TheVariants.{VeryLong};
+ghost use Rattle.shred_run.specs.declared.system.RunningTime.TheVariants.{VeryLong};
 
 use shred::{BatchController, Fault, OutOfMemory, RunningTime, View, World};
 use shredscript_text::outcome::Refusal;

@@ -8,8 +8,8 @@ ghost use Rattle.shredscript.specs.Runs.{IsMadeOf};
 use crate::batch::ScriptBatch;
 use crate::local::ScriptLocal;
 use crate::system::ScriptSystem;
-use shred::{Batched, DispatcherBuilder, WithBatches};
-use shred_group::dispatch::entry::push_or_drop;
+use shred::DispatcherBuilder;
+use shred_run::entry::push_or_drop;
 use shredscript_text::error::{LineFault, ScriptError};
 use shredscript_text::script::{BatchLine, PlanLine, SystemLine};
 use shredscript_text::step::Step;
@@ -17,16 +17,8 @@ use shredscript_text::value::Value;
 use std::alloc::Global;
 use std::mem;
 
-/// What stands in an entry of a script's plan.
-pub(crate) type ScriptEntry = WithBatches<Value, ScriptSystem, ScriptBatch>;
-
 /// A builder of plans of a script's systems and batches.
-pub(crate) type ScriptBuilder = DispatcherBuilder<
-    Value,
-    ScriptEntry,
-    Batched<ScriptBatch>,
-    ScriptLocal,
->;
+pub(crate) type ScriptBuilder = DispatcherBuilder<Value, ScriptSystem, ScriptBatch, ScriptLocal>;
 
 /// A batch that no line has ended yet, and the builder that is to take it.
 #[derive(Drop)]
@@ -48,7 +40,7 @@ fn builder_of(alloc: Global, lines: Vec<PlanLine<'_>>) -> Result<ScriptBuilder, 
     ensures not_built { IfErr result (IsNotBuilt lines.entry.items) }
 {
     let mut building = Building {
-        builder: ScriptBuilder::empty(alloc),
+        builder: ScriptBuilder::new(alloc),
         open: Vec::new(alloc),
     };
     for line in lines {
@@ -109,7 +101,7 @@ fn open_batch<'text>(
     ensures opened { OnOk result (IsBatchOpened batch.entry (state_of building.old) (state_of building.new)) }
     ensures not_opened { IfErr result (λ error. error ≡ ScriptError.OutOfMemory) }
 {
-    let outer = mem::replace(&mut building.builder, ScriptBuilder::empty(alloc));
+    let outer = mem::replace(&mut building.builder, ScriptBuilder::new(alloc));
     match push_or_drop(&mut building.open, Open { outer, batch }) {
         Ok(()) => Ok(()),
         Err(_) => Err(ScriptError::OutOfMemory),

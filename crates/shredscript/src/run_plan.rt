@@ -12,10 +12,11 @@ ghost use Rattle.shredscript.specs.Runs.{AreDispatched, AreLinesNotRun, AreLines
 ghost use Rattle.shredscript_text.specs.Value.{kind_of};
 
 use crate::batch::ScriptBatch;
-use crate::build::{ScriptBuilder, ScriptEntry, builder_with};
+use crate::build::{ScriptBuilder, builder_with};
 use crate::local::ScriptLocal;
 use crate::plan_text::plan_text;
-use shred::{Batched, DispatchError, Dispatcher, World};
+use crate::system::ScriptSystem;
+use shred::{DispatchError, Dispatcher, World};
 use shredscript_text::error::ScriptError;
 use shredscript_text::first_values::world_of;
 use shredscript_text::outcome::{Outcome, Refusal, write_threads};
@@ -27,7 +28,7 @@ use std::alloc::Global;
 use std::thread::Threads;
 
 /// A dispatcher of a script's systems and batches.
-type ScriptDispatcher = Dispatcher<Value, ScriptEntry, Batched<ScriptBatch>, ScriptLocal>;
+type ScriptDispatcher = Dispatcher<Value, ScriptSystem, ScriptBatch, ScriptLocal>;
 
 /// Runs the systems over the resources: how the run ended, and the report of what it left. All memory but that of the
 /// stages is taken before the dispatch.

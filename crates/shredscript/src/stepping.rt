@@ -2,14 +2,14 @@
 ghost use Rattle.std.specs.Prelude.{◌≡◌};
 ghost use Rattle.std.specs.List.{All};
 ghost use Rattle.std.specs.Option.{ok_or};
-ghost use Rattle.shred_group.specs.declared.system.Fault.TheVariants.{Refused};
+ghost use Rattle.shred_run.specs.declared.system.Fault.TheVariants.{Refused};
 ghost use Rattle.shredscript_text.specs.declared.outcome.Refusal.TheVariants.{Undeclared};
 ghost use Rattle.shredscript.specs.Change.{changed, operand_number};
 ghost use Rattle.shredscript_text.specs.Declares.{AllowsStep};
 ghost use Rattle.shredscript.specs.Steps.{change_outcome, change_left, step_outcome, step_left, steps_outcome, steps_left};
 
 use crate::arithmetic::apply;
-use shred_group::Fault;
+use shred_run::Fault;
 use shredscript_text::numbers::Numbers;
 use shredscript_text::outcome::Refusal;
 use shredscript_text::step::{Operand, Operation, Step};

@@ -2,10 +2,10 @@
 use Rattle.std.specs.Prelude.{ℕ, Result, Ok, Err}
 use Rattle.shred_stage.specs.declared.add_error.AddError.{AddError}
 use Rattle.shred_stage.specs.declared.add_error.AddError.TheVariants as builder
-use Rattle.shred_systems.specs.declared.dispatch_error.DispatchError.{DispatchError}
-use Rattle.shred_systems.specs.declared.dispatch_error.DispatchError.TheVariants.{System as at_system, ThreadLocal, StageMemory as at_stage}
-use Rattle.shred_group.specs.declared.system.Fault.{Fault}
-use Rattle.shred_group.specs.declared.system.Fault.TheVariants.{Refused as refuses, OutOfMemory as wants_memory}
+use Rattle.shred_stage.specs.declared.dispatch.dispatch_error.DispatchError.{DispatchError}
+use Rattle.shred_stage.specs.declared.dispatch.dispatch_error.DispatchError.TheVariants.{System as at_system, ThreadLocal, StageMemory as at_stage}
+use Rattle.shred_run.specs.declared.system.Fault.{Fault}
+use Rattle.shred_run.specs.declared.system.Fault.TheVariants.{Refused as refuses, OutOfMemory as wants_memory}
 use Rattle.shredscript_text.specs.declared.error.AddRefusal.TheVariants.{NoSuchSystem, NameTaken, IdsExhausted, ThreadLocalInBatch}
 use Rattle.shredscript_text.specs.declared.error.LineError.{LineError}
 use Rattle.shredscript_text.specs.declared.error.LineError.TheVariants.{Fault as has_fault, Memory}

@@ -4,8 +4,8 @@ use Rattle.std.specs.Int.{w64}
 use Rattle.std.specs.List.{AllPass}
 use Rattle.std.specs.Char.{is_ascii_alphabetic, is_ascii_alphanumeric, is_ascii_digit}
 use Rattle.std.specs.Str.Parse.{digits_value, signed_digits_value, starts_with_minus}
-use Rattle.shred_group.specs.declared.system.RunningTime.{RunningTime}
-use Rattle.shred_group.specs.declared.system.RunningTime.TheVariants.{VeryShort, Short, Average, Long, VeryLong}
+use Rattle.shred_run.specs.declared.system.RunningTime.{RunningTime}
+use Rattle.shred_run.specs.declared.system.RunningTime.TheVariants.{VeryShort, Short, Average, Long, VeryLong}
 
 -- whether a byte is a letter, a digit or `_`
 abbrev pub is_resource_byte : ℕ → Bool

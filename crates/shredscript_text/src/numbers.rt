@@ -1,14 +1,14 @@
 //! The numbers of resources, as steps read and write them: through a system's view, or in a whole world.
 ghost use Rattle.std.specs.Prelude.{◌≡◌, ℕ, ⊤, Some, IsSome};
 ghost use Rattle.std.specs.Option.{ok_or};
-ghost use Rattle.shred_group.specs.declared.system.Fault.TheVariants.{Refused};
+ghost use Rattle.shred_run.specs.declared.system.Fault.TheVariants.{Refused};
 ghost use Rattle.shred_table.specs.Slots.{with_at};
 ghost use Rattle.shredscript_text.specs.declared.outcome.Refusal.TheVariants.{Undeclared};
 ghost use Rattle.shredscript_text.specs.Place.{id_at, number_at};
 
 use crate::outcome::Refusal;
 use crate::value::{Value, id_at};
-use shred_group::Fault;
+use shred_run::Fault;
 use shred_world::{LocalWorld, View};
 
 /// Where the numbers of resources stand, each at its place among the declared ones.
@@ -86,7 +86,7 @@ impl Numbers for View<'_, '_, Value> {
 }
 
 impl Numbers for LocalWorld<Value> {
-    ghost use Rattle.shred_group.specs.Alone.{KeepsKinds};
+    ghost use Rattle.shred_run.specs.Alone.{KeepsKinds};
     ghost use Rattle.shred_world.specs.Worlds.{local_held};
     ghost use Rattle.shredscript_text.specs.Value.{kind_of};
     ghost use Rattle.std.proofs.Common.{refl, ◌∙◌};

@@ -5,8 +5,8 @@ ghost use Rattle.shredscript_text.specs.declared.outcome.Refusal.TheVariants.{Un
 ghost use Rattle.shredscript_text.specs.Endings.{failure_of, outcome_of, outcome_status};
 ghost use Rattle.shredscript_text.specs.Texts.{line_of, outcome_text, threads_text, value_text};
 
-use shred_group::Fault;
-use shred_systems::DispatchError;
+use shred_run::Fault;
+use shred_stage::DispatchError;
 use shred_world::DataError;
 use std::io::Write;
 use std::{fmt, io};

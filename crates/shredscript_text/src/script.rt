@@ -13,7 +13,7 @@ use crate::lines::Lines;
 use crate::step::{Resources, Step};
 use crate::words::{Words, count, integer, resource_name, running_time, system_name};
 use indexmap::IndexMap;
-use shred_group::RunningTime;
+use shred_run::RunningTime;
 use std::alloc::Global;
 
 /// The most workers.

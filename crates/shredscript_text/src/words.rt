@@ -9,7 +9,7 @@ ghost use Rattle.shredscript_text.specs.Forms.{is_resource_byte, is_system_byte,
 ghost use Rattle.shredscript_text.specs.Words.{next_word, after_word};
 
 use crate::error::LineFault;
-use shred_group::RunningTime;
+use shred_run::RunningTime;
 
 /// The most bytes of a name.
 const MOST_NAME_BYTES: usize = 32;

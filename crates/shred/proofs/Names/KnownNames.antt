@@ -11,7 +11,7 @@ use Rattle.std.specs.Str.{bytes_eq}
 use Rattle.std.specs.String.{string_bytes, string_eq, string_eq_equiv}
 use Rattle.std.specs.declared.string.String.{String}
 use Rattle.shred_stage.specs.Names.{AreNames, NamedId, names_of, named_ids}
-use Rattle.shred_group.specs.declared.dispatch.entry.SystemId.{SystemId}
+use Rattle.shred_run.specs.declared.entry.SystemId.{SystemId}
 use Rattle.shred.proofs.Planner.Standing.{contains-at}
 
 module _ {Z T : Type 0} (names : HashMap (String Z) SystemId T) where

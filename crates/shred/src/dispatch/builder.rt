@@ -3,18 +3,22 @@ ghost use Rattle.std.specs.HashMap.{IsUnique};
 ghost use Rattle.std.specs.Prelude.{◌≡◌, ◌++◌, ℕ, List, [], None, Some, true, All, IfOk, OnOk, OnErr, IfErr};
 ghost use Rattle.std.specs.String.{string_eq};
 ghost use Rattle.std.proofs.Props.{props};
-ghost use Rattle.shred_batch.specs.Batches.{IsTierOf};
-ghost use Rattle.shred_batch.specs.Works.{tiers_plan};
+ghost use Rattle.shred_run.specs.Batches.{IsTierOf};
+ghost use Rattle.shred_run.specs.Works.{tiers_plan};
 ghost use Rattle.shred_model.specs.Plan.{plan_ids};
 ghost use Rattle.shred_model.specs.Record.{Agent};
 ghost use Rattle.shred_stage.specs.BuilderPlan.{planned, barrier_of, builder_states};
 ghost use Rattle.shred.specs.Built.{IsAddition, IsBarrierSet, IsConsistent, IsEntryAdded, IsLocalAdded, IsNewBuilt, IsPoolSet, IsSameBuilt};
-ghost use Rattle.shred_group.specs.OwnLists.{IsEntryOf};
-ghost use Rattle.shred_group.specs.PlanOf.{entry_plan};
+ghost use Rattle.shred_run.specs.Depths.{Declared, lists_of};
+ghost use Rattle.shred_run.specs.OwnDepth.{OwnsItself};
+ghost use Rattle.shred_run.specs.OwnLists.{IsEntryOf};
+ghost use Rattle.shred_model.specs.Access.{Access};
+ghost use Rattle.shred.specs.Batches.{IsBatchAddition, IsTiersAddition};
+ghost use Rattle.shred_run.specs.PlanOf.{entry_plan};
 ghost use Rattle.shred_stage.specs.Refusals.{IsBatchRefusal, IsRefusal, MayAdd};
 ghost use Rattle.shred.specs.Dispatchers.{dispatcher_locals, dispatcher_plan, dispatcher_states, dispatcher_workers};
 ghost use Rattle.shred.specs.SystemNames.{names_known, names_pairs};
-ghost use Rattle.shred_systems.specs.ThreadLocals.{systems_of};
+ghost use Rattle.shred.specs.ThreadLocals.{systems_of};
 ghost use Rattle.shred_stage.specs.Earlier.{plan_has};
 ghost use Rattle.shred_stage.specs.Inner.{tiers_states};
 ghost use Rattle.shred_stage.specs.Known.{texts_of};
@@ -24,25 +28,29 @@ ghost use Rattle.shred_stage.specs.Prints.{IsPrinted};
 
 use crate::dispatch::dispatcher::{Dispatcher, new_dispatcher};
 use crate::dispatch::names::SystemNames;
-use shred_batch::Tier;
-use shred_group::dispatch::entry::SystemEntry;
+use crate::now::Now;
+use crate::thread_local::ThreadLocal;
+use shred_run::entry::SystemEntry;
+use shred_run::kept::{batch_entry, system_entry};
+use shred_run::{BatchController, Nested, NoBatch, System, SystemId, Tier, Work};
 use shred_stage::dispatch::inner::tiers_of;
 use shred_stage::dispatch::printing::print_with_end;
-use shred_stage::dispatch::stages_builder::kept_entry;
 use shred_stage::look_up::{enter, forget, ids_of, may_add};
-use shred_stage::{
-    AddError, Holds, NoBatch, Occupant, PlanSink, PrintError, StagesBuilder, System, SystemId,
-};
-use shred_systems::{Now, ThreadLocal};
+use shred_stage::{AddError, PlanSink, PrintError, StagesBuilder};
 use shred_world::{OutOfMemory, ResourceValue};
 use std::alloc::Global;
 use std::collections::HashMap;
 
 /// A plan that grows by one system after another, with names for them.
 #[derive(Drop)]
-pub struct DispatcherBuilder<V, X: Occupant<C, V>, C = NoBatch, L = Now<X>> {
+pub struct DispatcherBuilder<
+    V: ResourceValue,
+    S: System<V>,
+    C: BatchController<V> = NoBatch<<S as System<V>>::Error>,
+    L = Now<S>,
+> {
     pub(crate) alloc: Global,
-    pub(crate) stages: StagesBuilder<V, X, C>,
+    pub(crate) stages: StagesBuilder<V, S, C>,
     pub(crate) names: HashMap<String, SystemId>,
     pub(crate) next: usize,
     pub(crate) thread_local: ThreadLocal<L>,
@@ -52,21 +60,28 @@ pub struct DispatcherBuilder<V, X: Occupant<C, V>, C = NoBatch, L = Now<X>> {
     ghost consistent: { IsConsistent (record { plan = planned stages; states = builder_states stages; known = names_of names; barrier = barrier_of stages; next = next; locals = systems_of thread_local; workers = workers }) },
 }
 
-impl<V, X: Occupant<C, V>, C, L: Drop> DispatcherBuilder<V, X, C, L> {
+impl<V: ResourceValue, S: System<V>, C: BatchController<V>, L: Drop> DispatcherBuilder<V, S, C, L> {
     ghost use Rattle.shred.specs.Builders.{built, builder_pairs};
 
-    /// An empty plan, in which may stand what its type says, without names. It takes no memory.
-    pub fn empty(alloc: Global) -> Self
+    /// An empty plan, without names. It takes no memory.
+    pub fn new(alloc: Global) -> Self
         ensures { IsNewBuilt (built result) }
     {
         DispatcherBuilder {
             alloc,
-            stages: StagesBuilder::empty(alloc),
+            stages: StagesBuilder::new(alloc),
             names: HashMap::new(alloc),
             next: 0,
             thread_local: ThreadLocal::new(alloc),
             workers: 4,
         }
+    }
+
+    /// An empty plan without names, as of `new`.
+    pub fn default(alloc: Global) -> Self
+        ensures { IsNewBuilt (built result) }
+    {
+        Self::new(alloc)
     }
 
     /// Sets the barrier to the number of stages: what is added from now on stands after all that is there. It takes no
@@ -81,7 +96,8 @@ impl<V, X: Occupant<C, V>, C, L: Drop> DispatcherBuilder<V, X, C, L> {
     pub fn with_barrier(self) -> Self
     where
         V: Drop,
-        X: Drop,
+        S: Drop,
+        C: Drop,
         ensures { IsBarrierSet (built self) (built result) }
     {
         let mut builder = self;
@@ -101,7 +117,8 @@ impl<V, X: Occupant<C, V>, C, L: Drop> DispatcherBuilder<V, X, C, L> {
     pub fn with_pool(self, workers: usize) -> Self
     where
         V: Drop,
-        X: Drop,
+        S: Drop,
+        C: Drop,
         ensures { IsPoolSet (built self) (built result) workers }
     {
         let mut builder = self;
@@ -126,7 +143,8 @@ impl<V, X: Occupant<C, V>, C, L: Drop> DispatcherBuilder<V, X, C, L> {
     pub fn with_thread_local(self, system: L) -> Result<Self, AddError>
     where
         V: Drop,
-        X: Drop,
+        S: Drop,
+        C: Drop,
         ensures added { IfOk result (λ after. IsLocalAdded (built self) (built after) system) }
         ensures refused { IfErr result (λ e. e ≡ AddError.OutOfMemory) }
     {
@@ -150,10 +168,11 @@ impl<V, X: Occupant<C, V>, C, L: Drop> DispatcherBuilder<V, X, C, L> {
     }
 
     /// The dispatcher of the plan. It takes no memory.
-    pub fn build(self) -> Dispatcher<V, X, C, L>
+    pub fn build(self) -> Dispatcher<V, S, C, L>
     where
         V: Drop,
-        X: Drop,
+        S: Drop,
+        C: Drop,
         ensures plan { dispatcher_plan result ≡ (built self).plan }
         ensures states { (path : Agent) → dispatcher_states result path ≡ (built self).states path }
         ensures locals { dispatcher_locals result ≡ (built self).locals }
@@ -164,10 +183,11 @@ impl<V, X: Occupant<C, V>, C, L: Drop> DispatcherBuilder<V, X, C, L> {
     }
 
     /// The dispatcher of the plan, and the names that are known. It takes no memory.
-    pub fn build_with_names(self) -> (Dispatcher<V, X, C, L>, SystemNames)
+    pub fn build_with_names(self) -> (Dispatcher<V, S, C, L>, SystemNames)
     where
         V: Drop,
-        X: Drop,
+        S: Drop,
+        C: Drop,
         ensures plan { dispatcher_plan result.0 ≡ (built self).plan }
         ensures states { (path : Agent) → dispatcher_states result.0 path ≡ (built self).states path }
         ensures locals { dispatcher_locals result.0 ≡ (built self).locals }
@@ -181,11 +201,17 @@ impl<V, X: Occupant<C, V>, C, L: Drop> DispatcherBuilder<V, X, C, L> {
     }
 }
 
-impl<V: ResourceValue + Drop, X: Occupant<C, V> + Drop, C, L: Drop> DispatcherBuilder<V, X, C, L> {
+impl<
+    V: ResourceValue + Drop,
+    S: System<V> + Drop,
+    C: BatchController<V> + Drop,
+    L: Drop,
+> DispatcherBuilder<V, S, C, L> {
     ghost use Rattle.shred.specs.Builders.{built};
+    ghost use Rattle.shred_run.specs.declared.work.Work.TheVariants.{System as ASystem};
 
     // The stages of a plan without thread-local systems. Refused where there is one.
-    fn into_inner(self) -> Result<StagesBuilder<V, X, C>, AddError>
+    fn into_inner(self) -> Result<StagesBuilder<V, S, C>, AddError>
         ensures no_local { OnOk result ((built self).locals ≡ []) }
         ensures plan { IfOk result (λ stages. planned stages ≡ (built self).plan) }
         ensures states { IfOk result (λ stages. (path : Agent) → builder_states stages path ≡ (built self).states path) }
@@ -205,12 +231,12 @@ impl<V: ResourceValue + Drop, X: Occupant<C, V> + Drop, C, L: Drop> DispatcherBu
         inner: Self,
         name: &str,
         dependencies: &[&str],
-    ) -> Result<Vec<Tier<V, X>>, AddError>
+    ) -> Result<Vec<Tier<V, Work<S, Nested<V, S, C>>>>, AddError>
         ensures allowed { OnOk result (MayAdd (built self.now).known (built self.now).next name.now (texts_of dependencies.now)) }
         ensures no_local { OnOk result ((built inner).locals ≡ []) }
         ensures plan { IfOk result (λ tiers. tiers_plan tiers.items ≡ (built inner).plan) }
         ensures states { IfOk result (λ tiers. (path : Agent) → tiers_states tiers.items path ≡ (built inner).states path) }
-        ensures own_lists { IfOk result (λ tiers. All (IsTierOf X.may_keep) tiers.items) }
+        ensures own_lists { IfOk result (λ tiers. All (IsTierOf (OwnsItself (lists_of S.reads S.writes C.reads C.writes))) tiers.items) }
         ensures refused { IfErr result (IsBatchRefusal (built inner).locals (built self.now).known (built self.now).next name.now (texts_of dependencies.now)) }
     {
         let stages = inner.into_inner()?;
@@ -226,38 +252,29 @@ impl<V: ResourceValue + Drop, X: Occupant<C, V> + Drop, C, L: Drop> DispatcherBu
     /// Places the system in the plan with the next id, and enters its name unless that is empty. What it depends on stands
     /// in an earlier stage, or earlier in the same group. Tested in this order: each dependency is a known name, the name is
     /// new, an id is left, memory is there. After a refusal the builder is as before, and the system is dropped.
-    pub fn add<S: System<V> + Drop>(
+    pub fn add(
         &mut self,
         system: S,
         name: &str,
         dependencies: &[&str],
     ) -> Result<SystemId, AddError>
-    where
-        X: Holds<C, V, S>,
         ensures id { IfOk result (λ id. id.0 ≡ (built self.old).next) }
         ensures allowed { OnOk result (MayAdd (built self.old).known (built self.old).next name.now (texts_of dependencies.now)) }
-        ensures added { OnOk result (IsAddition (built self.old) (built self.new) name.now (texts_of dependencies.now) (S.reads system) (S.writes system) (S.time system) (X.holds system)) }
+        ensures added { OnOk result (IsAddition (built self.old) (built self.new) name.now (texts_of dependencies.now) (S.reads system) (S.writes system) (S.time system) (ASystem system)) }
         ensures refused { IfErr result (IsRefusal (built self.old).known (built self.old).next name.now (texts_of dependencies.now)) }
         ensures unchanged { OnErr result (IsSameBuilt (built self.old) (built self.new)) }
     {
         may_add(&self.names, self.next, name, dependencies)?;
-        match kept_entry::<V, X, C, S>(self.alloc, SystemId(self.next), system) {
+        match system_entry(self.alloc, SystemId(self.next), system) {
             Ok(entry) => self.accept(entry, name, dependencies),
             Err(OutOfMemory) => Err(AddError::OutOfMemory),
         }
     }
 
     /// `add`, on a builder that is handed on. After a refusal the builder is dropped.
-    pub fn with<S: System<V> + Drop>(
-        self,
-        system: S,
-        name: &str,
-        dependencies: &[&str],
-    ) -> Result<Self, AddError>
-    where
-        X: Holds<C, V, S>,
+    pub fn with(self, system: S, name: &str, dependencies: &[&str]) -> Result<Self, AddError>
         ensures allowed { OnOk result (MayAdd (built self).known (built self).next name.now (texts_of dependencies.now)) }
-        ensures added { IfOk result (λ after. IsAddition (built self) (built after) name.now (texts_of dependencies.now) (S.reads system) (S.writes system) (S.time system) (X.holds system)) }
+        ensures added { IfOk result (λ after. IsAddition (built self) (built after) name.now (texts_of dependencies.now) (S.reads system) (S.writes system) (S.time system) (ASystem system)) }
         ensures refused { IfErr result (IsRefusal (built self).known (built self).next name.now (texts_of dependencies.now)) }
     {
         let mut builder = self;
@@ -270,12 +287,12 @@ impl<V: ResourceValue + Drop, X: Occupant<C, V> + Drop, C, L: Drop> DispatcherBu
     // Gives the entry its place, and enters its name, where it may be added.
     pub(crate) fn accept(
         &mut self,
-        entry: SystemEntry<V, X>,
+        entry: SystemEntry<V, Work<S, Nested<V, S, C>>>,
         name: &str,
         dependencies: &[&str],
     ) -> Result<SystemId, AddError>
         requires allowed { MayAdd (built self.old).known (built self.old).next name.now (texts_of dependencies.now) }
-        requires own_lists { IsEntryOf X.may_keep entry }
+        requires own_lists { IsEntryOf (OwnsItself (lists_of S.reads S.writes C.reads C.writes)) entry }
         requires id { (entry_plan entry).id ≡ (built self.old).next }
         ensures id { IfOk result (λ id. id.0 ≡ (built self.old).next) }
         ensures added { OnOk result (IsEntryAdded (entry_plan entry) (built self.old) (built self.new) name.now (texts_of dependencies.now) entry.system) }
@@ -296,22 +313,69 @@ impl<V: ResourceValue + Drop, X: Occupant<C, V> + Drop, C, L: Drop> DispatcherBu
         self.next += 1;
         Ok(id)
     }
-}
 
-impl<V: ResourceValue, S: System<V>, L: Drop> DispatcherBuilder<V, S, NoBatch, L> {
-    ghost use Rattle.shred.specs.Builders.{built};
-
-    /// An empty plan of systems, without names. It takes no memory.
-    pub fn new(alloc: Global) -> Self
-        ensures { IsNewBuilt (built result) }
+    /// Places a batch of this controller and of the plan of `inner` with the next id, and enters its name unless that is
+    /// empty. Its lists are those of the controller joined with those of the plan, its time the controller's. Refused as
+    /// `ThreadLocalInBatch` first, where `inner` has a thread-local system, and then as `add` is. After a refusal the builder is
+    /// as before, and what was handed in is dropped.
+    pub fn add_batch(
+        &mut self,
+        controller: C,
+        inner: Self,
+        name: &str,
+        dependencies: &[&str],
+    ) -> Result<SystemId, AddError>
+        ensures id { IfOk result (λ id. id.0 ≡ (built self.old).next) }
+        ensures allowed { OnOk result (MayAdd (built self.old).known (built self.old).next name.now (texts_of dependencies.now)) }
+        ensures no_local { OnOk result ((built inner).locals ≡ []) }
+        ensures added { OnOk result (IsBatchAddition (built self.old) (built self.new) name.now (texts_of dependencies.now) (record { reads = C.reads controller; writes = C.writes controller }) (C.time controller) controller (built inner)) }
+        ensures refused { IfErr result (IsBatchRefusal (built inner).locals (built self.old).known (built self.old).next name.now (texts_of dependencies.now)) }
+        ensures unchanged { OnErr result (IsSameBuilt (built self.old) (built self.new)) }
     {
-        Self::empty(alloc)
+        match self.inner_tiers(inner, name, dependencies) {
+            Ok(tiers) => self.place_batch(controller, tiers, name, dependencies),
+            Err(e) => Err(e),
+        }
     }
 
-    /// An empty plan of systems without names, as of `new`.
-    pub fn default(alloc: Global) -> Self
-        ensures { IsNewBuilt (built result) }
+    // Places a batch of this controller and of the plan of these tiers, where it may be added under this name.
+    fn place_batch(
+        &mut self,
+        controller: C,
+        tiers: Vec<Tier<V, Work<S, Nested<V, S, C>>>>,
+        name: &str,
+        dependencies: &[&str],
+    ) -> Result<SystemId, AddError>
+        requires allowed { MayAdd (built self.old).known (built self.old).next name.now (texts_of dependencies.now) }
+        requires own_lists { All (IsTierOf (OwnsItself (lists_of S.reads S.writes C.reads C.writes))) tiers.items }
+        ensures id { IfOk result (λ id. id.0 ≡ (built self.old).next) }
+        ensures added { OnOk result (IsTiersAddition (built self.old) (built self.new) name.now (texts_of dependencies.now) (record { reads = C.reads controller; writes = C.writes controller }) (C.time controller) controller tiers.items) }
+        ensures refused { IfErr result (λ e. e ≡ AddError.OutOfMemory) }
+        ensures unchanged { OnErr result (IsSameBuilt (built self.old) (built self.new)) }
     {
-        Self::empty(alloc)
+        match batch_entry(self.alloc, SystemId(self.next), controller, tiers) {
+            Ok(entry) => self.accept(entry, name, dependencies),
+            Err(OutOfMemory) => Err(AddError::OutOfMemory),
+        }
+    }
+
+    /// `add_batch`, on a builder that is handed on. After a refusal the builder is dropped.
+    pub fn with_batch(
+        self,
+        controller: C,
+        inner: Self,
+        name: &str,
+        dependencies: &[&str],
+    ) -> Result<Self, AddError>
+        ensures allowed { OnOk result (MayAdd (built self).known (built self).next name.now (texts_of dependencies.now)) }
+        ensures no_local { OnOk result ((built inner).locals ≡ []) }
+        ensures added { IfOk result (λ after. IsBatchAddition (built self) (built after) name.now (texts_of dependencies.now) (record { reads = C.reads controller; writes = C.writes controller }) (C.time controller) controller (built inner)) }
+        ensures refused { IfErr result (IsBatchRefusal (built inner).locals (built self).known (built self).next name.now (texts_of dependencies.now)) }
+    {
+        let mut builder = self;
+        match builder.add_batch(controller, inner, name, dependencies) {
+            Ok(_) => Ok(builder),
+            Err(e) => Err(e),
+        }
     }
 }

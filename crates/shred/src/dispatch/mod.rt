@@ -1,7 +1,5 @@
 //! Builders of plans, and dispatchers that run them.
 
-pub mod batch;
 pub mod builder;
 pub mod dispatcher;
 pub mod names;
-pub mod nests;

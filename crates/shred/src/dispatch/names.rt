@@ -6,8 +6,9 @@ ghost use Rattle.std.specs.String.{string_eq};
 ghost use Rattle.std.proofs.Props.{props};
 ghost use Rattle.shred_stage.specs.Names.{AreNames, least_name};
 
+use shred_run::SystemId;
 use shred_stage::dispatch::printing::least_name;
-use shred_stage::{SystemId, look_up};
+use shred_stage::look_up;
 use std::collections::HashMap;
 
 /// Names of systems, each with the id that it stands for.

@@ -1,5 +1,5 @@
 -- Halves that went beside each other are the whole, and elements that hold their parts.
-use Rattle.std.proofs.Common.{◌≡◌, ℕ, zero, suc, ◌+◌, ◌<◌, ◌≤◌, List, [], ◌∷◌, ◌++◌, map, length, set, get_or, Option, Ok, refl, sym, ◌∙◌, ap, subst, arith, add-one}
+use Rattle.std.proofs.Common.{◌≡◌, ℕ, zero, suc, ◌+◌, ◌<◌, ◌≤◌, List, [], ◌∷◌, ◌++◌, length, set, get_or, Option, Ok, refl, sym, ◌∙◌, ap, subst, arith, add-one}
 use Rattle.shred_model.specs.Record.{Record, Agent}
 use Rattle.shred_model.specs.Runs.{Answer, first_fault, Ran}
 use Rattle.shred_model.specs.States.{configuration_of}

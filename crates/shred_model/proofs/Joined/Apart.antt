@@ -1,5 +1,5 @@
 -- Elements that do not conflict, by recursion on their list.
-use Rattle.std.proofs.Common.{◌≡◌, zero, suc, List, [], ◌∷◌, ◌⊎◌, Option, Contains, inl, inr, refl, sym, subst, ◌∙◌, arith}
+use Rattle.std.proofs.Common.{◌≡◌, zero, suc, List, [], ◌∷◌, ◌⊎◌, Option, Contains, inl, inr, sym, subst, ◌∙◌, arith}
 use Rattle.std.specs.List.{AllByRecursion, AllPairs, Any}
 use Rattle.std.proofs.lemmas.List.Elements.{recursion_from_All}
 use Rattle.shred_model.specs.Access.{Access, Conflicts}
@@ -10,12 +10,6 @@ AllPairs-head R x xs h = recursion_from_All (R x) xs (λ k d below. h 0 (suc k) 
 
 pub AllPairs-tail : {X : Type 0} (R : X → X → Type 0) (x : X) (xs : List X) → AllPairs R (x ∷ xs) → AllPairs R xs
 AllPairs-tail R x xs h i j d lt below = h (suc i) (suc j) d (omega arith) (omega arith)
-
-pub Any-later : {X : Type 0} (P : X → Type 0) (x : X) (xs : List X) → Any P xs → Any P (x ∷ xs)
-Any-later P x xs (k, e, below, is, p) = (suc k, e, omega arith, is, p)
-
-pub Any-here : {X : Type 0} (P : X → Type 0) (x : X) (xs : List X) → P x → Any P (x ∷ xs)
-Any-here P x xs p = (zero, x, omega arith, refl, p)
 
 pub Any-cases : {X : Type 0} (P : X → Type 0) (x : X) (xs : List X) → Any P (x ∷ xs) → P x ⊎ Any P xs
 Any-cases P x xs (zero, e, below, is, p) = inl (subst P (sym is) p)

@@ -9,10 +9,6 @@ use Rattle.shred_model.specs.Serializable.{IsSerializable}
 use Rattle.shred_model.proofs.Orders.ReplaySteps.{Replays-one, Replays-from_alike, Replays-to_alike}
 
 module _ {A I V S O F : Type 0} (Run : List (Record A I V S O) → Answer F → Type 0) (x : Configuration A I V S) (a : Answer F) (y : Configuration A I V S) where
-  -- no record, and nothing changed
-  pub Ran-none : Run [] a → AreAlike x y → Ran Run x a y
-  Ran-none run like = record { list = []; run = run; replays = like }
-
   -- one record
   pub Ran-one : (r : Record A I V S O) → Run (r ∷ []) a → Goes r x y → Ran Run x a y
   Ran-one r run goes = record { list = r ∷ []; run = run; replays = Replays-one r x y goes }

@@ -35,6 +35,3 @@ module _ {A I V S O : Type 0} where
 
   pub Replays-one : (r : Record A I V S O) (x y : Configuration A I V S) → Goes r x y → Replays x (r ∷ []) y
   Replays-one r x y goes = (y, goes, AreAlike-refl y)
-
-  pub Replays-more : (list : List (Record A I V S O)) (r : Record A I V S O) (x y z : Configuration A I V S) → Replays x list y → Goes r y z → Replays x (list ++ r ∷ []) z
-  Replays-more list r x y z then goes = Replays-append x list y (r ∷ []) z then (Replays-one r y z goes)

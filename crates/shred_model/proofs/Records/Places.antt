@@ -1,8 +1,7 @@
 -- An element of a list, with the agents inside it.
 use Rattle.std.proofs.Common.{◌≡◌, ◌≢◌, ℕ, zero, suc, ◌<◌, ◌≤◌, List, [], ◌∷◌, length, get_or, set, drop, map, Option, Some, slice_get, refl, sym, ◌∙◌, ap, arith, drop-cons, subst, drop_of_length-le}
 use Rattle.std.specs.Prelude.{option_and_then}
-use Rattle.std.specs.List.{All}
-use Rattle.std.proofs.lemmas.List.{drop-map, get_or-map, length-map}
+use Rattle.std.proofs.lemmas.List.{drop-map}
 use Rattle.std.proofs.lemmas.Option.{slice_get-get_or}
 use Rattle.shred_model.specs.Record.{Agent}
 use Rattle.shred_model.specs.States.{listed_states}
@@ -28,11 +27,6 @@ drop-map_cons {X} view ys xs n d same below =
 -- nothing is left past the end
 pub drop-map_past : {X Y : Type 0} (view : Y → X) (ys : List Y) (xs : List X) (n : ℕ) → map view ys ≡ xs → length ys ≤ n → drop n xs ≡ []
 drop-map_past {X} view ys xs n same past = subst (λ (l : List X). drop n l ≡ []) same (drop-map view n ys ∙ ap (map view) (drop_of_length-le ys past))
-
--- what holds of each element as it is planned holds of the one at a place
-pub All-at_view : {X Y : Type 0} (view : Y → X) (P : X → Type 0) (ys : List Y) (xs : List X) (n : ℕ) (d : Y) → map view ys ≡ xs → n < length ys → All P xs → P (view (get_or ys n d))
-All-at_view {X} view P ys xs n d same below all =
-    subst P (ap (λ (l : List X). get_or l n (view d)) (sym same) ∙ get_or-map view ys n d (view d) below) (all n (view d) (let e = sym (length-map ys view) ∙ ap length same in omega arith))
 
 module _ {Y S : Type 0} (states : Y → Agent → Option S) where
   pub listed_states-at : (ys : List Y) (n : ℕ) (d : Y) (a : Agent) → n < length ys → listed_states states ys (n ∷ a) ≡ states (get_or ys n d) a

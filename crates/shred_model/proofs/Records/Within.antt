@@ -16,10 +16,6 @@ pub record IsWithin {A I V S O : Type 0} (access : Access I) (r : Record A I V S
   pub declared : (i : I) → Declares r.access i → Declares access i
   pub written : (i : I) → Contains r.access.writes i → Contains access.writes i
 
--- a record within its own access
-pub IsWithin-own : {A I V S O : Type 0} (r : Record A I V S O) → IsFramed r → IsWithin r.access r
-IsWithin-own r framed = record { framed = framed; declared = λ i d. d; written = λ i w. w }
-
 -- the access that joins those of the elements
 abbrev pub joined_access : {X I : Type 0} → (X → Access I) → List X → Access I
 joined_access access xs = record { reads = flat_map (λ x. (access x).reads) xs; writes = flat_map (λ x. (access x).writes) xs }

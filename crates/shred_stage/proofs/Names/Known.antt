@@ -12,10 +12,10 @@ use Rattle.std.specs.Str.{bytes_eq}
 use Rattle.std.specs.String.{string_bytes, string_eq}
 use Rattle.std.specs.declared.string.String.{String}
 use Rattle.shred_stage.specs.Known.{Known, KnowsBefore, known_ids, with_name}
-use Rattle.shred_group.specs.PlanOf.{numbers_of}
-use Rattle.shred_group.proofs.Groups.Reading.{read_more}
+use Rattle.shred_run.specs.PlanOf.{numbers_of}
+use Rattle.shred_run.proofs.Groups.Reading.{read_more}
 use Rattle.shred_stage.specs.Names.{names_of}
-use Rattle.shred_group.specs.declared.dispatch.entry.SystemId.{SystemId}
+use Rattle.shred_run.specs.declared.entry.SystemId.{SystemId}
 
 cond-map : (b : Bool) (x y : Option SystemId) → option_map (λ id. id.0) (cond b x y) ≡ cond b (option_map (λ id. id.0) x) (option_map (λ id. id.0) y)
 cond-map true x y = refl

@@ -3,7 +3,7 @@ use Rattle.std.proofs.Common.{◌≡◌, ℕ, ◌==◌, Bool, true, false, cond,
 use Rattle.std.specs.String.{string_bytes}
 use Rattle.std.specs.declared.string.String.{String}
 use Rattle.shred_stage.specs.Names.{lesser, least_of}
-use Rattle.shred_group.specs.declared.dispatch.entry.SystemId.{SystemId}
+use Rattle.shred_run.specs.declared.entry.SystemId.{SystemId}
 
 -- the least of best and of the names of some entries that stand for the id
 abbrev pub least_in : {Z : Type 0} → ℕ → Option (List ℕ) → List (String Z × SystemId) → Option (List ℕ)

@@ -7,6 +7,3 @@ use Rattle.shred_stage.specs.declared.dispatch.printing.PrintError.TheVariants.{
 module _ {W : Type 0} (told : W → Option (List ℕ)) (failures : W → ℕ) where
   pub print-unnamed : (old : W) (found : Option ℕ) (id : ℕ) (text : List ℕ) → Some id ≡ found → IsPrinted told failures old old found text (Err (Unnamed (record { 0 = id })))
   print-unnamed old found id text is = subst (λ f. IsPrinted told failures old old f text (Err (Unnamed (record { 0 = id })))) is (refl, refl)
-
-  pub print-written : (old new : W) (found : Option ℕ) (text : List ℕ) (answer : Result (Unit {0}) PrintError) → None ≡ found → IsWritten (told old) (told new) (failures old) (failures new) text answer → IsPrinted told failures old new found text answer
-  print-written old new found text answer is written = subst (λ f. IsPrinted told failures old new f text answer) is written

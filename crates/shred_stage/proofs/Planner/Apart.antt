@@ -8,7 +8,7 @@ use Rattle.std.proofs.lemmas.Option.{slice_get-get_or, slice_get_within, get_or_
 use Rattle.shred_model.specs.Access.{Access, Conflicts}
 use Rattle.shred_model.specs.Plan.{PlanEntry, Group, Stage, group_access}
 use Rattle.shred_model.specs.Beside.{AreApart}
-use Rattle.shred_group.proofs.Groups.Membership.{Contains-nil}
+use Rattle.shred_run.proofs.Groups.Membership.{Contains-nil}
 use Rattle.shred_stage.proofs.Planner.Tests.{Conflicts-of_entry, Conflicts-by_entry}
 
 pub Conflicts-flip : {I : Type 0} (a b : Access I) → Conflicts a b → Conflicts b a

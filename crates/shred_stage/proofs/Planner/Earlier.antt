@@ -9,9 +9,9 @@ use Rattle.shred_model.proofs.Records.Places.{slice_get-set_same}
 use Rattle.shred_stage.specs.Added.{IsNewAt}
 use Rattle.shred_stage.specs.Earlier.{IsEarlier, IsFromBarrier, HasIdAt, HasId, ComesAfter, AllBeforeBarrier}
 use Rattle.shred_stage.specs.Placement.{dependencies_left, IsPlaced, in_new_group, at_end_of_group, in_new_stage, HoldsTheOneLeft}
-use Rattle.shred_group.specs.Left.{without_one, difference}
-use Rattle.shred_group.proofs.Groups.Ids.{eqb-refl_at, eqb_other}
-use Rattle.shred_group.proofs.Groups.Membership.{Contains-nil, Contains-head, Contains-tail, Contains-from_same, Contains-cons_cases, Contains-flat_map_cases}
+use Rattle.shred_run.specs.Left.{without_one, difference}
+use Rattle.shred_run.proofs.Groups.Ids.{eqb-refl_at, eqb_other}
+use Rattle.shred_run.proofs.Groups.Membership.{Contains-nil, Contains-head, Contains-tail, Contains-from_same, Contains-cons_cases, Contains-flat_map_cases}
 use Rattle.shred_stage.proofs.Planner.Touching.{slice_get-push_end}
 
 -- two places are the same, or not

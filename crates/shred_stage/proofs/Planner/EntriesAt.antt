@@ -5,13 +5,15 @@ use Rattle.shred_model.specs.Plan.{entry_at}
 use Rattle.shred_model.specs.Record.{Agent}
 use Rattle.shred_model.specs.States.{own_state, listed_states}
 use Rattle.shred_stage.specs.Added.{nothing_at, AreSame, IsNewAt, IsNew, IsAdded}
-use Rattle.shred_group.specs.Entries.{entry_states, group_states}
+use Rattle.shred_run.specs.Entries.{entry_states, group_states}
 use Rattle.shred_stage.specs.EntriesAt.{group_entries, stage_entries, plan_entries}
-use Rattle.shred_group.specs.PlanOf.{entry_plan, group_plan}
+use Rattle.shred_run.specs.PlanOf.{entry_plan, group_plan}
 use Rattle.shred_stage.specs.Plans.{stage_states, plan_states}
 use Rattle.shred_stage.specs.StagePlan.{stage_plan, plan_of}
-use Rattle.shred_group.specs.declared.dispatch.entry.SystemEntry.{SystemEntry}
-use Rattle.shred_group.specs.declared.dispatch.entry.Group.{Group}
+use Rattle.shred_run.specs.declared.entry.SystemEntry.{SystemEntry}
+use Rattle.shred_run.specs.declared.entry.Group.{Group}
+use Rattle.shred_run.specs.declared.work.Nested.{Nested}
+use Rattle.shred_run.specs.declared.work.Work.{Work}
 use Rattle.shred_stage.specs.declared.dispatch.stage.Stage.{Stage}
 use Rattle.shred_stage.proofs.Planner.Added.{own_is_new, new_alone, new_at_end, listed_states-map, listed_states-of, new_mapped}
 
@@ -30,21 +32,21 @@ own_mapped f entry [] = refl
 own_mapped f entry (n ∷ path) = refl
 
 -- the plan has what is planned of each entry, at its place
-entry_at-plan_of : {V S B N A : Type 0} {g : _} (stages : List (Stage V S B N A g)) (path : Agent) → entry_at (plan_of stages) path ≡ option_map entry_plan (plan_entries stages path)
+entry_at-plan_of : {V S C N A M B : Type 0} {vd : _} {sd : _} {ad : _} {cd : _} {bd : _} (stages : List (Stage V S C N A M B vd sd ad cd bd)) (path : Agent) → entry_at (plan_of stages) path ≡ option_map entry_plan (plan_entries stages path)
 entry_at-plan_of =
     listed_states-map stage_entries stage_plan _ entry_plan (λ stage.
     listed_states-map group_entries group_plan _ entry_plan (λ group.
     listed_states-map own_state entry_plan own_state entry_plan (own_mapped entry_plan) group.entries.items) stage.groups.items)
 
 -- the states have the system of each entry, at its place
-plan_states-of : {V S B N A : Type 0} {g : _} (stages : List (Stage V S B N A g)) (path : Agent) → plan_states stages path ≡ option_map (λ e. e.system) (plan_entries stages path)
+plan_states-of : {V S C N A M B : Type 0} {vd : _} {sd : _} {ad : _} {cd : _} {bd : _} (stages : List (Stage V S C N A M B vd sd ad cd bd)) (path : Agent) → plan_states stages path ≡ option_map (λ e. e.system) (plan_entries stages path)
 plan_states-of =
     listed_states-of stage_entries stage_states (λ e. e.system) (λ stage.
     listed_states-of group_entries group_states (λ e. e.system) (λ group.
     listed_states-of own_state entry_states (λ e. e.system) (own_mapped (λ e. e.system)) group.entries.items) stage.groups.items)
 
 -- where an entry is new, what is planned of it and its system are
-pub added_with : {V S B N A : Type 0} {g : _} (old new : List (Stage V S B N A g)) (entry : SystemEntry V S) (system : S) → entry.system ≡ system → IsNew (plan_entries old) (plan_entries new) entry
+pub added_with : {V S C N A M B : Type 0} {vd : _} {sd : _} {ad : _} {cd : _} {bd : _} (old new : List (Stage V S C N A M B vd sd ad cd bd)) (entry : SystemEntry V (Work S (Nested V S C))) (system : Work S (Nested V S C)) → entry.system ≡ system → IsNew (plan_entries old) (plan_entries new) entry
     → IsAdded (plan_of old) (plan_of new) (plan_states old) (plan_states new) (entry_plan entry) system
 added_with old new entry system same is = record {
   place = is.0;
@@ -54,5 +56,5 @@ added_with old new entry system same is = record {
 }
 
 -- where all entries stay, all systems stay
-pub states_stay : {V S B N A : Type 0} {g : _} (old new : List (Stage V S B N A g)) → AreSame (plan_entries old) (plan_entries new) → AreSame (plan_states old) (plan_states new)
+pub states_stay : {V S C N A M B : Type 0} {vd : _} {sd : _} {ad : _} {cd : _} {bd : _} (old new : List (Stage V S C N A M B vd sd ad cd bd)) → AreSame (plan_entries old) (plan_entries new) → AreSame (plan_states old) (plan_states new)
 states_stay old new same path = plan_states-of new path ∙ ap (option_map (λ e. e.system)) (same path) ∙ sym (plan_states-of old path)

@@ -3,8 +3,8 @@ use Rattle.std.proofs.Common.{◌≡◌, ℕ, ◌+◌, ◌<◌, List, [], ◌∷
 use Rattle.std.specs.List.{flat_map}
 use Rattle.std.proofs.lemmas.Grind.{flat_map-append}
 use Rattle.std.proofs.lemmas.List.{map-append, take-append-drop, append-nil}
-use Rattle.shred_group.specs.Left.{without_one, difference}
-use Rattle.shred_group.proofs.Groups.Reading.{read_more}
+use Rattle.shred_run.specs.Left.{without_one, difference}
+use Rattle.shred_run.proofs.Groups.Reading.{read_more}
 
 pub difference-nil : (ys : List ℕ) → difference [] ys ≡ []
 difference-nil [] = refl

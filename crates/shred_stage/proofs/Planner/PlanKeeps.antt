@@ -9,17 +9,17 @@ use Rattle.shred_model.specs.Access.{Conflicts}
 use Rattle.shred_model.specs.Plan as model
 use Rattle.shred_model.specs.Plan.{group_access, group_ids, stage_ids, plan_ids}
 use Rattle.shred_stage.specs.Placement.{NoneAdmits, IsPlaced, in_new_group, at_end_of_group}
-use Rattle.shred_group.specs.PlanOf.{group_plan, groups_plan}
+use Rattle.shred_run.specs.PlanOf.{group_plan, groups_plan}
 use Rattle.shred_stage.specs.Search.{OthersDoNotConflict, PlaceIs}
 use Rattle.shred_stage.specs.Soundness.{IsSmallGroup}
 use Rattle.shred_stage.specs.StagePlan.{stage_plan, plan_of}
-use Rattle.shred_group.specs.declared.dispatch.entry.Group.{Group}
+use Rattle.shred_run.specs.declared.entry.Group.{Group}
 use Rattle.shred_stage.specs.declared.dispatch.stage.Spot.{Spot}
 use Rattle.shred_stage.specs.declared.dispatch.stage.Spot.TheVariants.{NewGroup, EndOf}
 use Rattle.shred_stage.specs.declared.dispatch.stage.Stage.{Stage}
 
 -- the stage that is read at i
-pub stage_read : {V S B N A : Type 0} {g : _} (stages : List (Stage V S B N A g)) (i : ℕ) (x : Stage V S B N A g) → i < length stages → x ≡ get_or stages i x → get_or (plan_of stages) i [] ≡ stage_plan x
+pub stage_read : {V S C N A M B : Type 0} {vd : _} {sd : _} {ad : _} {cd : _} {bd : _} (stages : List (Stage V S C N A M B vd sd ad cd bd)) (i : ℕ) (x : Stage V S C N A M B vd sd ad cd bd) → i < length stages → x ≡ get_or stages i x → get_or (plan_of stages) i [] ≡ stage_plan x
 stage_read stages i x lt is = get_or-map stage_plan stages i x [] lt ∙ ap stage_plan (sym is)
 
 ids_in_group : {I : Type 0} (group : model.Group I) → 0 < length group → 0 < length (group_ids group)
@@ -32,18 +32,18 @@ ids_in_stage (group ∷ groups) some small =
     omega (arith, length-append (group_ids (group_plan group)) (stage_ids (groups_plan groups)), here)
 
 -- each stage has an entry, so there are at most as many stages as entries
-pub few_stages : {V S B N A : Type 0} {g : _} (stages : List (Stage V S B N A g)) → length stages ≤ length (plan_ids (plan_of stages))
+pub few_stages : {V S C N A M B : Type 0} {vd : _} {sd : _} {ad : _} {cd : _} {bd : _} (stages : List (Stage V S C N A M B vd sd ad cd bd)) → length stages ≤ length (plan_ids (plan_of stages))
 few_stages [] = omega arith
 few_stages (stage ∷ stages) =
     let here : 0 < length (stage_ids (stage_plan stage)) = ids_in_stage stage.groups.items stage.some_group stage.small_groups in
     omega (arith, length-append (stage_ids (stage_plan stage)) (plan_ids (plan_of stages)), here, few_stages stages)
 
-pub plan_when_done : {V S B F N A : Type 0} {g : _} (result : Result (Unit {0}) F) (stages : List (Stage V S B N A g)) (k : ℕ) (new : Stage V S B N A g) (after : model.Stage ResourceId) → OnOk result (stage_plan new ≡ after)
+pub plan_when_done : {V S C F N A M B : Type 0} {vd : _} {sd : _} {ad : _} {cd : _} {bd : _} (result : Result (Unit {0}) F) (stages : List (Stage V S C N A M B vd sd ad cd bd)) (k : ℕ) (new : Stage V S C N A M B vd sd ad cd bd) (after : model.Stage ResourceId) → OnOk result (stage_plan new ≡ after)
     → OnOk result (plan_of (set stages k new) ≡ set (plan_of stages) k after)
 plan_when_done (Ok done) stages k new after is = rw (map-set stage_plan stages k new, is) refl
 plan_when_done (Err e) stages k new after is = tt
 
-pub plan_when_refused : {V S B F N A : Type 0} {g : _} (result : Result (Unit {0}) F) (stages : List (Stage V S B N A g)) (k : ℕ) (new : Stage V S B N A g) → OnErr result (stage_plan new ≡ get_or (plan_of stages) k []) → OnErr result (plan_of (set stages k new) ≡ plan_of stages)
+pub plan_when_refused : {V S C F N A M B : Type 0} {vd : _} {sd : _} {ad : _} {cd : _} {bd : _} (result : Result (Unit {0}) F) (stages : List (Stage V S C N A M B vd sd ad cd bd)) (k : ℕ) (new : Stage V S C N A M B vd sd ad cd bd) → OnErr result (stage_plan new ≡ get_or (plan_of stages) k []) → OnErr result (plan_of (set stages k new) ≡ plan_of stages)
 plan_when_refused (Ok done) stages k new is = tt
 plan_when_refused (Err e) stages k new is = rw (map-set stage_plan stages k new, is) (set-get_or (plan_of stages) k [])
 

@@ -8,13 +8,10 @@ use Rattle.std.proofs.lemmas.List.{take_more, get_or-drop, append-nil, length-ma
 use Rattle.std.proofs.lemmas.Option.{slice_get_within, get_or_from_slice_get, slice_get-get_or, slice_get-map}
 use Rattle.shred_model.specs.Plan.{PlanEntry, Stage, Plan, stage_ids, plan_ids}
 use Rattle.shred_stage.specs.Placement.{dependencies_left, Admits, NoneAdmits}
-use Rattle.shred_group.specs.Left.{difference}
+use Rattle.shred_run.specs.Left.{difference}
 use Rattle.shred_stage.specs.Search.{SpotIs, PlaceIs}
 use Rattle.shred_stage.specs.declared.dispatch.stage.Spot.{Spot}
 use Rattle.shred_stage.proofs.Planner.Left.{difference-append}
-
-pub slice_range-none : {X : Type 0} (xs : List X) (a : ℕ) → slice_range xs a a ≡ []
-slice_range-none xs a = let none : a - a ≡ 0 = omega arith in rw none refl
 
 pub slice_range-more : {X : Type 0} (xs : List X) (a b : ℕ) (x : X) → a ≤ b → slice_get xs b ≡ Some x → slice_range xs a (b + 1) ≡ slice_range xs a b ++ x ∷ []
 slice_range-more xs a b x le at =
@@ -27,18 +24,12 @@ slice_range-more xs a b x le at =
     back : (a b : ℕ) → a ≤ b → a + (b - a) ≡ b
     back a b le = omega arith
 
-pub left_first : {I : Type 0} (plan : Plan I) (barrier : ℕ) (dependencies : List ℕ) → dependencies_left plan barrier dependencies barrier ≡ dependencies
-left_first plan barrier dependencies = ap (λ stages. difference dependencies (plan_ids stages)) (slice_range-none plan barrier)
-
 pub left_next : {I : Type 0} (plan : Plan I) (barrier : ℕ) (dependencies : List ℕ) (k : ℕ) (stage : Stage I) → barrier ≤ k → slice_get plan k ≡ Some stage
     → dependencies_left plan barrier dependencies (k + 1) ≡ difference (dependencies_left plan barrier dependencies k) (stage_ids stage)
 left_next plan barrier dependencies k stage le at =
     ap (λ stages. difference dependencies (plan_ids stages)) (slice_range-more plan barrier k stage le at)
     ∙ ap (difference dependencies) (flat_map-append stage_ids (slice_range plan barrier k) (stage ∷ []) ∙ ap (λ ids. plan_ids (slice_range plan barrier k) ++ ids) (append-nil (stage_ids stage)))
     ∙ difference-append dependencies (plan_ids (slice_range plan barrier k)) (stage_ids stage)
-
-pub none_admits_first : {I : Type 0} (plan : Plan I) (barrier start : ℕ) (dependencies : List ℕ) (entry : PlanEntry I) → barrier ≤ start → NoneAdmits plan barrier start dependencies entry barrier
-none_admits_first plan barrier start dependencies entry le = λ j stage from before at admits. omega arith
 
 same_stage : {X : Type 0} (xs : List X) (j k : ℕ) (x y : X) → j ≡ k → slice_get xs j ≡ Some x → slice_get xs k ≡ Some y → x ≡ y
 same_stage xs j k x y e at_j at_k = sym (get_or_from_slice_get xs j x x at_j) ∙ rw e (get_or_from_slice_get xs k y x at_k)

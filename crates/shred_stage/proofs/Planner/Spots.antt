@@ -11,11 +11,11 @@ use Rattle.shred_model.specs.Access.{Access, Conflicts}
 use Rattle.shred_model.specs.Plan.{PlanEntry, Group, Stage, group_ids, group_access, group_time}
 use Rattle.shred_stage.specs.Placement.{greatest_time, IsTouched, Admits, AdmitsNewGroup, AdmitsAtEndOf, HoldsTheOneLeft}
 use Rattle.shred_stage.specs.Search.{waits_for_group, may_end, TouchedIs, SpotIs}
-use Rattle.shred_group.specs.Touching.{is_touched, group_conflicts}
+use Rattle.shred_run.specs.Touching.{is_touched, group_conflicts}
 use Rattle.shred_stage.specs.declared.dispatch.stage.Spot.{Spot}
 use Rattle.shred_stage.specs.declared.dispatch.stage.Spot.TheVariants.{NewGroup, EndOf}
 use Rattle.shred_stage.specs.declared.dispatch.stage.Touched.TheVariants.{Nothing, One, Several}
-use Rattle.shred_group.proofs.Groups.Membership.{Contains-nil, Contains-cons_cases}
+use Rattle.shred_run.proofs.Groups.Membership.{Contains-nil, Contains-cons_cases}
 use Rattle.shred_stage.proofs.Planner.Tests.{Agrees, group_conflicts-Decides, is_touched-Decides}
 
 -- nothing is left, or one id is, and the group does not conflict

@@ -10,13 +10,13 @@ use Rattle.shred_model.specs.Access.{Conflicts}
 use Rattle.shred_model.specs.Beside.{AreApart}
 use Rattle.shred_model.specs.Plan as model
 use Rattle.shred_model.specs.Plan.{group_access}
-use Rattle.shred_group.specs.Hands.{KeepsRoom}
-use Rattle.shred_group.specs.OwnLists.{IsGroupOf}
-use Rattle.shred_group.specs.PlanOf.{access_of, entry_plan, group_plan, groups_plan, HasEntryIds}
+use Rattle.shred_run.specs.Hands.{KeepsRoom}
+use Rattle.shred_run.specs.OwnLists.{IsGroupOf}
+use Rattle.shred_run.specs.PlanOf.{access_of, entry_plan, group_plan, groups_plan, HasEntryIds}
 use Rattle.shred_stage.specs.Search.{OthersDoNotConflict}
 use Rattle.shred_stage.specs.Soundness.{IsSmallGroup}
-use Rattle.shred_group.specs.declared.dispatch.entry.SystemEntry.{SystemEntry}
-use Rattle.shred_group.specs.declared.dispatch.entry.Group.{Group}
+use Rattle.shred_run.specs.declared.entry.SystemEntry.{SystemEntry}
+use Rattle.shred_run.specs.declared.entry.Group.{Group}
 use Rattle.shred_stage.proofs.Planner.Apart.{AreApart-push, AreApart-set}
 
 -- what a stage keeps of its groups

@@ -4,13 +4,13 @@ use Rattle.std.specs.List.{All}
 use Rattle.std.proofs.lemmas.List.{length-map}
 use Rattle.shred_model.specs.Plan as model
 use Rattle.shred_table.specs.declared.id.ResourceId.{ResourceId}
-use Rattle.shred_group.specs.Hands.{KeepsRoom}
-use Rattle.shred_group.specs.OwnLists.{IsGroupOf}
-use Rattle.shred_group.specs.PlanOf.{group_plan, group_numbers, groups_plan, HasEntryIds}
+use Rattle.shred_run.specs.Hands.{KeepsRoom}
+use Rattle.shred_run.specs.OwnLists.{IsGroupOf}
+use Rattle.shred_run.specs.PlanOf.{group_plan, group_numbers, groups_plan, HasEntryIds}
 use Rattle.shred_model.specs.Beside.{AreApart}
 use Rattle.shred_stage.specs.Soundness.{IsSmallGroup}
 use Rattle.shred_stage.proofs.Planner.StageKeeps.{IsKeptBy}
-use Rattle.shred_group.specs.declared.dispatch.entry.Group.{Group}
+use Rattle.shred_run.specs.declared.entry.Group.{Group}
 
 keeps_alike : {V S : Type 0} (x z : Group V S) → group_plan x ≡ group_plan z → group_numbers x ≡ group_numbers z → HasEntryIds z → HasEntryIds x
 keeps_alike x z plan ids keep = ids ∙ keep ∙ ap model.group_ids (sym plan)

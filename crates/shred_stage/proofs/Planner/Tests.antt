@@ -7,8 +7,8 @@ use Rattle.std.proofs.lemmas.Bool.Decides.{Decides-or, Decides-like, Decides-eqb
 use Rattle.shred_model.specs.Access.{Access, Conflicts}
 use Rattle.shred_model.specs.Plan.{PlanEntry, Group, group_ids, group_access}
 use Rattle.shred_stage.specs.Placement.{IsTouched}
-use Rattle.shred_group.specs.Touching.{share_item, accesses_conflict, group_conflicts, holds_any, is_touched}
-use Rattle.shred_group.proofs.Groups.Membership.{Some_of, list_any_decides, Contains-flat_map, Contains-flat_map_cases}
+use Rattle.shred_run.specs.Touching.{share_item, accesses_conflict, group_conflicts, holds_any, is_touched}
+use Rattle.shred_run.proofs.Groups.Membership.{Some_of, list_any_decides, Contains-flat_map, Contains-flat_map_cases}
 
 -- the test is equality
 abbrev pub Agrees : {T : Type 0} → (T → T → Bool) → Type 0

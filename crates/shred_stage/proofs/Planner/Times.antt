@@ -6,10 +6,10 @@ use Rattle.std.proofs.lemmas.List.Recursion.{max_push, max_bounds}
 use Rattle.shred_model.specs.Plan as model
 use Rattle.shred_model.specs.Plan.{group_time}
 use Rattle.shred_stage.specs.Placement.{greatest_time}
-use Rattle.shred_group.specs.PlanOf.{entry_plan, group_plan, groups_plan}
+use Rattle.shred_run.specs.PlanOf.{entry_plan, group_plan, groups_plan}
 use Rattle.shred_stage.specs.Soundness.{IsSmallGroup}
-use Rattle.shred_group.specs.declared.dispatch.entry.Group.{Group}
-use Rattle.shred_group.proofs.Groups.Reading.{read_more}
+use Rattle.shred_run.specs.declared.entry.Group.{Group}
+use Rattle.shred_run.proofs.Groups.Reading.{read_more}
 
 -- the group that is read at i
 pub group_read : {V S : Type 0} (groups : List (Group V S)) (i : ℕ) (x : Group V S) → i < length groups → x ≡ get_or groups i x → get_or (groups_plan groups) i [] ≡ group_plan x

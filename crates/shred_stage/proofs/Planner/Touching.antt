@@ -3,7 +3,7 @@ use Rattle.std.proofs.Common.{◌≡◌, ◌≢◌, ℕ, zero, suc, ◌+◌, ◌
 use Rattle.std.specs.List.{slice_get}
 use Rattle.std.proofs.lemmas.List.{map-append, take-append-drop, take_all}
 use Rattle.std.proofs.lemmas.Option.{slice_get_within}
-use Rattle.shred_group.proofs.Groups.Reading.{read_more, length-read}
+use Rattle.shred_run.proofs.Groups.Reading.{read_more, length-read}
 use Rattle.shred_stage.specs.declared.dispatch.stage.Touched.{Touched}
 use Rattle.shred_stage.specs.declared.dispatch.stage.Touched.TheVariants.{Nothing, One, Several}
 use Rattle.shred_stage.specs.Search.{TouchedIs}

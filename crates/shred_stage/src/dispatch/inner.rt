@@ -1,28 +1,29 @@
 //! The inner plan of a batch: the stages of a builder, as the tiers that a batch holds.
 ghost use Rattle.std.specs.Prelude.{◌≡◌, All, IfOk};
-ghost use Rattle.shred_batch.specs.Works.{tiers_plan};
+ghost use Rattle.shred_run.specs.Works.{tiers_plan};
 ghost use Rattle.shred_model.specs.Record.{Agent};
 ghost use Rattle.shred_stage.specs.Inner.{tiers_states};
 ghost use Rattle.shred_stage.specs.Plans.{plan_states};
 ghost use Rattle.shred_stage.specs.StagePlan.{plan_of};
-ghost use Rattle.shred_batch.specs.Batches.{IsTierOf};
+ghost use Rattle.shred_run.specs.Batches.{IsTierOf};
+ghost use Rattle.shred_run.specs.Depths.{Declared, lists_of};
+ghost use Rattle.shred_run.specs.OwnDepth.{OwnsItself};
 
 use crate::dispatch::stage::Stage;
-use shred_batch::Tier;
-use shred_group::dispatch::entry::push_or_drop;
-use shred_group::occupant::Occupant;
-use shred_world::OutOfMemory;
+use shred_run::entry::push_or_drop;
+use shred_run::{BatchController, Nested, System, Tier, Work};
+use shred_world::{OutOfMemory, ResourceValue};
 use std::alloc::Global;
 
 /// The tiers of these stages. It is there for `DispatcherBuilder`. `OutOfMemory` where memory is refused, and the stages are
 /// dropped.
-pub fn tiers_of<V: Drop, X: Occupant<C, V> + Drop, C>(
+pub fn tiers_of<V: ResourceValue + Drop, S: System<V> + Drop, C: BatchController<V> + Drop>(
     alloc: Global,
-    stages: Vec<Stage<V, X, C>>,
-) -> Result<Vec<Tier<V, X>>, OutOfMemory>
+    stages: Vec<Stage<V, S, C>>,
+) -> Result<Vec<Tier<V, Work<S, Nested<V, S, C>>>>, OutOfMemory>
     ensures plan { IfOk result (λ tiers. tiers_plan tiers.items ≡ plan_of stages.items) }
     ensures states { IfOk result (λ tiers. (path : Agent) → tiers_states tiers.items path ≡ plan_states stages.items path) }
-    ensures own { IfOk result (λ tiers. All (IsTierOf X.may_keep) tiers.items) }
+    ensures own { IfOk result (λ tiers. All (IsTierOf (OwnsItself (lists_of S.reads S.writes C.reads C.writes))) tiers.items) }
 {
     let mut tiers = Vec::new(alloc);
     for stage in stages {

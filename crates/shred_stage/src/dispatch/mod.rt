@@ -1,6 +1,8 @@
 //! Plans of systems, and the runs of their stages.
 
+pub mod dispatch_error;
 pub mod inner;
+pub mod plan;
 pub mod printing;
 pub mod sink;
 pub mod stage;

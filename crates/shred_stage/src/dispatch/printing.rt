@@ -5,7 +5,7 @@ ghost use Rattle.std.specs.Option.{option_map};
 ghost use Rattle.shred_model.specs.Plan.{plan_ids, stage_ids};
 ghost use Rattle.shred_stage.specs.BuilderPlan.{planned};
 ghost use Rattle.shred_stage.specs.Names.{first_unnamed, least_name, lesser, named_ids};
-ghost use Rattle.shred_group.specs.PlanOf.{numbers_of};
+ghost use Rattle.shred_run.specs.PlanOf.{numbers_of};
 ghost use Rattle.shred_stage.specs.Printed.{cleaned, group_text, ids_text, plan_text, printed_name, stage_text, system_line};
 ghost use Rattle.shred_stage.specs.Prints.{IsPrinted};
 ghost use Rattle.shred_stage.specs.Sinks.{IsPut};
@@ -14,8 +14,7 @@ ghost use Rattle.shred_stage.specs.StagePlan.{plan_of, stage_plan};
 use crate::dispatch::sink::{PlanSink, SinkFailed, put_all};
 use crate::dispatch::stage::Stage;
 use crate::dispatch::stages_builder::StagesBuilder;
-use shred_group::dispatch::entry::SystemId;
-use shred_group::occupant::Occupant;
+use shred_run::{BatchController, System, SystemId};
 use shred_world::ResourceValue;
 use std::collections::HashMap;
 use thiserror::Error;
@@ -70,8 +69,8 @@ fn first_unnamed_of(ids: &[SystemId], names: &HashMap<String, SystemId>) -> Opti
 }
 
 // The first id of the stage that no name stands for.
-fn first_unnamed_in<V, X: Occupant<C, V>, C>(
-    stage: &Stage<V, X, C>,
+fn first_unnamed_in<V: ResourceValue, S: System<V>, C: BatchController<V>>(
+    stage: &Stage<V, S, C>,
     names: &HashMap<String, SystemId>,
 ) -> Option<SystemId>
     ensures { option_map (λ id. id.0) result ≡ first_unnamed (named_ids names.now) (stage_ids (stage_plan stage.now)) }
@@ -87,8 +86,8 @@ fn first_unnamed_in<V, X: Occupant<C, V>, C>(
 }
 
 /// The first id in the plan's order that no name stands for.
-pub(crate) fn first_unnamed<V, X: Occupant<C, V>, C>(
-    stages: &Vec<Stage<V, X, C>>,
+pub(crate) fn first_unnamed<V: ResourceValue, S: System<V>, C: BatchController<V>>(
+    stages: &Vec<Stage<V, S, C>>,
     names: &HashMap<String, SystemId>,
 ) -> Option<SystemId>
     ensures { option_map (λ id. id.0) result ≡ first_unnamed (named_ids names.now) (plan_ids (plan_of stages.now.items)) }
@@ -180,10 +179,10 @@ fn put_group<W: PlanSink>(
     put_all(sink, b"\t\t],\n")
 }
 
-fn put_groups<W: PlanSink, V, X: Occupant<C, V>, C>(
+fn put_groups<W: PlanSink, V: ResourceValue, S: System<V>, C: BatchController<V>>(
     sink: &mut W,
     names: &HashMap<String, SystemId>,
-    stage: &Stage<V, X, C>,
+    stage: &Stage<V, S, C>,
 ) -> Result<(), SinkFailed>
     ensures { IsPut (W.told sink.old) (W.told sink.new) (W.failures sink.old) (W.failures sink.new) (flat_map (group_text (named_ids names.now)) (stage_plan stage.now)) result }
 {
@@ -197,10 +196,10 @@ fn put_groups<W: PlanSink, V, X: Occupant<C, V>, C>(
     Ok(())
 }
 
-fn put_stage<W: PlanSink, V, X: Occupant<C, V>, C>(
+fn put_stage<W: PlanSink, V: ResourceValue, S: System<V>, C: BatchController<V>>(
     sink: &mut W,
     names: &HashMap<String, SystemId>,
-    stage: &Stage<V, X, C>,
+    stage: &Stage<V, S, C>,
 ) -> Result<(), SinkFailed>
     ensures { IsPut (W.told sink.old) (W.told sink.new) (W.failures sink.old) (W.failures sink.new) (stage_text (named_ids names.now) (stage_plan stage.now)) result }
 {
@@ -213,10 +212,10 @@ fn put_stage<W: PlanSink, V, X: Occupant<C, V>, C>(
     put_all(sink, b"\t],\n")
 }
 
-fn put_stages<W: PlanSink, V, X: Occupant<C, V>, C>(
+fn put_stages<W: PlanSink, V: ResourceValue, S: System<V>, C: BatchController<V>>(
     sink: &mut W,
     names: &HashMap<String, SystemId>,
-    stages: &Vec<Stage<V, X, C>>,
+    stages: &Vec<Stage<V, S, C>>,
 ) -> Result<(), SinkFailed>
     ensures { IsPut (W.told sink.old) (W.told sink.new) (W.failures sink.old) (W.failures sink.new) (flat_map (stage_text (named_ids names.now)) (plan_of stages.now.items)) result }
 {
@@ -229,10 +228,10 @@ fn put_stages<W: PlanSink, V, X: Occupant<C, V>, C>(
 }
 
 /// Puts the text of the plan.
-pub(crate) fn put_plan<W: PlanSink, V, X: Occupant<C, V>, C>(
+pub(crate) fn put_plan<W: PlanSink, V: ResourceValue, S: System<V>, C: BatchController<V>>(
     sink: &mut W,
     names: &HashMap<String, SystemId>,
-    stages: &Vec<Stage<V, X, C>>,
+    stages: &Vec<Stage<V, S, C>>,
 ) -> Result<(), SinkFailed>
     ensures { IsPut (W.told sink.old) (W.told sink.new) (W.failures sink.old) (W.failures sink.new) (plan_text (named_ids names.now) (plan_of stages.now.items)) result }
 {
@@ -246,10 +245,10 @@ pub(crate) fn put_plan<W: PlanSink, V, X: Occupant<C, V>, C>(
 }
 
 /// Puts the plan's text and what follows it into the sink, as `write_par_seq` does. It is there for `Dispatcher`.
-pub fn print<W: PlanSink, V, X: Occupant<C, V>, C>(
+pub fn print<W: PlanSink, V: ResourceValue, S: System<V>, C: BatchController<V>>(
     sink: &mut W,
     names: &HashMap<String, SystemId>,
-    stages: &Vec<Stage<V, X, C>>,
+    stages: &Vec<Stage<V, S, C>>,
     end: &[u8],
 ) -> Result<(), PrintError>
     ensures { let plan = plan_of stages.now.items in let pairs = named_ids names.now in
@@ -264,10 +263,10 @@ pub fn print<W: PlanSink, V, X: Occupant<C, V>, C>(
     }
 }
 
-fn put_with_end<W: PlanSink, V, X: Occupant<C, V>, C>(
+fn put_with_end<W: PlanSink, V: ResourceValue, S: System<V>, C: BatchController<V>>(
     sink: &mut W,
     names: &HashMap<String, SystemId>,
-    stages: &Vec<Stage<V, X, C>>,
+    stages: &Vec<Stage<V, S, C>>,
     end: &[u8],
 ) -> Result<(), SinkFailed>
     ensures { IsPut (W.told sink.old) (W.told sink.new) (W.failures sink.old) (W.failures sink.new) (plan_text (named_ids names.now) (plan_of stages.now.items) ++ end.now) result }
@@ -279,8 +278,8 @@ fn put_with_end<W: PlanSink, V, X: Occupant<C, V>, C>(
 }
 
 /// Puts the plan's text and what follows it into the sink, as `write_par_seq` does. It is there for `DispatcherBuilder`.
-pub fn print_with_end<V, X: Occupant<C, V>, C, W: PlanSink>(
-    builder: &StagesBuilder<V, X, C>,
+pub fn print_with_end<V: ResourceValue, S: System<V>, C: BatchController<V>, W: PlanSink>(
+    builder: &StagesBuilder<V, S, C>,
     sink: &mut W,
     names: &HashMap<String, SystemId>,
     end: &[u8],

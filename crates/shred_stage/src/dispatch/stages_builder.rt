@@ -7,50 +7,53 @@ ghost use Rattle.shred_model.specs.Plan as model;
 ghost use Rattle.shred_model.specs.Access.{Conflicts};
 ghost use Rattle.shred_model.specs.Plan.{group_access, plan_ids};
 ghost use Rattle.shred_stage.specs.Earlier.{IsFromBarrier, ComesAfter, AllBeforeBarrier};
-ghost use Rattle.shred_group.specs.Kept.{IsKept};
+ghost use Rattle.shred_run.specs.Kept.{IsKept};
 ghost use Rattle.shred_stage.specs.Names.{first_unnamed, named_ids};
 ghost use Rattle.shred_stage.specs.Placement.{IsPlaced};
 ghost use Rattle.shred_stage.specs.Printed.{plan_text};
 ghost use Rattle.shred_stage.specs.Prints.{IsPrinted};
-ghost use Rattle.shred_group.specs.OwnLists.{IsEntryOf};
-ghost use Rattle.shred_group.specs.PlanOf.{access_of, entry_plan, numbers_of};
+ghost use Rattle.shred_run.specs.Depths.{Declared, lists_of};
+ghost use Rattle.shred_run.specs.OwnDepth.{OwnsItself};
+ghost use Rattle.shred_run.specs.OwnLists.{IsEntryOf};
+ghost use Rattle.shred_run.specs.PlanOf.{access_of, entry_plan, numbers_of};
 ghost use Rattle.shred_stage.specs.Search.{OthersDoNotConflict, PlaceIs};
-ghost use Rattle.shred_group.specs.Sides.{stage_side, plan_reads, plan_writes};
+ghost use Rattle.shred_run.specs.Sides.{stage_side, plan_reads, plan_writes};
 ghost use Rattle.shred_stage.specs.StagePlan.{plan_of};
 
 use crate::dispatch::printing::{PrintError, print};
 use crate::dispatch::sink::PlanSink;
 use crate::dispatch::stage::{Spot, Stage};
-use shred_batch::{BatchController, Nested, Work};
-use shred_group::dispatch::entry::{Side, SystemEntry, SystemId, push_or_drop};
-use shred_group::dispatch::sorted::sort_without_doubles;
-use shred_group::occupant::{Holds, NoBatch, Occupant};
-use shred_group::system::System;
-use shred_works::Batched;
-use shred_world::parting::empty_hand;
-use shred_world::{Accessor, OutOfMemory, ResourceId, ResourceValue, Table};
+use shred_run::entry::{Side, SystemEntry, push_or_drop};
+use shred_run::kept::system_entry;
+use shred_run::sorted::sort_without_doubles;
+use shred_run::{BatchController, Nested, NoBatch, System, SystemId, Work};
+use shred_world::{OutOfMemory, ResourceId, ResourceValue};
 use smallvec::SmallVec;
 use std::alloc::Global;
 use std::collections::HashMap;
 
 /// A plan that grows by one system after another.
 #[derive(Drop)]
-pub struct StagesBuilder<V, X: Occupant<C, V>, C = NoBatch> {
-    pub(crate) stages: Vec<Stage<V, X, C>>,
+pub struct StagesBuilder<
+    V: ResourceValue,
+    S: System<V>,
+    C: BatchController<V> = NoBatch<<S as System<V>>::Error>,
+> {
+    pub(crate) stages: Vec<Stage<V, S, C>>,
     barrier: usize,
     ghost barrier_within: { barrier ≤ length stages.items },
     ghost few_stages: { length stages.items ≤ length (plan_ids (plan_of stages.items)) },
 }
 
-impl<V, X: Occupant<C, V>, C> StagesBuilder<V, X, C> {
+impl<V: ResourceValue, S: System<V>, C: BatchController<V>> StagesBuilder<V, S, C> {
     ghost use Rattle.shred_model.specs.Record.{Agent};
     ghost use Rattle.shred_stage.specs.Added.{AreSame, IsNew};
     ghost use Rattle.shred_stage.specs.BuilderPlan.{planned, barrier_of, builder_states};
     ghost use Rattle.shred_stage.specs.EntriesAt.{builder_entries};
     ghost use Rattle.shred_stage.specs.Plans.{plan_states};
 
-    /// An empty plan, in which may stand what its type says. It takes no memory.
-    pub fn empty(alloc: Global) -> Self
+    /// An empty plan. It takes no memory.
+    pub fn new(alloc: Global) -> Self
         ensures plan { planned result ≡ [] }
         ensures barrier { barrier_of result ≡ 0 }
         ensures states { (path : Agent) → builder_states result path ≡ None }
@@ -61,11 +64,21 @@ impl<V, X: Occupant<C, V>, C> StagesBuilder<V, X, C> {
         }
     }
 
+    /// An empty plan, as of `new`.
+    pub fn default(alloc: Global) -> Self
+        ensures plan { planned result ≡ [] }
+        ensures barrier { barrier_of result ≡ 0 }
+        ensures states { (path : Agent) → builder_states result path ≡ None }
+    {
+        Self::new(alloc)
+    }
+
     /// The stages of the plan. It takes no memory.
-    pub fn build(self) -> Vec<Stage<V, X, C>>
+    pub fn build(self) -> Vec<Stage<V, S, C>>
     where
         V: Drop,
-        X: Drop,
+        S: Drop,
+        C: Drop,
         ensures plan { plan_of result.items ≡ planned self }
         ensures states { (path : Agent) → plan_states result.items path ≡ builder_states self path }
     {
@@ -142,13 +155,14 @@ impl<V, X: Occupant<C, V>, C> StagesBuilder<V, X, C> {
         &mut self,
         start: usize,
         dependencies: &[SystemId],
-        entry: SystemEntry<V, X>,
+        entry: SystemEntry<V, Work<S, Nested<V, S, C>>>,
     ) -> Result<(), OutOfMemory>
     where
         V: Drop,
-        X: Drop,
+        S: Drop,
+        C: Drop,
         requires start { barrier_of self.old ≤ start }
-        requires own_lists { IsEntryOf X.may_keep entry }
+        requires own_lists { IsEntryOf (OwnsItself (lists_of S.reads S.writes C.reads C.writes)) entry }
         ensures placed { OnOk result (IsPlaced (planned self.old) (barrier_of self.old) start (numbers_of dependencies.now) (entry_plan entry) (planned self.new)) }
         ensures err { OnErr result (planned self.new ≡ planned self.old) }
         ensures added { OnOk result (IsNew (builder_entries self.old) (builder_entries self.new) entry) }
@@ -168,13 +182,18 @@ impl<V, X: Occupant<C, V>, C> StagesBuilder<V, X, C> {
     }
 
     /// Gives the entry a new last group of this stage.
-    fn push_group(&mut self, stage: usize, entry: SystemEntry<V, X>) -> Result<(), OutOfMemory>
+    fn push_group(
+        &mut self,
+        stage: usize,
+        entry: SystemEntry<V, Work<S, Nested<V, S, C>>>,
+    ) -> Result<(), OutOfMemory>
     where
         V: Drop,
-        X: Drop,
+        S: Drop,
+        C: Drop,
         requires within { stage < length (planned self.old) }
         requires free { All (λ group. Conflicts (group_access group) (access_of entry) → ⊥) (slice_index_or (planned self.old) stage []) }
-        requires own_lists { IsEntryOf X.may_keep entry }
+        requires own_lists { IsEntryOf (OwnsItself (lists_of S.reads S.writes C.reads C.writes)) entry }
         ensures ok { OnOk result (planned self.new ≡ slice_set (planned self.old) stage (slice_index_or (planned self.old) stage [] ++ (entry_plan entry ∷ []) ∷ [])) }
         ensures err { OnErr result (planned self.new ≡ planned self.old) }
         ensures added { OnOk result (IsNew (builder_entries self.old) (builder_entries self.new) entry) }
@@ -189,16 +208,17 @@ impl<V, X: Occupant<C, V>, C> StagesBuilder<V, X, C> {
         &mut self,
         stage: usize,
         group: usize,
-        entry: SystemEntry<V, X>,
+        entry: SystemEntry<V, Work<S, Nested<V, S, C>>>,
     ) -> Result<(), OutOfMemory>
     where
         V: Drop,
-        X: Drop,
+        S: Drop,
+        C: Drop,
         requires within { stage < length (planned self.old) }
         requires within_stage { group < length (slice_index_or (planned self.old) stage []) }
         requires room { length (slice_index_or (slice_index_or (planned self.old) stage []) group []) < 4 }
         requires others { OthersDoNotConflict (slice_index_or (planned self.old) stage []) group (access_of entry) }
-        requires own_lists { IsEntryOf X.may_keep entry }
+        requires own_lists { IsEntryOf (OwnsItself (lists_of S.reads S.writes C.reads C.writes)) entry }
         ensures ok { let here = slice_index_or (planned self.old) stage [] in
             OnOk result (planned self.new ≡ slice_set (planned self.old) stage (slice_set here group (slice_index_or here group [] ++ entry_plan entry ∷ []))) }
         ensures err { OnErr result (planned self.new ≡ planned self.old) }
@@ -210,11 +230,15 @@ impl<V, X: Occupant<C, V>, C> StagesBuilder<V, X, C> {
     }
 
     /// Gives the entry a new last stage.
-    fn push_stage(&mut self, entry: SystemEntry<V, X>) -> Result<(), OutOfMemory>
+    fn push_stage(
+        &mut self,
+        entry: SystemEntry<V, Work<S, Nested<V, S, C>>>,
+    ) -> Result<(), OutOfMemory>
     where
         V: Drop,
-        X: Drop,
-        requires own_lists { IsEntryOf X.may_keep entry }
+        S: Drop,
+        C: Drop,
+        requires own_lists { IsEntryOf (OwnsItself (lists_of S.reads S.writes C.reads C.writes)) entry }
         ensures ok { OnOk result (planned self.new ≡ planned self.old ++ ((entry_plan entry ∷ []) ∷ []) ∷ []) }
         ensures err { OnErr result (planned self.new ≡ planned self.old) }
         ensures added { OnOk result (IsNew (builder_entries self.old) (builder_entries self.new) entry) }
@@ -233,7 +257,7 @@ impl<V, X: Occupant<C, V>, C> StagesBuilder<V, X, C> {
         &self,
         start: usize,
         mut left: SmallVec<SystemId, 4>,
-        entry: &SystemEntry<V, X>,
+        entry: &SystemEntry<V, Work<S, Nested<V, S, C>>>,
     ) -> Option<(usize, Spot)>
         requires { barrier_of self.now ≤ start }
         ensures { PlaceIs (planned self.now) (barrier_of self.now) start (numbers_of left.items) (entry_plan entry.now) result }
@@ -251,7 +275,12 @@ impl<V, X: Occupant<C, V>, C> StagesBuilder<V, X, C> {
     }
 }
 
-impl<V: ResourceValue + Drop, X: Occupant<C, V> + Drop, C> StagesBuilder<V, X, C> {
+impl<V: ResourceValue + Drop, S: System<V> + Drop, C: BatchController<V> + Drop> StagesBuilder<
+    V,
+    S,
+    C,
+> {
+    ghost use Rattle.shred_run.specs.declared.work.Work.TheVariants.{System as ASystem};
     ghost use Rattle.shred_stage.specs.BuilderPlan.{planned, barrier_of, builder_states};
     ghost use Rattle.shred_stage.specs.Inserted.{IsInserted};
     ghost use Rattle.shred_model.specs.Record.{Agent};
@@ -260,9 +289,9 @@ impl<V: ResourceValue + Drop, X: Occupant<C, V> + Drop, C> StagesBuilder<V, X, C
     pub fn insert_entry(
         &mut self,
         dependencies: &[SystemId],
-        entry: SystemEntry<V, X>,
+        entry: SystemEntry<V, Work<S, Nested<V, S, C>>>,
     ) -> Result<(), OutOfMemory>
-        requires own_lists { IsEntryOf X.may_keep entry }
+        requires own_lists { IsEntryOf (OwnsItself (lists_of S.reads S.writes C.reads C.writes)) entry }
         ensures inserted { OnOk result (IsInserted (planned self.old) (planned self.new) (builder_states self.old) (builder_states self.new) (barrier_of self.old) (numbers_of dependencies.now) (entry_plan entry) entry.system) }
         ensures err { OnErr result (planned self.new ≡ planned self.old) }
         ensures states { OnErr result ((path : Agent) → builder_states self.new path ≡ builder_states self.old path) }
@@ -272,86 +301,9 @@ impl<V: ResourceValue + Drop, X: Occupant<C, V> + Drop, C> StagesBuilder<V, X, C
         self.place(start, dependencies, entry)
     }
 
-    // `insert`, of a system in any plan that may hold it.
-    fn insert_system<S: System<V> + Drop>(
-        &mut self,
-        dependencies: &[SystemId],
-        id: SystemId,
-        system: S,
-    ) -> Result<(), OutOfMemory>
-    where
-        X: Holds<C, V, S>,
-        ensures placed { OnOk result ((entry : model.PlanEntry ResourceId) × IsKept id.0 (S.reads system) (S.writes system) (S.time system) entry
-            × IsInserted (planned self.old) (planned self.new) (builder_states self.old) (builder_states self.new) (barrier_of self.old) (numbers_of dependencies.now) entry (X.holds system)) }
-        ensures err { OnErr result (planned self.new ≡ planned self.old) }
-        ensures states { OnErr result ((path : Agent) → builder_states self.new path ≡ builder_states self.old path) }
-        ensures barrier { barrier_of self.new ≡ barrier_of self.old }
-    {
-        let alloc = *self.stages.allocator();
-        match kept_entry::<V, X, C, S>(alloc, id, system) {
-            Ok(entry) => self.insert_entry(dependencies, entry),
-            Err(e) => Err(e),
-        }
-    }
-}
-
-impl<V: ResourceValue, S: System<V>> StagesBuilder<V, S, NoBatch> {
-    ghost use Rattle.shred_stage.specs.BuilderPlan.{planned, barrier_of, builder_states};
-    ghost use Rattle.shred_stage.specs.Inserted.{IsInserted};
-    ghost use Rattle.shred_model.specs.Record.{Agent};
-
-    /// An empty plan of systems. It takes no memory.
-    pub fn new(alloc: Global) -> Self
-        ensures plan { planned result ≡ [] }
-        ensures barrier { barrier_of result ≡ 0 }
-        ensures states { (path : Agent) → builder_states result path ≡ None }
-    {
-        Self::empty(alloc)
-    }
-
-    /// An empty plan of systems, as of `new`.
-    pub fn default(alloc: Global) -> Self
-        ensures plan { planned result ≡ [] }
-        ensures barrier { barrier_of result ≡ 0 }
-        ensures states { (path : Agent) → builder_states result path ≡ None }
-    {
-        Self::empty(alloc)
-    }
-
     /// Gives the system its place in the plan, in the barrier's stage or a later one. Each dependency that the plan has
     /// stands in an earlier stage, or earlier in the same group. Where memory is refused, the plan is as it was, and the
     /// system is dropped.
-    pub fn insert(
-        &mut self,
-        dependencies: &[SystemId],
-        id: SystemId,
-        system: S,
-    ) -> Result<(), OutOfMemory>
-    where
-        V: Drop,
-        S: Drop,
-        ensures placed { OnOk result ((entry : model.PlanEntry ResourceId) × IsKept id.0 (S.reads system) (S.writes system) (S.time system) entry
-            × IsInserted (planned self.old) (planned self.new) (builder_states self.old) (builder_states self.new) (barrier_of self.old) (numbers_of dependencies.now) entry system) }
-        ensures err { OnErr result (planned self.new ≡ planned self.old) }
-        ensures states { OnErr result ((path : Agent) → builder_states self.new path ≡ builder_states self.old path) }
-        ensures barrier { barrier_of self.new ≡ barrier_of self.old }
-    {
-        self.insert_system(dependencies, id, system)
-    }
-}
-
-impl<
-    V: ResourceValue + Drop,
-    S: System<V, Error = E> + Drop,
-    C: BatchController<V, Error = E> + Drop,
-    E,
-> StagesBuilder<V, Work<S, Nested<V, S, C>>, Batched<C>> {
-    ghost use Rattle.shred_batch.specs.declared.work.Work.TheVariants.{System as ASystem};
-    ghost use Rattle.shred_stage.specs.BuilderPlan.{planned, barrier_of, builder_states};
-    ghost use Rattle.shred_stage.specs.Inserted.{IsInserted};
-    ghost use Rattle.shred_model.specs.Record.{Agent};
-
-    /// As into a plan of systems alone.
     pub fn insert(
         &mut self,
         dependencies: &[SystemId],
@@ -364,32 +316,10 @@ impl<
         ensures states { OnErr result ((path : Agent) → builder_states self.new path ≡ builder_states self.old path) }
         ensures barrier { barrier_of self.new ≡ barrier_of self.old }
     {
-        self.insert_system(dependencies, id, system)
+        let alloc = *self.stages.allocator();
+        match system_entry(alloc, id, system) {
+            Ok(entry) => self.insert_entry(dependencies, entry),
+            Err(e) => Err(e),
+        }
     }
-}
-
-/// The entry that is kept of a system.
-pub fn kept_entry<V: ResourceValue + Drop, X: Holds<C, V, S>, C, S: System<V> + Drop>(
-    alloc: Global,
-    id: SystemId,
-    system: S,
-) -> Result<SystemEntry<V, X>, OutOfMemory>
-    ensures kept { IfOk result (λ entry. IsKept id.0 (S.reads system) (S.writes system) (S.time system) (entry_plan entry)) }
-    ensures same { IfOk result (λ entry. entry.system ≡ X.holds system) }
-    ensures own_lists { IfOk result (IsEntryOf X.may_keep) }
-{
-    let time = system.running_time();
-    let accessor = system.accessor(alloc)?;
-    let mut reads = accessor.reads(alloc)?;
-    let writes = accessor.writes(alloc)?;
-    let hand = empty_hand(alloc, writes.as_slice())?;
-    sort_without_doubles(&mut reads);
-    Ok(SystemEntry {
-        id,
-        reads,
-        writes,
-        time,
-        system: X::hold(system),
-        hand,
-    })
 }

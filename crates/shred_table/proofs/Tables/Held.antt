@@ -8,7 +8,7 @@ use Rattle.shred_table.specs.declared.id.Kind.{Kind}
 use Rattle.shred_table.specs.declared.id.ResourceId.{ResourceId}
 use Rattle.shred_table.specs.declared.table.Table.{Table}
 use Rattle.shred_table.specs.Id.{same_id}
-use Rattle.shred_table.specs.Slots.{of_kind, slot_at, slot_held, held, with_at, without_at}
+use Rattle.shred_table.specs.Slots.{of_kind, slot_at, slot_held, held, with_at}
 use Rattle.shred_table.proofs.Tables.Slots.{same_id-true}
 
 -- what follows from a fact, where there is a value
@@ -61,17 +61,3 @@ module _ {V : Type 0} (kind : V → Kind) (t n : Table V) (id : ResourceId) wher
     told : (b : Bool) → same_id id q ≡ b → slot_held kind q (cond b (Some (record { value = Some v })) (slot_at t q)) ≡ cond b (of_kind kind id (Some v)) (held kind t q)
     told true e = ap (λ (i : ResourceId). of_kind kind i (Some v)) (sym (same_id-true id q e))
     told false e = refl
-
-  -- the slot was taken away
-  pub held-removed : ((q : ResourceId) → slot_at n q ≡ with_at (slot_at t) id None q) → (q : ResourceId) → held kind n q ≡ without_at (held kind t) id q
-  held-removed is q = ap (slot_held kind q) (is q) ∙ told (same_id id q) where
-    told : (b : Bool) → slot_held kind q (cond b None (slot_at t q)) ≡ cond b None (held kind t q)
-    told true = refl
-    told false = refl
-
-  -- the slot was emptied
-  pub held-emptied : ((q : ResourceId) → slot_at n q ≡ with_at (slot_at t) id (Some (record { value = None })) q) → (q : ResourceId) → held kind n q ≡ without_at (held kind t) id q
-  held-emptied is q = ap (slot_held kind q) (is q) ∙ told (same_id id q) where
-    told : (b : Bool) → slot_held kind q (cond b (Some (record { value = None })) (slot_at t q)) ≡ cond b None (held kind t q)
-    told true = refl
-    told false = refl

@@ -2,23 +2,18 @@
 use Rattle.std.proofs.Common.{◌≡◌, ℕ, ◌<◌, ◌≤◌, ◌+◌, Bool, true, false, ◌||◌, Option, Some, None, cond, List, length, get_or, take, drop, refl, sym, ◌∙◌, ap, take-append-drop}
 use Rattle.std.specs.Prelude.{is_some, ◌&&◌}
 use Rattle.std.proofs.lemmas.List.{take_all}
-use Rattle.std.proofs.lemmas.List.Folds.{list_any-append, list_any_more, list_any_at}
+use Rattle.std.proofs.lemmas.List.Folds.{list_any-append, list_any_more}
 use Rattle.shred_table.specs.declared.id.ResourceId.{ResourceId}
 use Rattle.shred_table.specs.declared.table.Slot.{Slot}
 use Rattle.shred_table.specs.Id.{same_id}
 use Rattle.shred_table.specs.Slots.{with_at, among}
 use Rattle.shred_table.specs.Parting.{emptied, slot_value, given}
-use Rattle.shred_table.proofs.Tables.Slots.{same_id-refl}
 
 -- an id among the first of a list is in the list
 pub among-within : (k : ℕ) (ids : List ResourceId) (q : ResourceId) → among (take k ids) q ≡ true → among ids q ≡ true
 among-within k ids q h =
     let whole : among ids q ≡ (among (take k ids) q || among (drop k ids) q) = ap (λ (l : List ResourceId). among l q) (sym (take-append-drop k ids)) ∙ list_any-append (λ x. same_id x q) (take k ids) (drop k ids) in
     whole ∙ rw h refl
-
--- the id at a place of a list is in it
-pub among-at : (k : ℕ) (ids : List ResourceId) (d : ResourceId) → k < length ids → among ids (get_or ids k d) ≡ true
-among-at k ids d h = list_any_at (λ x. same_id x (get_or ids k d)) ids k d h (same_id-refl (get_or ids k d))
 
 -- one id more, at which w stands
 pub cond-more : {X : Type 0} (m n : ResourceId → X) (k : ℕ) (ids : List ResourceId) (d : ResourceId) → k < length ids

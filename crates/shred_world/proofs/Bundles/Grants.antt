@@ -100,10 +100,6 @@ module _ {V : Type 0} (kind : V → Kind) (s n : View V) (reads : n.reads ≡ s.
   noted_out : (q : ResourceId) (m : Bool) (o : Option (Slot V)) → noted n q ≡ m → slot_at n.own.now q ≡ o → is_out n q ≡ (is_own s q && (m && is_vacant o))
   noted_out q m o notes is = λ i. ((length (shelf i).now == 0) || among (owned i).now q) && (notes i && is_vacant (is i))
 
-  -- nothing was moved
-  pub grant_kept : ((q : ResourceId) → noted n q ≡ noted s q) → ((q : ResourceId) → slot_at n.own.now q ≡ slot_at s.own.now q) → grant_of kind n ≡ grant_of kind s
-  grant_kept notes is = granted (is_out s) (view_held kind s) (λ q. noted_out q (noted s q) (slot_at s.own.now q) (notes q) (is q)) (λ q. shows_slot q (slot_at s.own.now q) (is q))
-
   module _ (id : ResourceId) (v : V) (own : is_own s id ≡ true) where
     own_at : (q : ResourceId) → same_id id q ≡ true → is_own s q ≡ true
     own_at q e = ap (is_own s) (sym (same_id-true id q e)) ∙ own

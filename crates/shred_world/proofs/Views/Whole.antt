@@ -1,17 +1,12 @@
 -- Views of all that a table holds, and bundles that are taken of them.
-use Rattle.std.proofs.Common.{◌≡◌, Bool, true, false, ◌&&◌, ◌||◌, List, [], ◌∷◌, subst, refl, sym, ◌∙◌, ap}
+use Rattle.std.proofs.Common.{◌≡◌, Bool, true, false, ◌||◌, List, [], ◌∷◌, subst, refl, sym, ◌∙◌}
 use Rattle.std.specs.Prelude.{Option, Some, None, Result, Ok, Err, OnErr}
-use Rattle.shred_table.specs.declared.id.Kind.{Kind}
 use Rattle.shred_table.specs.declared.id.ResourceId.{ResourceId}
-use Rattle.shred_world.specs.declared.world.view.View.{View}
 use Rattle.shred_world.specs.Bundles.{Part, moved_for, after_moved, after_part, after_parts, moved_at, moved_parts, bundle_refusal, ids_of, AreAllOut}
-use Rattle.shred_world.specs.Grants.{Grant, grant_of, map_grant, table_grant, Moved}
+use Rattle.shred_world.specs.Grants.{Grant, map_grant, Moved}
 use Rattle.shred_table.specs.Id.{same_id}
-use Rattle.shred_table.specs.Slots.{among, noted_in, slot_at}
-use Rattle.shred_world.specs.Views.{is_whole}
-use Rattle.shred_table.specs.Slots.{is_vacant}
+use Rattle.shred_table.specs.Slots.{among}
 use Rattle.shred_world.proofs.Bundles.Parts.{moved_are_out}
-use Rattle.shred_world.proofs.Views.Refusals.{whole-alone, whole-held}
 
 or_true : (b : Bool) → (b || true) ≡ true
 or_true true = refl
@@ -31,16 +26,6 @@ or_swap false false c = refl
 pub OnErr-map : {X E P Q : Type 0} (r : Result X E) → (P → Q) → OnErr r P → OnErr r Q
 OnErr-map (Ok x) f h = tt
 OnErr-map (Err e) f h = f h
-
--- a view of all that a table holds grants all of the table
-pub whole-grant : {V : Type 0} (kind : V → Kind) (v : View V) → is_whole v ≡ true → grant_of kind v ≡ table_grant kind v.own.now
-whole-grant kind v e = λ i. record {
-  reads = λ q. (ap (λ b. among v.reads.now q || (b || (among v.writes.now q && among v.owned.now q))) e ∙ or_true (among v.reads.now q)) i;
-  writes = λ q. ap (λ b. b || (among v.writes.now q && among v.owned.now q)) e i;
-  own = λ q. whole-alone v e i || among v.owned.now q;
-  out = λ q. (whole-alone v e i || among v.owned.now q) && (noted_in v.own.now q && is_vacant (slot_at v.own.now q));
-  held = whole-held kind v e i;
-}
 
 -- after the parts what was out before is out, and what was moved out for them
 out_after : {V : Type 0} (g : Grant V) (ps : List Part) (q : ResourceId) → (after_parts g ps).out q ≡ (among (ids_of (moved_parts g ps)) q || g.out q)

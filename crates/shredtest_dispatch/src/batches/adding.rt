@@ -2,21 +2,21 @@
 
 use crate::batches::adds::{Adds, adds_to};
 use crate::batches::bounds::{Bounds, times};
-use crate::batches::plans::{Builder, add_batch, around, plan_of};
+use crate::batches::plans::{AddsBuilder, add_batch, around, plan_of};
 use shred::{AddError, DispatcherBuilder, SystemId};
 use std::alloc::Global;
 use std::process::Abort;
 use std::test::Fail;
 
-fn named(alloc: Global, system: Adds) -> Result<Builder, AddError> {
-    let builder: Builder = DispatcherBuilder::empty(alloc);
+fn named(alloc: Global, system: Adds) -> Result<AddsBuilder, AddError> {
+    let builder: AddsBuilder = DispatcherBuilder::new(alloc);
     builder.with(system, "a", &[])
 }
 
 /// The builder answers so to a batch of this name.
 fn expect_added(
     rt: &(impl Abort + AllocGlobal),
-    builder: &mut Builder,
+    builder: &mut AddsBuilder,
     name: &str,
     dependencies: &[&str],
     answer: Result<SystemId, AddError>,
@@ -39,7 +39,7 @@ fn a_refused_batch_leaves_the_builder(rt: HostRuntime) -> Result<(), Fail> {
     Ok(())
 }
 
-fn add_behind(alloc: Global, builder: &mut Builder) -> Result<SystemId, AddError> {
+fn add_behind(alloc: Global, builder: &mut AddsBuilder) -> Result<SystemId, AddError> {
     let inner = named(alloc, adds_to(1, 1))?;
     add_batch(builder, times(3, 1), inner, "b", &["a"])
 }

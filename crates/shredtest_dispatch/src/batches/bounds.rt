@@ -1,6 +1,6 @@
 //! A controller that runs its plan up to a bound, and says no after some rounds.
 ghost use Rattle.std.specs.Prelude.{◌≡◌, [], ◌∷◌};
-ghost use Rattle.shred_group.specs.declared.system.RunningTime.TheVariants.{VeryLong};
+ghost use Rattle.shred_run.specs.declared.system.RunningTime.TheVariants.{VeryLong};
 ghost use Rattle.shred_table.specs.Id.{id_of};
 ghost use Rattle.shredtest.specs.Values.{count_kind};
 

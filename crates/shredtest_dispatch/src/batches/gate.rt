@@ -1,11 +1,11 @@
 //! Systems of an inner plan that wait for each other.
 ghost use Rattle.std.specs.Prelude.{[]};
-ghost use Rattle.shred_group.specs.declared.system.RunningTime.TheVariants.{Average, VeryLong};
+ghost use Rattle.shred_run.specs.declared.system.RunningTime.TheVariants.{Average, VeryLong};
 
 use crate::ended::{DONE, Ended, ended, run_ended};
 use shred::{
-    AddError, BatchBuilder, BatchController, BatchDispatcher, DispatcherBuilder, Fault, Now,
-    OutOfMemory, RunningTime, System, SystemId, View, World,
+    AddError, BatchController, Dispatcher, DispatcherBuilder, Fault, OutOfMemory, RunningTime,
+    System, SystemId, View, World,
 };
 use shredtest::values::Value;
 use std::alloc::Global;
@@ -111,9 +111,9 @@ impl BatchController<Value> for Once {
     }
 }
 
-type Builder<'f> = BatchBuilder<Value, Meets<'f>, Once, Now<Meets<'f>>>;
+type MeetsBuilder<'f> = DispatcherBuilder<Value, Meets<'f>, Once>;
 
-type Dispatcher<'f> = BatchDispatcher<Value, Meets<'f>, Once, Now<Meets<'f>>>;
+type MeetsDispatcher<'f> = Dispatcher<Value, Meets<'f>, Once>;
 
 /// By which call a plan is run.
 #[derive(Clone, Copy)]
@@ -136,20 +136,27 @@ struct Ring {
     turns: u32,
 }
 
-fn builder_on<'f>(alloc: Global, workers: usize) -> Builder<'f> {
-    let builder: Builder = DispatcherBuilder::empty(alloc);
+fn builder_on<'f>(alloc: Global, workers: usize) -> MeetsBuilder<'f> {
+    let builder: MeetsBuilder = DispatcherBuilder::new(alloc);
     builder.with_pool(workers)
 }
 
-fn add_meeting<'f>(builder: &mut Builder<'f>, meets: Meets<'f>) -> Result<SystemId, AddError> {
+fn add_meeting<'f>(builder: &mut MeetsBuilder<'f>, meets: Meets<'f>) -> Result<SystemId, AddError> {
     builder.add(meets, "", &[])
 }
 
-fn add_batch<'f>(builder: &mut Builder<'f>, inner: Builder<'f>) -> Result<SystemId, AddError> {
+fn add_batch<'f>(
+    builder: &mut MeetsBuilder<'f>,
+    inner: MeetsBuilder<'f>,
+) -> Result<SystemId, AddError> {
     builder.add_batch(Once, inner, "", &[])
 }
 
-fn ring_of(alloc: Global, flags: &[AtomicBool; 4], ring: Ring) -> Result<Builder<'_>, AddError> {
+fn ring_of(
+    alloc: Global,
+    flags: &[AtomicBool; 4],
+    ring: Ring,
+) -> Result<MeetsBuilder<'_>, AddError> {
     let mut builder = builder_on(alloc, ring.inner_workers);
     for place in 0..ring.systems.min(4) {
         let meets = Meets {
@@ -162,8 +169,8 @@ fn ring_of(alloc: Global, flags: &[AtomicBool; 4], ring: Ring) -> Result<Builder
     Ok(builder)
 }
 
-fn inside<'f>(alloc: Global, inner: Builder<'f>) -> Result<Builder<'f>, AddError> {
-    let builder: Builder = DispatcherBuilder::empty(alloc);
+fn inside<'f>(alloc: Global, inner: MeetsBuilder<'f>) -> Result<MeetsBuilder<'f>, AddError> {
+    let builder: MeetsBuilder = DispatcherBuilder::new(alloc);
     builder.with_batch(Once, inner, "", &[])
 }
 
@@ -171,9 +178,9 @@ fn inside<'f>(alloc: Global, inner: Builder<'f>) -> Result<Builder<'f>, AddError
 fn outermost<'f>(
     alloc: Global,
     alone: &'f AtomicBool,
-    batch: Builder<'f>,
+    batch: MeetsBuilder<'f>,
     ring: Ring,
-) -> Result<Builder<'f>, AddError> {
+) -> Result<MeetsBuilder<'f>, AddError> {
     let mut builder = builder_on(alloc, ring.workers);
     if ring.beside {
         let meets = Meets {
@@ -193,7 +200,7 @@ fn builder_of<'f>(
     flags: &'f [AtomicBool; 4],
     alone: &'f AtomicBool,
     ring: Ring,
-) -> Result<Builder<'f>, AddError> {
+) -> Result<MeetsBuilder<'f>, AddError> {
     let mut builder = ring_of(alloc, flags, ring)?;
     for _ in 1..ring.levels {
         builder = inside(alloc, builder)?;
@@ -203,7 +210,7 @@ fn builder_of<'f>(
 
 fn dispatched(
     rt: &(impl Threads + Sync),
-    dispatcher: &mut Dispatcher<'_>,
+    dispatcher: &mut MeetsDispatcher<'_>,
     world: &mut World<Value>,
 ) -> Ended {
     ended(dispatcher.dispatch(rt, world))
@@ -211,7 +218,7 @@ fn dispatched(
 
 fn dispatched_par(
     rt: &(impl Threads + Sync),
-    dispatcher: &mut Dispatcher<'_>,
+    dispatcher: &mut MeetsDispatcher<'_>,
     world: &mut World<Value>,
 ) -> Ended {
     ended(dispatcher.dispatch_par(rt, world))
@@ -219,7 +226,7 @@ fn dispatched_par(
 
 fn run(
     rt: &(impl Threads + Sync),
-    dispatcher: &mut Dispatcher<'_>,
+    dispatcher: &mut MeetsDispatcher<'_>,
     world: &mut World<Value>,
 ) -> Ended {
     run_ended(dispatcher.run_now(rt, world.local()))
@@ -227,7 +234,7 @@ fn run(
 
 fn called(
     rt: &(impl Threads + Sync),
-    dispatcher: &mut Dispatcher<'_>,
+    dispatcher: &mut MeetsDispatcher<'_>,
     world: &mut World<Value>,
     call: Call,
 ) -> Ended {
@@ -239,7 +246,11 @@ fn called(
 }
 
 /// How that call ends, over an empty world.
-fn end_of(rt: &(impl AllocGlobal + Threads + Sync), builder: Builder<'_>, call: Call) -> Ended {
+fn end_of(
+    rt: &(impl AllocGlobal + Threads + Sync),
+    builder: MeetsBuilder<'_>,
+    call: Call,
+) -> Ended {
     let mut dispatcher = builder.build();
     let mut world: World<Value> = World::empty(rt.alloc());
     called(rt, &mut dispatcher, &mut world, call)

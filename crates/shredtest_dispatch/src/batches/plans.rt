@@ -3,19 +3,19 @@
 use crate::batches::adds::Adds;
 use crate::batches::bounds::Bounds;
 use crate::ended::{Ended, ended, run_ended};
-use shred::{AddError, BatchBuilder, BatchDispatcher, DispatcherBuilder, Now, SystemId, World};
-use shred_orders::{dispatch_batches_interleaved, run_batches_now};
+use shred::{AddError, DispatchError, Dispatcher, DispatcherBuilder, RunNow, SystemId, World};
+use shred_orders::dispatch_interleaved;
 use shredtest::values::Value;
 use std::alloc::Global;
 use std::thread::Threads;
 
-pub(crate) type Builder = BatchBuilder<Value, Adds, Bounds, Now<Adds>>;
+pub(crate) type AddsBuilder = DispatcherBuilder<Value, Adds, Bounds>;
 
-pub(crate) type Dispatcher = BatchDispatcher<Value, Adds, Bounds, Now<Adds>>;
+pub(crate) type AddsDispatcher = Dispatcher<Value, Adds, Bounds>;
 
 /// A builder with these systems, which depend on nothing.
-pub(crate) fn plan_of(alloc: Global, systems: &[Adds]) -> Result<Builder, AddError> {
-    let mut builder: Builder = DispatcherBuilder::empty(alloc);
+pub(crate) fn plan_of(alloc: Global, systems: &[Adds]) -> Result<AddsBuilder, AddError> {
+    let mut builder: AddsBuilder = DispatcherBuilder::new(alloc);
     for system in systems {
         builder.add(*system, "", &[])?;
     }
@@ -23,9 +23,9 @@ pub(crate) fn plan_of(alloc: Global, systems: &[Adds]) -> Result<Builder, AddErr
 }
 
 pub(crate) fn add_batch(
-    builder: &mut Builder,
+    builder: &mut AddsBuilder,
     controller: Bounds,
-    inner: Builder,
+    inner: AddsBuilder,
     name: &str,
     dependencies: &[&str],
 ) -> Result<SystemId, AddError> {
@@ -37,8 +37,8 @@ pub(crate) fn around(
     alloc: Global,
     beside: &[Adds],
     controller: Bounds,
-    inner: Builder,
-) -> Result<Builder, AddError> {
+    inner: AddsBuilder,
+) -> Result<AddsBuilder, AddError> {
     let mut builder = plan_of(alloc, beside)?;
     add_batch(&mut builder, controller, inner, "", &[])?;
     Ok(builder)
@@ -54,33 +54,38 @@ pub(crate) enum Call {
     Interleaved,
     ThreadLocal,
     RunNow,
-    RunBatchesNow,
+    RunAny,
 }
 
 fn interleaved(
     rt: &(impl Threads + Sync),
-    dispatcher: &mut Dispatcher,
+    dispatcher: &mut AddsDispatcher,
     world: &mut World<Value>,
 ) -> Ended {
-    ended(dispatch_batches_interleaved(rt, dispatcher, world))
+    ended(dispatch_interleaved(rt, dispatcher, world))
 }
 
-fn run(rt: &(impl Threads + Sync), dispatcher: &mut Dispatcher, world: &mut World<Value>) -> Ended {
+fn run(
+    rt: &(impl Threads + Sync),
+    dispatcher: &mut AddsDispatcher,
+    world: &mut World<Value>,
+) -> Ended {
     run_ended(dispatcher.run_now(rt, world.local()))
 }
 
-fn run_batches(
+/// A run by the trait's method, which does not know that it runs a dispatcher.
+fn run_any<D: RunNow<Value, Error = DispatchError<u8>>>(
     rt: &(impl Threads + Sync),
-    dispatcher: &mut Dispatcher,
+    dispatcher: &mut D,
     world: &mut World<Value>,
 ) -> Ended {
-    run_ended(run_batches_now(rt, dispatcher, world.local()))
+    run_ended(dispatcher.run_now(rt, world.local()))
 }
 
 /// How the call ends.
 pub(crate) fn called(
     rt: &(impl Threads + Sync),
-    dispatcher: &mut Dispatcher,
+    dispatcher: &mut AddsDispatcher,
     world: &mut World<Value>,
     call: Call,
 ) -> Ended {
@@ -92,6 +97,6 @@ pub(crate) fn called(
         Call::Interleaved => interleaved(rt, dispatcher, world),
         Call::ThreadLocal => ended(dispatcher.dispatch_thread_local(rt, world)),
         Call::RunNow => run(rt, dispatcher, world),
-        Call::RunBatchesNow => run_batches(rt, dispatcher, world),
+        Call::RunAny => run_any(rt, dispatcher, world),
     }
 }

@@ -2,7 +2,7 @@
 
 use crate::batches::adds::{Adds, IDLE, expect_counts, world_of};
 use crate::batches::bounds::{Bounds, NEVER, times};
-use crate::batches::plans::{Builder, Call, Dispatcher, around, called, plan_of};
+use crate::batches::plans::{AddsBuilder, AddsDispatcher, Call, around, called, plan_of};
 use crate::ended::{DONE, Ended};
 use shred::AddError;
 use std::alloc::Global;
@@ -187,7 +187,7 @@ const ROWS: &[Row] = &[
     },
 ];
 
-fn builder_of(alloc: Global, row: &Row) -> Result<Builder, AddError> {
+fn builder_of(alloc: Global, row: &Row) -> Result<AddsBuilder, AddError> {
     let mut builder = plan_of(alloc, row.systems)?;
     for level in row.levels {
         builder = around(alloc, level.beside, level.controller, builder)?;
@@ -198,7 +198,7 @@ fn builder_of(alloc: Global, row: &Row) -> Result<Builder, AddError> {
     Ok(builder)
 }
 
-fn dispatcher_of(alloc: Global, row: &Row, workers: usize) -> Result<Dispatcher, AddError> {
+fn dispatcher_of(alloc: Global, row: &Row, workers: usize) -> Result<AddsDispatcher, AddError> {
     let builder = builder_of(alloc, row)?;
     Ok(builder.with_pool(workers).build())
 }

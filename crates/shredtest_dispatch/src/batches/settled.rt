@@ -2,7 +2,7 @@
 
 use crate::batches::adds::{Adds, IDLE, expect_counts, world_of};
 use crate::batches::bounds::{Bounds, times};
-use crate::batches::plans::{Call, Dispatcher, around, called, plan_of};
+use crate::batches::plans::{AddsDispatcher, Call, around, called, plan_of};
 use crate::ended::{DONE, Ended, ended};
 use shred::{AddError, Now, World};
 use shredtest::values::Value;
@@ -39,7 +39,7 @@ const TURNS: &[Turn] = &[
         counts: [17, 6, 15],
     },
     Turn {
-        call: Call::RunBatchesNow,
+        call: Call::RunAny,
         counts: [21, 8, 20],
     },
 ];
@@ -60,7 +60,7 @@ const LOCAL: Adds = Adds {
 };
 
 /// The dispatcher of a batch that runs the system twice, and of the thread-local system.
-fn dispatcher_of(alloc: Global) -> Result<Dispatcher, AddError> {
+fn dispatcher_of(alloc: Global) -> Result<AddsDispatcher, AddError> {
     let controller = Bounds {
         inserts: Some(0),
         ..times(1, 2)
@@ -74,7 +74,7 @@ fn dispatcher_of(alloc: Global) -> Result<Dispatcher, AddError> {
 /// The call is done, and leaves these counts.
 fn expect_turn(
     rt: &(impl Abort + Threads + Sync),
-    dispatcher: &mut Dispatcher,
+    dispatcher: &mut AddsDispatcher,
     world: &mut World<Value>,
     turn: &Turn,
 ) {
@@ -82,7 +82,7 @@ fn expect_turn(
     expect_counts(rt, world, &turn.counts);
 }
 
-fn disposed(dispatcher: Dispatcher, world: &mut World<Value>) -> Ended {
+fn disposed(dispatcher: AddsDispatcher, world: &mut World<Value>) -> Ended {
     ended(dispatcher.dispose(world))
 }
 

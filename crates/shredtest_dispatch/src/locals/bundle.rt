@@ -48,9 +48,8 @@ impl RunNow<Value> for TakesBundle {
 #[test]
 fn a_local_system_writes_in_a_bundle(rt: HostRuntime) -> Result<(), Fail> {
     let mut world = world_of(rt.alloc(), &[Some(1)])?;
-    let builder: DispatcherBuilder<Value, Script, NoBatch, TakesBundle> = DispatcherBuilder::new(
-        rt.alloc(),
-    );
+    let builder: DispatcherBuilder<Value, Script, NoBatch<u8>, TakesBundle> =
+        DispatcherBuilder::new(rt.alloc());
     let mut dispatcher = builder.with_thread_local(TakesBundle)?.build();
     let end = run_ended(dispatcher.run_now(&rt, world.local()));
     assert_eq!(rt; end, DONE);

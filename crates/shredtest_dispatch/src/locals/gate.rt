@@ -1,6 +1,6 @@
 //! Four systems of one stage that wait for each other.
 ghost use Rattle.std.specs.Prelude.{[]};
-ghost use Rattle.shred_group.specs.declared.system.RunningTime.TheVariants.{Average};
+ghost use Rattle.shred_run.specs.declared.system.RunningTime.TheVariants.{Average};
 
 use crate::ended::{DONE, Ended, ended, run_ended};
 use shred::{

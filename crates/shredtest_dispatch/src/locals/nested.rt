@@ -33,7 +33,7 @@ impl PlainSystem<Value> for Quiet {
     }
 }
 
-type Outer = Dispatcher<Value, Plain<Quiet>, NoBatch, Dispatcher<Value, Script>>;
+type Outer = Dispatcher<Value, Plain<Quiet>, NoBatch<DispatchError<u8>>, Dispatcher<Value, Script>>;
 
 /// A dispatcher whose one thread-local system is a dispatcher of these two, the second of which is thread-local.
 fn outer_of(alloc: Global, staged: Script, local: Script) -> Result<Outer, Fail> {
@@ -42,8 +42,12 @@ fn outer_of(alloc: Global, staged: Script, local: Script) -> Result<Outer, Fail>
         .with(staged, "", &[])?
         .with_thread_local(Now(local))?
         .build();
-    let outer: DispatcherBuilder<Value, Plain<Quiet>, NoBatch, Dispatcher<Value, Script>> =
-        DispatcherBuilder::new(alloc);
+    let outer: DispatcherBuilder<
+        Value,
+        Plain<Quiet>,
+        NoBatch<DispatchError<u8>>,
+        Dispatcher<Value, Script>,
+    > = DispatcherBuilder::new(alloc);
     Ok(
         outer
             .with(Plain(Quiet), "", &[])?

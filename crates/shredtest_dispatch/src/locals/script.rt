@@ -1,6 +1,6 @@
 //! A system that does to one count what its script says.
 ghost use Rattle.std.specs.Prelude.{◌≡◌, [], ◌∷◌};
-ghost use Rattle.shred_group.specs.declared.system.RunningTime.TheVariants.{Average};
+ghost use Rattle.shred_run.specs.declared.system.RunningTime.TheVariants.{Average};
 ghost use Rattle.shred_table.specs.Id.{id_of};
 ghost use Rattle.shredtest.specs.Values.{count_kind};
 

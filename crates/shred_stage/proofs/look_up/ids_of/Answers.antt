@@ -7,7 +7,7 @@ use Rattle.shred_stage.proofs.look_up.ids_of.Goals as goal
 use denote.Ref.{Bor}
 use Rattle.std.proofs.lemmas.List.{length-map, take_all}
 use Rattle.shred_stage.specs.Known.{known_ids}
-use Rattle.shred_group.specs.PlanOf.{numbers_of}
+use Rattle.shred_run.specs.PlanOf.{numbers_of}
 
 pub loop-place-init : goal.loop-place-init
 loop-place-init c = ap numbers_of c.new-ids.ensures.items

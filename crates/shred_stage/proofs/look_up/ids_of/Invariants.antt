@@ -1,7 +1,7 @@
 use Rattle.std.proofs.Common.{◌≡◌, take}
 use Rattle.shred_stage.specs.Known.{known_ids, texts_of}
 use Rattle.shred_stage.specs.Names.{names_of}
-use Rattle.shred_group.specs.PlanOf.{numbers_of}
+use Rattle.shred_run.specs.PlanOf.{numbers_of}
 use Rattle.shred_stage.proofs.look_up.ids_of.Given as goal
 
 abbrev pub invariant-loop-place : goal.invariant-loop-place

@@ -5,10 +5,10 @@ pub returns : goal.returns
 returns c = (
   built c.in_ok-plan.plan,
   record {
-    empty = built c.empty_plan.result;
+    empty = built c.new.result;
     round = built c.in_ok-round.round;
     controller = c.new-controller.result;
-    starts = c.empty_plan.ensures;
+    starts = c.new.ensures;
     is_round = c.in_ok-round.ensures;
     as_often = c.new-controller.ensures;
     batch = c.in_ok-plan.ensures.added;

@@ -1,7 +1,6 @@
-use Rattle.std.proofs.Common.{Option, sym, subst}
+use Rattle.std.proofs.Common.{sym, subst}
 use Rattle.std.proofs.Math.Path.{fun_ext}
 use Rattle.shred_model.specs.Plan.{Plan}
-use Rattle.shred_model.specs.Record.{Agent}
 use Rattle.shred_table.specs.declared.id.ResourceId.{ResourceId}
 use Rattle.shred.specs.Dispatchers.{dispatcher_states}
 use Rattle.shred_stage.specs.StagePlan.{plan_of}
@@ -10,10 +9,9 @@ use Rattle.shredexamples.proofs.two_systems.dispatcher_of.Goals as goal
 
 pub returns : goal.returns
 returns g c =
-    let S : Type 0 = g.row.S.Denot in
     let reads = g.S.System.reads in
     let writes = g.S.System.writes in
     let stages = c.in_ok-stages.stages in
     let made = c.new_dispatcher.result in
     subst (λ (p : Plan ResourceId). HasInOrder reads writes c.args.first c.args.second p (dispatcher_states made)) (sym c.new_dispatcher.ensures.plan)
-    (subst (λ (s : Agent → Option S). HasInOrder reads writes c.args.first c.args.second (plan_of stages.items) s) (fun_ext (λ path. sym (c.new_dispatcher.ensures.states path))) c.in_ok-stages.ensures)
+    (subst (HasInOrder reads writes c.args.first c.args.second (plan_of stages.items)) (fun_ext (λ path. sym (c.new_dispatcher.ensures.states path))) c.in_ok-stages.ensures)

@@ -8,7 +8,7 @@ use Rattle.shredscript.proofs.Lines.{built-none, built-more, done-more}
 use Rattle.shredscript.proofs.build.builder_of.Goals as goal
 
 pub loop-line-init : goal.loop-line-init
-loop-line-init c = record { made = built-none _ _ (ap (map begun) c.new.ensures.items) c.empty.ensures; rest = c.into_iter-line-iterator.ensures.into_iter_gives.0; long = search rules }
+loop-line-init c = record { made = built-none _ _ (ap (map begun) c.new-2.ensures.items) c.new.ensures; rest = c.into_iter-line-iterator.ensures.into_iter_gives.0; long = search rules }
 
 pub loop-line-preserved : goal.loop-line-preserved
 loop-line-preserved c = record {

@@ -9,6 +9,6 @@ pub returns-in-Ok-clause-opened : goal.returns-in-Ok-clause-opened
 returns-in-Ok-clause-opened c =
     let around = c.replace-outer.ensures in
     let pushed = c.in-Ok.ensures.ok in (
-      subst (λ builder. IsNewBuilt (built builder)) (sym around.after) c.empty.ensures,
+      subst (λ builder. IsNewBuilt (built builder)) (sym around.after) c.new.ensures,
       ap (map begun) pushed ∙ map-append begun c.args.building.now.«open».items _ ∙ ap (λ builder. map begun c.args.building.now.«open».items ++ (c.args.batch, built builder) ∷ []) around.value,
     )

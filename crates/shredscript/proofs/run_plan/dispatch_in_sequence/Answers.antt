@@ -1,10 +1,10 @@
 use Rattle.std.proofs.Common.{Ok, Err, refl, sym, subst, ◌∙◌}
 use Rattle.std.proofs.Math.Path.{fun_ext}
-use Rattle.shred_stage.specs.Dispatched.{Dispatched}
+use Rattle.shred_run.specs.Dispatched.{Dispatched}
+use Rattle.shred_stage.specs.Situations.{dispatch_answer}
 use Rattle.shred_world.specs.Worlds.{world_held}
 use Rattle.shred.specs.Dispatchers.{dispatcher_over}
-use Rattle.shred.specs.PlanRuns.{PlanRun}
-use Rattle.shredscript.specs.Runs.{work_step}
+use Rattle.shredscript.specs.Runs.{script_related}
 use Rattle.shredscript_text.specs.Value.{kind_of}
 use Rattle.shredscript.proofs.run_plan.dispatch_in_sequence.Goals as goal
 
@@ -15,8 +15,8 @@ returns-in-Ok g c =
     record {
       of_plan = Ok tt;
       middle = world_held kind_of c.dispatch_seq.new.world;
-      dispatched = subst (λ after. Dispatched kind_of (PlanRun kind_of work_step) (dispatcher_over kind_of c.args.dispatcher.now c.args.world.now) (Ok tt) after)
-          (λ i. record { plan = sym later.plan i; states = sym states i; values = world_held kind_of c.dispatch_seq.new.world }) c.in-Ok.ensures.dispatched;
+      dispatched = subst (λ after. Dispatched kind_of script_related dispatch_answer (dispatcher_over kind_of c.args.dispatcher.now c.args.world.now) (Ok tt) after)
+          (λ i. record { plan = sym later.plan i; works = sym states i; values = world_held kind_of c.dispatch_seq.new.world }) c.in-Ok.ensures.dispatched;
       locals = rw c.in-Ok.ensures.locals at later.run;
       workers = later.workers ∙ c.in-Ok.ensures.workers;
     }

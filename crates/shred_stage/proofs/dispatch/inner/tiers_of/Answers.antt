@@ -3,13 +3,15 @@ use Rattle.std.specs.Vec.Iter.{into_iter_items}
 use Rattle.std.proofs.lemmas.List.{length-map, map-append}
 use Rattle.std.proofs.lemmas.List.Elements.{All-push}
 use Rattle.std.specs.List.{All}
-use Rattle.shred_batch.specs.Works.{tier_plan, tier_states, tiers_plan}
+use Rattle.shred_run.specs.Works.{tier_plan, tier_states, tiers_plan}
 use Rattle.shred_stage.specs.Inner.{tiers_states}
 use Rattle.shred_stage.specs.Plans.{stage_states}
 use Rattle.shred_stage.specs.StagePlan.{plan_of, stage_plan}
-use Rattle.shred_batch.specs.Batches.{IsTierOf}
+use Rattle.shred_run.specs.Batches.{IsTierOf}
 use Rattle.shred_stage.proofs.Planner.Tiers.{listed-pushed}
+use Rattle.shred_run.specs.OwnDepth.{OwnsItself}
 use Rattle.shred_stage.proofs.dispatch.inner.tiers_of.Goals as goal
+use Rattle.shred_run.specs.Depths.{lists_of}
 
 pub loop-stage-preserved : goal.loop-stage-preserved
 loop-stage-preserved g c =
@@ -23,5 +25,5 @@ loop-stage-preserved g c =
       long = let was = at.invariant.long in let gone = c.in-Some.ensures.steps.1 in let short = ap length steps in omega arith;
       plan = ap tiers_plan pushed ∙ map-append tier_plan at.tiers.items (tier ∷ []) ∙ ap (λ plan. plan ++ tier_plan tier ∷ []) at.invariant.plan ∙ ap (λ one. plan_of at.yielded ++ one ∷ []) c.into_tier.ensures.plan ∙ sym (map-append stage_plan at.yielded (c.in-Some.stage ∷ []));
       states = λ path. ap (λ tiers. tiers_states tiers path) pushed ∙ listed-pushed tier_states stage_states at.tiers.items at.yielded long at.invariant.states tier c.in-Some.stage c.into_tier.ensures.states path;
-      own = subst (All (IsTierOf g.X.Occupant.may_keep)) (sym pushed) (All-push (IsTierOf g.X.Occupant.may_keep) at.tiers.items tier at.invariant.own c.into_tier.ensures.own);
+      own = subst (All (IsTierOf (OwnsItself (lists_of g.S.System.reads g.S.System.writes g.C.BatchController.reads g.C.BatchController.writes)))) (sym pushed) (All-push (IsTierOf (OwnsItself (lists_of g.S.System.reads g.S.System.writes g.C.BatchController.reads g.C.BatchController.writes))) at.tiers.items tier at.invariant.own c.into_tier.ensures.own);
     }

@@ -1,13 +1,15 @@
 use Rattle.std.proofs.Common.{◌≡◌, ◌++◌, length}
 use Rattle.std.specs.List.{All}
 use Rattle.std.specs.Vec.Iter.{into_iter_items, into_iter_len}
-use Rattle.shred_batch.specs.Works.{tiers_plan}
+use Rattle.shred_run.specs.Works.{tiers_plan}
 use Rattle.shred_model.specs.Record.{Agent}
 use Rattle.shred_stage.specs.Inner.{tiers_states}
 use Rattle.shred_stage.specs.Plans.{plan_states}
 use Rattle.shred_stage.specs.StagePlan.{plan_of}
-use Rattle.shred_batch.specs.Batches.{IsTierOf}
+use Rattle.shred_run.specs.Batches.{IsTierOf}
+use Rattle.shred_run.specs.OwnDepth.{OwnsItself}
 use Rattle.shred_stage.proofs.dispatch.inner.tiers_of.Given as goal
+use Rattle.shred_run.specs.Depths.{lists_of}
 
 abbrev pub invariant-loop-stage : goal.invariant-loop-stage
 invariant-loop-stage g l = record {
@@ -15,5 +17,5 @@ invariant-loop-stage g l = record {
   long : into_iter_len l.stage-iterator ≡ length (into_iter_items l.stage-iterator);
   plan : tiers_plan l.tiers.items ≡ plan_of l.yielded;
   states : (path : Agent) → tiers_states l.tiers.items path ≡ plan_states l.yielded path;
-  own : All (IsTierOf g.X.Occupant.may_keep) l.tiers.items;
+  own : All (IsTierOf (OwnsItself (lists_of g.S.System.reads g.S.System.writes g.C.BatchController.reads g.C.BatchController.writes))) l.tiers.items;
 }

@@ -1,8 +1,8 @@
 use Rattle.std.proofs.Common.{◌≤◌, get_or, length, arith}
 use Rattle.std.proofs.lemmas.List.{length-map}
 use Rattle.shred_stage.specs.Names.{first_unnamed, named_ids}
-use Rattle.shred_group.specs.PlanOf.{numbers_of}
-use Rattle.shred_group.specs.declared.dispatch.entry.SystemId.{SystemId}
+use Rattle.shred_run.specs.PlanOf.{numbers_of}
+use Rattle.shred_run.specs.declared.entry.SystemId.{SystemId}
 use Rattle.shred_stage.proofs.Planner.Searching.{mapped_at}
 use Rattle.shred_stage.proofs.Names.Unnamed.{unnamed-passed, unnamed-is, unnamed-passed-all, none-copied}
 use Rattle.shred_stage.proofs.dispatch.printing.first_unnamed_of.Goals as goal

@@ -2,7 +2,7 @@ use Rattle.std.proofs.Common.{◌++◌}
 use Rattle.std.specs.List.{flat_map}
 use Rattle.std.specs.Prelude.{codes}
 use Rattle.shred_stage.specs.Names.{named_ids}
-use Rattle.shred_group.specs.PlanOf.{numbers_of}
+use Rattle.shred_run.specs.PlanOf.{numbers_of}
 use Rattle.shred_stage.specs.Printed.{tab, line_feed, system_line}
 use Rattle.shred_stage.proofs.Names.Sinks.{put-stops, put-stops-within, put-three}
 use Rattle.shred_stage.proofs.dispatch.printing.put_group.Goals as goal

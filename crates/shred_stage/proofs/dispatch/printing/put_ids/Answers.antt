@@ -1,8 +1,8 @@
 use Rattle.std.proofs.Common.{get_or}
 use Rattle.shred_stage.specs.Names.{named_ids}
-use Rattle.shred_group.specs.PlanOf.{numbers_of}
+use Rattle.shred_run.specs.PlanOf.{numbers_of}
 use Rattle.shred_stage.specs.Printed.{system_line}
-use Rattle.shred_group.specs.declared.dispatch.entry.SystemId.{SystemId}
+use Rattle.shred_run.specs.declared.entry.SystemId.{SystemId}
 use Rattle.shred_stage.proofs.Planner.Searching.{mapped_at}
 use Rattle.shred_stage.proofs.Names.Sinks.{put-step, put-stop}
 use Rattle.shred_stage.proofs.dispatch.printing.put_ids.Goals as goal

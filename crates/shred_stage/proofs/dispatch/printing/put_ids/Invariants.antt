@@ -2,7 +2,7 @@ use Rattle.std.proofs.Common.{◌≡◌, take}
 use Rattle.std.specs.List.{flat_map}
 use Rattle.std.specs.Io.KnownBytes.{Appends}
 use Rattle.shred_stage.specs.Names.{named_ids}
-use Rattle.shred_group.specs.PlanOf.{numbers_of}
+use Rattle.shred_run.specs.PlanOf.{numbers_of}
 use Rattle.shred_stage.specs.Printed.{system_line}
 use Rattle.shred_stage.proofs.dispatch.printing.put_ids.Given as goal
 

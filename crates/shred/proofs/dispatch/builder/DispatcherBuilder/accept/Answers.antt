@@ -4,7 +4,7 @@ use Rattle.shred_stage.specs.Earlier.{ComesAfter}
 use Rattle.shred_stage.specs.Known.{known_ids, texts_of}
 use Rattle.shred_stage.specs.Names.{names_of}
 use Rattle.shred_stage.specs.Placement.{IsPlaced}
-use Rattle.shred_group.specs.PlanOf.{entry_plan, numbers_of}
+use Rattle.shred_run.specs.PlanOf.{entry_plan, numbers_of}
 use Rattle.shred.proofs.Names.Consistent.{entered-consistent, known-again, still-consistent}
 use Rattle.shred.proofs.Planner.Standing.{known-still, stands-after_all}
 use Rattle.shred.proofs.dispatch.builder.DispatcherBuilder.accept.Goals as goal

@@ -1,6 +1,6 @@
 use Rattle.std.proofs.Common.{refl}
 use Rattle.std.proofs.lemmas.Result.{on_ok_weaker}
-use Rattle.shred_group.specs.PlanOf.{entry_plan}
+use Rattle.shred_run.specs.PlanOf.{entry_plan}
 use Rattle.shred.proofs.dispatch.builder.DispatcherBuilder.add.Goals as goal
 
 pub returns-in-Err-clause-unchanged : goal.returns-in-Err-clause-unchanged

@@ -1,6 +1,6 @@
 use Rattle.std.proofs.Common.{arith}
 use Rattle.std.proofs.lemmas.List.{nil_from_length}
-use Rattle.shred_systems.specs.ThreadLocals.{systems_of}
+use Rattle.shred.specs.ThreadLocals.{systems_of}
 use Rattle.shred.proofs.dispatch.builder.DispatcherBuilder.into_inner.Goals as goal
 
 pub returns-clause-no_local : goal.returns-clause-no_local

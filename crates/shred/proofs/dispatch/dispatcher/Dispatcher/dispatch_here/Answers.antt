@@ -6,11 +6,11 @@ use Rattle.shred.proofs.dispatch.dispatcher.Dispatcher.dispatch_here.Goals as go
 pub returns-in-Ok-clause-dispatched : goal.returns-in-Ok-clause-dispatched
 returns-in-Ok-clause-dispatched g c =
     let old = c.args.self.now.stages in
-    let same : length c.run_stages.new.stages ≡ old.len = search rules in
+    let same : length c.run_in_order.new.stages ≡ old.len = search rules in
     record {
       of_plan = Ok tt;
-      middle = local_held g.V.ResourceValue.kind_of c.run_stages.new.world;
-      dispatched = rw (with_items_is old c.run_stages.new.stages same) (rw c.as_mut_slice.ensures.value at c.in-Ok.ensures);
+      middle = local_held g.V.ResourceValue.kind_of c.run_in_order.new.world;
+      dispatched = rw (with_items_is old c.run_in_order.new.stages same) (rw c.as_mut_slice.ensures.value at c.in-Ok.ensures);
       locals = c.run.ensures.run;
       workers = refl;
     }
@@ -18,11 +18,11 @@ returns-in-Ok-clause-dispatched g c =
 pub returns-in-Err-clause-dispatched : goal.returns-in-Err-clause-dispatched
 returns-in-Err-clause-dispatched g c =
     let old = c.args.self.now.stages in
-    let same : length c.run_stages.new.stages ≡ old.len = search rules in
+    let same : length c.run_in_order.new.stages ≡ old.len = search rules in
     record {
       of_plan = Err c.in-Err.error;
-      middle = local_held g.V.ResourceValue.kind_of c.run_stages.new.world;
-      dispatched = rw (with_items_is old c.run_stages.new.stages same) (rw c.as_mut_slice.ensures.value at c.in-Err.ensures);
+      middle = local_held g.V.ResourceValue.kind_of c.run_in_order.new.world;
+      dispatched = rw (with_items_is old c.run_in_order.new.stages same) (rw c.as_mut_slice.ensures.value at c.in-Err.ensures);
       locals = (refl, refl, refl);
       workers = refl;
     }

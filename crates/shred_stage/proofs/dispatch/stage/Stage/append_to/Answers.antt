@@ -1,7 +1,7 @@
 use Rattle.std.proofs.Common.{◌<◌, length, rules}
-use Rattle.shred_group.specs.PlanOf.{group_plan}
-use Rattle.shred_group.specs.Sides.{group_side}
-use Rattle.shred_group.proofs.Groups.Appended.{appended_more}
+use Rattle.shred_run.specs.PlanOf.{group_plan}
+use Rattle.shred_run.specs.Sides.{group_side}
+use Rattle.shred_run.proofs.Groups.Appended.{appended_more}
 use Rattle.shred_stage.proofs.dispatch.stage.Stage.append_to.Goals as goal
 
 pub loop-group-preserved : goal.loop-group-preserved

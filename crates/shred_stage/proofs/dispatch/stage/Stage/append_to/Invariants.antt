@@ -1,6 +1,6 @@
 use Rattle.std.proofs.Common.{◌≡◌, ◌++◌, take}
-use Rattle.shred_group.specs.PlanOf.{groups_plan}
-use Rattle.shred_group.specs.Sides.{stage_side}
+use Rattle.shred_run.specs.PlanOf.{groups_plan}
+use Rattle.shred_run.specs.Sides.{stage_side}
 use Rattle.shred_stage.proofs.dispatch.stage.Stage.append_to.Given as goal
 
 abbrev pub invariant-loop-group : goal.invariant-loop-group

@@ -1,5 +1,5 @@
 use Rattle.std.proofs.Common.{◌≡◌, ◌≤◌, take}
-use Rattle.shred_group.specs.PlanOf.{groups_plan}
+use Rattle.shred_run.specs.PlanOf.{groups_plan}
 use Rattle.shred_stage.specs.Placement.{greatest_time}
 use Rattle.shred_stage.proofs.dispatch.stage.Stage.greatest_time.Given as goal
 

@@ -3,7 +3,7 @@ use Rattle.std.proofs.lemmas.List.{length-map}
 use Rattle.std.proofs.lemmas.Grind.{common_steps}
 use Rattle.shred_model.specs.Plan.{group_time}
 use Rattle.shred_stage.specs.Placement.{greatest_time}
-use Rattle.shred_group.specs.PlanOf.{group_plan, groups_plan}
+use Rattle.shred_run.specs.PlanOf.{group_plan, groups_plan}
 use Rattle.shred_stage.proofs.Planner.Times.{group_read, group_time-le-greatest}
 use Rattle.shred_stage.proofs.dispatch.stage.Stage.may_end.Goals as goal
 

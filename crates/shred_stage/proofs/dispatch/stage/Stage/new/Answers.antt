@@ -4,7 +4,9 @@ use Rattle.shred_stage.proofs.Planner.Added.{new_alone_in}
 use Rattle.shred_stage.proofs.Planner.EntriesAt.{new_in_group}
 use Rattle.shred_stage.proofs.Planner.KeptLists.{own_alone}
 use Rattle.shred_stage.proofs.Planner.StageKeeps.{kept_alone}
+use Rattle.shred_run.specs.OwnDepth.{OwnsItself}
 use Rattle.shred_stage.proofs.dispatch.stage.Stage.new.Goals as goal
+use Rattle.shred_run.specs.Depths.{lists_of}
 
 pub returns-in-Ok-push-clause-added : goal.returns-in-Ok-push-clause-added
 returns-in-Ok-push-clause-added g c =
@@ -14,5 +16,5 @@ returns-in-Ok-push-clause-added g c =
 pub invariant_of-result : goal.invariant_of-result
 invariant_of-result g c =
     let only : c.push.new.self.items ≡ c.in-Ok.group ∷ [] = search rules in
-    kept_alone g.X.Occupant.may_keep c.in-Ok.group c.args.entry c.push.new.self.items only c.in-Ok.ensures.plan c.in-Ok.ensures.ids c.in-Ok.ensures.room
-    (own_alone g.X.Occupant.may_keep c.in-Ok.group c.args.entry c.in-Ok.ensures.entries c.requires.own_lists)
+    kept_alone (OwnsItself (lists_of g.S.System.reads g.S.System.writes g.C.BatchController.reads g.C.BatchController.writes)) c.in-Ok.group c.args.entry c.push.new.self.items only c.in-Ok.ensures.plan c.in-Ok.ensures.ids c.in-Ok.ensures.room
+    (own_alone (OwnsItself (lists_of g.S.System.reads g.S.System.writes g.C.BatchController.reads g.C.BatchController.writes)) c.in-Ok.group c.args.entry c.in-Ok.ensures.entries c.requires.own_lists)

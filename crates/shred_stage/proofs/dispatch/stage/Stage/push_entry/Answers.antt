@@ -2,13 +2,15 @@ use Rattle.std.proofs.Common.{◌<◌, ◌≡◌, length, arith, rules}
 use Rattle.std.proofs.lemmas.List.{length-map}
 use Rattle.std.proofs.lemmas.Result.{on_ok_weaker, on_err_weaker}
 use Rattle.shred_stage.specs.EntriesAt.{group_entries}
-use Rattle.shred_group.specs.PlanOf.{entry_plan, group_plan}
+use Rattle.shred_run.specs.PlanOf.{entry_plan, group_plan}
 use Rattle.shred_stage.proofs.Planner.Added.{new_when_done, same_when_refused}
 use Rattle.shred_stage.proofs.Planner.EntriesAt.{new_at_end_of_group, same_in_group}
 use Rattle.shred_stage.proofs.Planner.Times.{group_read}
 use Rattle.shred_stage.proofs.Planner.KeptLists.{own_after_push}
 use Rattle.shred_stage.proofs.Planner.StageKeeps.{IsKeptBy, kept_after_entry, plan_when_pushed, plan_when_refused}
+use Rattle.shred_run.specs.OwnDepth.{OwnsItself}
 use Rattle.shred_stage.proofs.dispatch.stage.Stage.push_entry.Goals as goal
+use Rattle.shred_run.specs.Depths.{lists_of}
 
 pub push-requires-clause-room : goal.push-requires-clause-room
 push-requires-clause-room g c =
@@ -18,11 +20,11 @@ push-requires-clause-room g c =
 pub invariant_of-self : goal.invariant_of-self
 invariant_of-self g c =
     let old = c.args.self.now in
-    let before : IsKeptBy g.X.Occupant.may_keep old.groups.items = record { some_group = old.some_group; small_groups = old.small_groups; apart = old.apart; keep_ids = old.keep_ids; keep_room = old.keep_room; own_lists = old.own_lists } in
+    let before : IsKeptBy (OwnsItself (lists_of g.S.System.reads g.S.System.writes g.C.BatchController.reads g.C.BatchController.writes)) old.groups.items = record { some_group = old.some_group; small_groups = old.small_groups; apart = old.apart; keep_ids = old.keep_ids; keep_room = old.keep_room; own_lists = old.own_lists } in
     let within : c.args.group < length old.groups.items = rw (length-map old.groups.items group_plan) at c.requires.within in
     let here = group_read old.groups.items c.args.group c.index_mut.result.now within c.index_mut.ensures.value in
-    kept_after_entry g.X.Occupant.may_keep c.push.result old.groups.items c.args.group c.push.new.self c.args.entry before c.requires.within c.requires.room c.requires.others (rw here (c.push.ensures.ok, c.push.ensures.err)) c.push.ensures.ids c.push.ensures.room
-    (own_after_push g.X.Occupant.may_keep c.push.result c.index_mut.result.now c.push.new.self c.args.entry c.push.ensures.added c.push.ensures.unchanged (rw c.index_mut.ensures.value (old.own_lists c.args.group c.index_mut.result.now within)) c.requires.own_lists)
+    kept_after_entry (OwnsItself (lists_of g.S.System.reads g.S.System.writes g.C.BatchController.reads g.C.BatchController.writes)) c.push.result old.groups.items c.args.group c.push.new.self c.args.entry before c.requires.within c.requires.room c.requires.others (rw here (c.push.ensures.ok, c.push.ensures.err)) c.push.ensures.ids c.push.ensures.room
+    (own_after_push (OwnsItself (lists_of g.S.System.reads g.S.System.writes g.C.BatchController.reads g.C.BatchController.writes)) c.push.result c.index_mut.result.now c.push.new.self c.args.entry c.push.ensures.added c.push.ensures.unchanged (rw c.index_mut.ensures.value (old.own_lists c.args.group c.index_mut.result.now within)) c.requires.own_lists)
 
 pub returns-clause-ok : goal.returns-clause-ok
 returns-clause-ok g c =

@@ -1,7 +1,9 @@
 use Rattle.std.proofs.Common.{◌≡◌, length, rules}
 use Rattle.std.proofs.lemmas.List.{with_items_is}
 use Rattle.shred_stage.proofs.Planner.StageStays.{stays}
+use Rattle.shred_run.specs.OwnDepth.{OwnsItself}
 use Rattle.shred_stage.proofs.dispatch.stage.Stage.setup.Goals as goal
+use Rattle.shred_run.specs.Depths.{lists_of}
 
 pub invariant_of-self : goal.invariant_of-self
 invariant_of-self g c =
@@ -9,5 +11,5 @@ invariant_of-self g c =
     let same : length c.set_up_groups.new.groups ≡ old.groups.len = search rules in
     let set = rw c.as_mut_slice.ensures.value at c.set_up_groups.ensures in
     rw (with_items_is old.groups c.set_up_groups.new.groups same)
-    (stays g.X.Occupant.may_keep c.set_up_groups.new.groups old.groups.items set.plan set.ids set.room set.own_lists
+    (stays (OwnsItself (lists_of g.S.System.reads g.S.System.writes g.C.BatchController.reads g.C.BatchController.writes)) c.set_up_groups.new.groups old.groups.items set.plan set.ids set.room set.own_lists
     (record { some_group = old.some_group; small_groups = old.small_groups; apart = old.apart; keep_ids = old.keep_ids; keep_room = old.keep_room; own_lists = old.own_lists }))

@@ -1,8 +1,8 @@
 use Rattle.std.proofs.Common.{◌∙◌}
 use Rattle.shred_table.specs.Id.{same_id}
-use Rattle.shred_group.specs.PlanOf.{entry_plan, numbers_of}
+use Rattle.shred_run.specs.PlanOf.{entry_plan, numbers_of}
 use Rattle.shred_stage.specs.StagePlan.{stage_plan}
-use Rattle.shred_group.proofs.Groups.Ids.{same_id-Agrees, length-numbers_of}
+use Rattle.shred_run.proofs.Groups.Ids.{same_id-Agrees, length-numbers_of}
 use Rattle.shred_stage.proofs.Planner.Spots.{spot_when_nothing, spot_when_one, admits_not_between, touched_within}
 use Rattle.shred_stage.proofs.dispatch.stage.Stage.spot_for.Goals as goal
 

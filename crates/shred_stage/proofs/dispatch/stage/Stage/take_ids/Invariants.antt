@@ -1,7 +1,7 @@
 use Rattle.std.proofs.Common.{◌≡◌, take}
 use Rattle.shred_model.specs.Plan.{stage_ids}
-use Rattle.shred_group.specs.Left.{difference}
-use Rattle.shred_group.specs.PlanOf.{groups_plan, numbers_of}
+use Rattle.shred_run.specs.Left.{difference}
+use Rattle.shred_run.specs.PlanOf.{groups_plan, numbers_of}
 use Rattle.shred_stage.proofs.dispatch.stage.Stage.take_ids.Given as goal
 
 abbrev pub invariant-loop-group : goal.invariant-loop-group

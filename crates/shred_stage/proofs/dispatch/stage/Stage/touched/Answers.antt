@@ -1,7 +1,7 @@
 use Rattle.std.proofs.Common.{◌≡◌, ◌<◌, ◌≤◌, length, get_or, rules, sym, ◌∙◌}
 use Rattle.shred_table.specs.Id.{same_id}
-use Rattle.shred_group.specs.PlanOf.{access_of, group_plan, numbers_of}
-use Rattle.shred_group.specs.Touching.{is_touched}
+use Rattle.shred_run.specs.PlanOf.{access_of, group_plan, numbers_of}
+use Rattle.shred_run.specs.Touching.{is_touched}
 use Rattle.shred_stage.proofs.Planner.Touching.{touched_stays, touched_first, touched_second, touched_all}
 use Rattle.shred_stage.proofs.dispatch.stage.Stage.touched.Goals as goal
 use Rattle.shred_stage.proofs.dispatch.stage.Stage.touched.Goals.{then-is_touched+in-Nothing, else-is_touched}

@@ -1,8 +1,8 @@
 use Rattle.std.proofs.Common.{take}
 use Rattle.shred_table.specs.Id.{same_id}
-use Rattle.shred_group.specs.PlanOf.{access_of, groups_plan, numbers_of}
+use Rattle.shred_run.specs.PlanOf.{access_of, groups_plan, numbers_of}
 use Rattle.shred_stage.specs.Search.{TouchedIs}
-use Rattle.shred_group.specs.Touching.{is_touched}
+use Rattle.shred_run.specs.Touching.{is_touched}
 use Rattle.shred_stage.proofs.dispatch.stage.Stage.touched.Given as goal
 
 abbrev pub invariant-loop-place : goal.invariant-loop-place

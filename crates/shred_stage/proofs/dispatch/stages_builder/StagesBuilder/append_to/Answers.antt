@@ -1,8 +1,8 @@
 use Rattle.std.proofs.Common.{arith, rules}
 use Rattle.std.proofs.lemmas.Grind.{common_steps}
-use Rattle.shred_group.specs.Sides.{stage_side}
+use Rattle.shred_run.specs.Sides.{stage_side}
 use Rattle.shred_stage.specs.StagePlan.{stage_plan}
-use Rattle.shred_group.proofs.Groups.Appended.{appended_more}
+use Rattle.shred_run.proofs.Groups.Appended.{appended_more}
 use Rattle.shred_stage.proofs.dispatch.stages_builder.StagesBuilder.append_to.Goals as goal
 
 pub loop-place-preserved : goal.loop-place-preserved

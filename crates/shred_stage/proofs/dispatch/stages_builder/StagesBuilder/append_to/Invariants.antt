@@ -1,6 +1,6 @@
 use Rattle.std.proofs.Common.{◌≡◌, ◌++◌, take}
 use Rattle.std.specs.List.{flat_map}
-use Rattle.shred_group.specs.Sides.{stage_side}
+use Rattle.shred_run.specs.Sides.{stage_side}
 use Rattle.shred_stage.specs.StagePlan.{plan_of}
 use Rattle.shred_stage.proofs.dispatch.stages_builder.StagesBuilder.append_to.Given as goal
 

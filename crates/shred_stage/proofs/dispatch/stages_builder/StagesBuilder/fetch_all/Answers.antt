@@ -1,7 +1,7 @@
 use Rattle.std.proofs.Common.{◌++◌, ◌∙◌, ap}
 use Rattle.std.specs.List.{flat_map}
 use Rattle.shred_stage.specs.BuilderPlan.{planned}
-use Rattle.shred_group.specs.Sides.{stage_side}
+use Rattle.shred_run.specs.Sides.{stage_side}
 use Rattle.shred_stage.proofs.dispatch.stages_builder.StagesBuilder.fetch_all.Goals as goal
 
 pub returns-in-Ok-clause-in_order : goal.returns-in-Ok-clause-in_order

@@ -1,7 +1,7 @@
 use Rattle.std.proofs.Common.{◌≡◌}
 use Rattle.shred_stage.specs.BuilderPlan.{planned}
 use Rattle.shred_stage.specs.Placement.{dependencies_left, NoneAdmits}
-use Rattle.shred_group.specs.PlanOf.{entry_plan, numbers_of}
+use Rattle.shred_run.specs.PlanOf.{entry_plan, numbers_of}
 use Rattle.shred_stage.proofs.dispatch.stages_builder.StagesBuilder.find.Given as goal
 
 abbrev pub invariant-loop-place : goal.invariant-loop-place

@@ -1,7 +1,7 @@
 use Rattle.std.proofs.lemmas.Result.{on_err_weaker}
 use Rattle.std.proofs.Common.{arith, refl}
 use Rattle.std.proofs.lemmas.List.{length-map}
-use Rattle.shred_group.specs.PlanOf.{entry_plan, numbers_of}
+use Rattle.shred_run.specs.PlanOf.{entry_plan, numbers_of}
 use Rattle.shred_stage.specs.StagePlan.{stage_plan, plan_of}
 use Rattle.shred_stage.proofs.Planner.Earlier.{stands-after}
 use Rattle.shred_stage.proofs.Planner.EntriesAt.{added_with, states_stay}

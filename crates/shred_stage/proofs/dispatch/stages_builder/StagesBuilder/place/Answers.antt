@@ -2,7 +2,7 @@ use Rattle.std.proofs.Common.{ap}
 use Rattle.std.proofs.lemmas.Result.{on_ok_weaker}
 use Rattle.shred_stage.specs.BuilderPlan.{planned}
 use Rattle.shred_stage.specs.Placement.{in_new_stage}
-use Rattle.shred_group.specs.PlanOf.{entry_plan, numbers_of}
+use Rattle.shred_run.specs.PlanOf.{entry_plan, numbers_of}
 use Rattle.shred_stage.specs.declared.dispatch.stage.Spot.TheVariants.{NewGroup, EndOf}
 use Rattle.shred_stage.proofs.Planner.PlanKeeps.{known_place, known_none, found_group_free, found_end_fits, placed_in_new_group, placed_at_end}
 use Rattle.shred_stage.proofs.dispatch.stages_builder.StagesBuilder.place.Goals as goal

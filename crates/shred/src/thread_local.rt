@@ -1,0 +1,179 @@
+//! The thread-local systems of a dispatcher, and their runs, one after the other.
+ghost use Rattle.std.specs.Prelude.{◌≡◌, ◌++◌, ◌∷◌, [], length, OnOk, OnErr};
+ghost use Rattle.shred_run.specs.Alone.{KeepsKinds};
+ghost use Rattle.shred.specs.LocalRuns.{LocalDisposal, LocalRun, LocalSetup, LocalsDisposal, LocalsRun, LocalsSetup};
+ghost use Rattle.shred_world.specs.Worlds.{local_held, world_held};
+
+use crate::run_now::RunNow;
+use shred_run::first::first;
+use shred_stage::DispatchError;
+use shred_world::{LocalWorld, OutOfMemory, ResourceValue, World};
+use std::alloc::Global;
+use std::thread::Threads;
+
+/// Systems that run over a whole world, in the order in which they were added.
+#[derive(Drop)]
+pub struct ThreadLocal<L> {
+    systems: Vec<L>,
+}
+
+impl<L: Drop> ThreadLocal<L> {
+    ghost use Rattle.shred.specs.ThreadLocals.{systems_of};
+
+    /// No systems. It takes no memory.
+    pub fn new(alloc: Global) -> Self
+        ensures { systems_of result ≡ [] }
+    {
+        ThreadLocal {
+            systems: Vec::new(alloc),
+        }
+    }
+
+    /// Puts the system at the end. Where memory is refused, all is as before, and the system is dropped.
+    pub fn push(&mut self, system: L) -> Result<(), OutOfMemory>
+        ensures ok { OnOk result (systems_of self.new ≡ systems_of self.old ++ system ∷ []) }
+        ensures err { OnErr result (systems_of self.new ≡ systems_of self.old) }
+    {
+        match self.systems.push(system) {
+            Ok(()) => Ok(()),
+            Err(_) => Err(OutOfMemory),
+        }
+    }
+
+    /// How many there are.
+    pub fn len(&self) -> usize
+        ensures { result ≡ length (systems_of self.now) }
+    {
+        self.systems.len()
+    }
+
+    /// Runs the systems, in order, up to the first that is not Done.
+    pub fn run<R: Threads + Sync, V: ResourceValue>(
+        &mut self,
+        rt: &R,
+        world: &mut LocalWorld<V>,
+    ) -> Result<(), DispatchError<L::Error>>
+    where
+        L: RunNow<V>,
+        ensures run { LocalsRun V.kind_of L.runs (systems_of self.old) (local_held V.kind_of world.old) result (systems_of self.new) (local_held V.kind_of world.new) }
+        ensures kinds { KeepsKinds V.kind_of (local_held V.kind_of world.old) (local_held V.kind_of world.new) }
+    {
+        run_each(rt, self.systems.as_mut_slice(), world)
+    }
+
+    /// Sets the systems up, in order, up to the first that is not Done.
+    pub fn setup<V: ResourceValue>(
+        &mut self,
+        world: &mut World<V>,
+    ) -> Result<(), DispatchError<L::Error>>
+    where
+        L: RunNow<V>,
+        ensures { LocalsSetup L.sets_up (systems_of self.old) (world_held V.kind_of world.old) result (systems_of self.new) (world_held V.kind_of world.new) }
+    {
+        set_up_each(self.systems.as_mut_slice(), world)
+    }
+
+    /// Disposes of all systems, in order, and answers the first answer that is not Done.
+    pub fn dispose<V: ResourceValue, E: Drop>(
+        self,
+        world: &mut World<V>,
+    ) -> Result<(), DispatchError<E>>
+    where
+        L: RunNow<V, Error = E>,
+        ensures { LocalsDisposal L.disposes (systems_of self) (world_held V.kind_of world.old) result (world_held V.kind_of world.new) }
+    {
+        dispose_of_each(self.systems, world)
+    }
+}
+
+// The run of the system at this place.
+fn run_one<R: Threads + Sync, V: ResourceValue, L: RunNow<V>>(
+    rt: &R,
+    index: usize,
+    local: &mut L,
+    world: &mut LocalWorld<V>,
+) -> Result<(), DispatchError<L::Error>>
+    ensures run { LocalRun V.kind_of L.runs index local.old (local_held V.kind_of world.old) result local.new (local_held V.kind_of world.new) }
+    ensures kinds { KeepsKinds V.kind_of (local_held V.kind_of world.old) (local_held V.kind_of world.new) }
+{
+    match local.run_now(rt, world) {
+        Ok(()) => Ok(()),
+        Err(fault) => Err(DispatchError::ThreadLocal { index, fault }),
+    }
+}
+
+// The runs of the systems, in order, up to the first that is not Done.
+fn run_each<R: Threads + Sync, V: ResourceValue, L: RunNow<V>>(
+    rt: &R,
+    locals: &mut [L],
+    world: &mut LocalWorld<V>,
+) -> Result<(), DispatchError<L::Error>>
+    ensures run { LocalsRun V.kind_of L.runs locals.old (local_held V.kind_of world.old) result locals.new (local_held V.kind_of world.new) }
+    ensures kinds { KeepsKinds V.kind_of (local_held V.kind_of world.old) (local_held V.kind_of world.new) }
+{
+    for (index, local) in locals.iter_mut().enumerate() {
+        if let Err(error) = run_one(rt, index, local, world) {
+            return Err(error);
+        }
+    }
+    Ok(())
+}
+
+// The setup of the system at this place.
+fn set_up_one<V: ResourceValue, L: RunNow<V>>(
+    index: usize,
+    local: &mut L,
+    world: &mut World<V>,
+) -> Result<(), DispatchError<L::Error>>
+    ensures { LocalSetup L.sets_up index local.old (world_held V.kind_of world.old) result local.new (world_held V.kind_of world.new) }
+{
+    match local.setup(world) {
+        Ok(()) => Ok(()),
+        Err(fault) => Err(DispatchError::ThreadLocal { index, fault }),
+    }
+}
+
+// The setups of the systems, in order, up to the first that is not Done.
+fn set_up_each<V: ResourceValue, L: RunNow<V>>(
+    locals: &mut [L],
+    world: &mut World<V>,
+) -> Result<(), DispatchError<L::Error>>
+    ensures { LocalsSetup L.sets_up locals.old (world_held V.kind_of world.old) result locals.new (world_held V.kind_of world.new) }
+{
+    for (index, local) in locals.iter_mut().enumerate() {
+        if let Err(error) = set_up_one(index, local, world) {
+            return Err(error);
+        }
+    }
+    Ok(())
+}
+
+// The disposal of the system at this place.
+fn dispose_of<V: ResourceValue, L: RunNow<V>>(
+    index: usize,
+    local: L,
+    world: &mut World<V>,
+) -> Result<(), DispatchError<L::Error>>
+    ensures { LocalDisposal L.disposes index local (world_held V.kind_of world.old) result (world_held V.kind_of world.new) }
+{
+    match local.dispose(world) {
+        Ok(()) => Ok(()),
+        Err(fault) => Err(DispatchError::ThreadLocal { index, fault }),
+    }
+}
+
+// The disposals of all systems, in order.
+fn dispose_of_each<V: ResourceValue, L: RunNow<V, Error = E> + Drop, E: Drop>(
+    locals: Vec<L>,
+    world: &mut World<V>,
+) -> Result<(), DispatchError<E>>
+    ensures { LocalsDisposal L.disposes locals.items (world_held V.kind_of world.old) result (world_held V.kind_of world.new) }
+{
+    let mut answer = Ok(());
+    let mut index = 0;
+    for local in locals {
+        answer = first(answer, dispose_of(index, local, world));
+        index += 1;
+    }
+    answer
+}

@@ -1,5 +1,0 @@
-use Rattle.std.proofs.Common.{arith}
-use Rattle.shred_group.proofs.dispatch.entry.Group.time.Goals as goal
-
-pub returns-clause-small : goal.returns-clause-small
-returns-clause-small g c = omega arith

@@ -1,0 +1,6 @@
+pub mod Called
+pub mod Circle
+pub mod Groups
+pub mod Inner
+pub mod Paths
+pub mod Runs

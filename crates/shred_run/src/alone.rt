@@ -1,0 +1,114 @@
+//! One step of a system over all that a table holds, outside of a plan.
+ghost use Rattle.std.specs.Prelude.{◌≡◌, IfOk, false};
+ghost use Rattle.shred_run.specs.Alone.{IsStepOver, KeepsKinds, KeepsLists, StepsAlone};
+ghost use Rattle.shred_run.specs.declared.alone.Room.{Room};
+ghost use Rattle.shred_table.specs.Parting.{IsEmptyHand};
+ghost use Rattle.shred_table.specs.Shown.{shown, IsSameSlots};
+ghost use Rattle.shred_table.specs.Slots.{slot_at, held, among};
+ghost use Rattle.shred_table.specs.declared.id.ResourceId.{ResourceId};
+ghost use Rattle.std.specs.Option.{option_map};
+ghost use Rattle.shred_run.specs.Kept.{AreOwnLists};
+ghost use Rattle.shred_run.specs.OwnSlots.{HasOnlySlots};
+ghost use Rattle.shred_run.specs.Steps.{declared_of};
+ghost use Rattle.shred_table.specs.Shown.{HasOwnSlots};
+
+use crate::calls::run_system;
+use crate::loan::Loan;
+use crate::system::{Fault, System};
+use shred_world::parting::{empty_hand, move_each};
+use shred_world::{Accessor, OutOfMemory, ResourceId, ResourceValue, Shelf, Table};
+use std::alloc::Global;
+
+// What one step needs: the system's lists, and a hand for what it writes.
+#[derive(Drop)]
+struct Room<V> {
+    reads: Vec<ResourceId>,
+    writes: Vec<ResourceId>,
+    hand: Table<V>,
+}
+
+// The room for a step of the system.
+fn room_for<V: ResourceValue + Drop, S: System<V>>(
+    alloc: Global,
+    system: &S,
+) -> Result<Room<V>, OutOfMemory>
+    ensures reads { IfOk result (λ room. room.reads.items ≡ S.reads system.now) }
+    ensures writes { IfOk result (λ room. room.writes.items ≡ S.writes system.now) }
+    ensures hand { IfOk result (λ room. IsEmptyHand room.writes.items room.hand) }
+{
+    let accessor = system.accessor(alloc)?;
+    let reads = accessor.reads(alloc)?;
+    let writes = accessor.writes(alloc)?;
+    let hand = empty_hand(alloc, writes.as_slice())?;
+    Ok(Room {
+        reads,
+        writes,
+        hand,
+    })
+}
+
+// The step over the hand, while the table is lent shared behind it.
+fn step_before<V: ResourceValue, S: System<V>>(
+    reads: &[ResourceId],
+    writes: &[ResourceId],
+    table: &Table<V>,
+    system: &mut S,
+    hand: &mut Table<V>,
+) -> Result<(), Fault<S::Error>>
+    requires own_lists { AreOwnLists (S.reads system.old) (S.writes system.old) reads.now writes.now }
+    requires own_slots { HasOwnSlots writes.now (slot_at table.now) hand.old }
+    requires only_own { HasOnlySlots writes.now hand.old }
+    ensures step { S.step system.old (declared_of (record { reads = reads.now; writes = writes.now }) (shown V.kind_of (slot_at table.now) hand.old)) result system.new (declared_of (record { reads = reads.now; writes = writes.now }) (shown V.kind_of (slot_at table.now) hand.new)) }
+    ensures kinds { (id : ResourceId) → option_map V.kind_of (shown V.kind_of (slot_at table.now) hand.new id) ≡ option_map V.kind_of (shown V.kind_of (slot_at table.now) hand.old id) }
+    ensures slots { IsSameSlots hand.old hand.new }
+    ensures frame { (id : ResourceId) → among writes.now id ≡ false → shown V.kind_of (slot_at table.now) hand.new id ≡ shown V.kind_of (slot_at table.now) hand.old id }
+    ensures lists { KeepsLists S.reads S.writes system.old system.new }
+{
+    let shelf = &[Shelf::Last(table)];
+    let loan = Loan {
+        reads,
+        writes,
+        shelf,
+    };
+    run_system(&loan, system, hand)
+}
+
+// The step, with what it writes moved into the hand before, and back after.
+fn step_in<V: ResourceValue + Drop, S: System<V>>(
+    room: &mut Room<V>,
+    system: &mut S,
+    table: &mut Table<V>,
+) -> Result<(), Fault<S::Error>>
+    requires reads { room.old.reads.items ≡ S.reads system.old }
+    requires writes { room.old.writes.items ≡ S.writes system.old }
+    requires hand { IsEmptyHand room.old.writes.items room.old.hand }
+    ensures lists { KeepsLists S.reads S.writes system.old system.new }
+    ensures step { IsStepOver V.kind_of S.step (record { reads = S.reads system.old; writes = S.writes system.old }) system.old (held V.kind_of table.old) result system.new (held V.kind_of table.new) }
+{
+    move_each(table, room.writes.as_slice(), &mut room.hand);
+    let outcome = step_before(
+        room.reads.as_slice(),
+        room.writes.as_slice(),
+        table,
+        system,
+        &mut room.hand,
+    );
+    move_each(&mut room.hand, room.writes.as_slice(), table);
+    outcome
+}
+
+/// One step of the system over what the table holds, under the lists that it declares. Where there is no memory for these,
+/// the answer is `OutOfMemory`, and nothing is done.
+pub fn run_alone<V: ResourceValue + Drop, S: System<V>>(
+    alloc: Global,
+    system: &mut S,
+    table: &mut Table<V>,
+) -> Result<(), Fault<S::Error>>
+    ensures ran { StepsAlone V.kind_of S.step S.reads S.writes system.old (held V.kind_of table.old) result system.new (held V.kind_of table.new) }
+    ensures kinds { KeepsKinds V.kind_of (held V.kind_of table.old) (held V.kind_of table.new) }
+{
+    match room_for(alloc, system) {
+        Ok(mut room) => step_in(&mut room, system, table),
+        Err(OutOfMemory) => Err(Fault::OutOfMemory),
+    }
+}

@@ -1,0 +1,81 @@
+//! A batch's controller, with what was kept of it, and its calls over a table that lies before what is lent shared.
+ghost use Rattle.std.specs.Prelude.{◌≡◌, true, false};
+ghost use Rattle.std.specs.Option.{option_map};
+ghost use Rattle.shred_run.specs.KeptControllers.{control_access, IsOwnControl};
+ghost use Rattle.shred_run.specs.Steppers.{HasLoanSlots};
+ghost use Rattle.shred_run.specs.Rounds.{IsControlOver};
+ghost use Rattle.shred_run.specs.Kept.{AreOwnLists};
+ghost use Rattle.shred_run.specs.OwnSlots.{lent_before, HasOnlySlots};
+ghost use Rattle.shred_run.specs.Steps.{declared_of};
+ghost use Rattle.shred_table.specs.declared.id.ResourceId.{ResourceId};
+ghost use Rattle.shred_table.specs.Shown.{shown, HasOwnSlots, IsSameSlots};
+ghost use Rattle.shred_table.specs.Slots.{among};
+ghost use Rattle.shred_world.specs.Views.{lent_slot};
+
+use crate::calls::{Call, call_over};
+use crate::loan::{Loan, behind};
+use crate::system::Fault;
+use shred_world::parting::move_each;
+use shred_world::{ResourceId, ResourceValue, Table};
+
+/// A controller, with the two lists that it declares, and a slot for each id that it writes, into which the value is moved
+/// while it is called.
+#[derive(Drop)]
+pub struct KeptController<V, C> {
+    pub controller: C,
+    pub reads: Vec<ResourceId>,
+    pub writes: Vec<ResourceId>,
+    pub hand: Table<V>,
+}
+
+// One call of the controller over its hand, while the table is lent shared.
+fn call_in_hand<V: ResourceValue, C, A, E, K: Call<V, C, A, E>>(
+    call: &K,
+    entry: &mut KeptController<V, C>,
+    loan: &Loan<V>,
+    own: &Table<V>,
+) -> Result<A, Fault<E>>
+    requires own_lists { AreOwnLists (K.reads_of entry.old.controller) (K.writes_of entry.old.controller) entry.old.reads.items entry.old.writes.items }
+    requires has { HasLoanSlots loan.now own.now }
+    requires hand_slots { HasOwnSlots entry.old.writes.items (lent_before own.now (lent_slot loan.now.shelf.now)) entry.old.hand }
+    requires only_hand { HasOnlySlots entry.old.writes.items entry.old.hand }
+    ensures lies { K.does entry.old.controller (declared_of (control_access entry.old) (shown V.kind_of (lent_before own.now (lent_slot loan.now.shelf.now)) entry.old.hand)) result entry.new.controller (declared_of (control_access entry.old) (shown V.kind_of (lent_before own.now (lent_slot loan.now.shelf.now)) entry.new.hand)) }
+    ensures kinds { (id : ResourceId) → option_map V.kind_of (shown V.kind_of (lent_before own.now (lent_slot loan.now.shelf.now)) entry.new.hand id) ≡ option_map V.kind_of (shown V.kind_of (lent_before own.now (lent_slot loan.now.shelf.now)) entry.old.hand id) }
+    ensures slots { IsSameSlots entry.old.hand entry.new.hand }
+    ensures frame { (id : ResourceId) → among entry.old.writes.items id ≡ false → shown V.kind_of (lent_before own.now (lent_slot loan.now.shelf.now)) entry.new.hand id ≡ shown V.kind_of (lent_before own.now (lent_slot loan.now.shelf.now)) entry.old.hand id }
+    ensures reads { entry.new.reads ≡ entry.old.reads }
+    ensures writes { entry.new.writes ≡ entry.old.writes }
+    ensures own_lists { AreOwnLists (K.reads_of entry.new.controller) (K.writes_of entry.new.controller) entry.new.reads.items entry.new.writes.items }
+{
+    let writes = loan.writes;
+    let shelf = loan.shelf;
+    let nearest = behind(own, writes, shelf);
+    let in_hand = Loan {
+        reads: entry.reads.as_slice(),
+        writes: entry.writes.as_slice(),
+        shelf: &nearest,
+    };
+    call_over(call, &in_hand, &mut entry.controller, &mut entry.hand)
+}
+
+/// One call of the controller. What it writes is moved into its hand before, and back after, so all else can be lent
+/// shared.
+pub(crate) fn call_kept<V: ResourceValue + Drop, C, A, E, K: Call<V, C, A, E>>(
+    entry: &mut KeptController<V, C>,
+    call: &K,
+    loan: &Loan<V>,
+    own: &mut Table<V>,
+) -> Result<A, Fault<E>>
+    requires own_lists { IsOwnControl K.reads_of K.writes_of entry.old }
+    requires writes_within { (id : ResourceId) → among entry.old.writes.items id ≡ true → among loan.now.writes.now id ≡ true }
+    requires has { HasLoanSlots loan.now own.old }
+    ensures ran { IsControlOver V.kind_of K.does (control_access entry.old) entry.old.controller (shown V.kind_of (lent_slot loan.now.shelf.now) own.old) result entry.new.controller (shown V.kind_of (lent_slot loan.now.shelf.now) own.new) }
+    ensures slots { IsSameSlots own.old own.new }
+    ensures own_lists { IsOwnControl K.reads_of K.writes_of entry.new }
+    ensures access { control_access entry.new ≡ control_access entry.old }
+{
+    move_each(own, entry.writes.as_slice(), &mut entry.hand);
+    let answer = call_in_hand(call, entry, loan, own);
+    move_each(&mut entry.hand, entry.writes.as_slice(), own);
+    answer
+}

@@ -1,0 +1,6 @@
+use Rattle.shred_run.proofs.Inner.Occupants.{groups-nest}
+use Rattle.shred_stage.proofs.dispatch.stage.Stage.dispose.Goals as goal
+use Rattle.shred_run.specs.Depths.{lists_of}
+
+pub dispose_of_groups-requires : goal.dispose_of_groups-requires
+dispose_of_groups-requires g c = groups-nest (lists_of g.S.System.reads g.S.System.writes g.C.BatchController.reads g.C.BatchController.writes) c.args.self.groups.items c.args.self.own_lists

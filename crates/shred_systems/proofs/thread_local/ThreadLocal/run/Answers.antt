@@ -1,9 +1,0 @@
-use Rattle.std.proofs.Common.{◌≡◌, length, rules}
-use Rattle.std.proofs.lemmas.List.{with_items_is}
-use Rattle.shred_systems.proofs.thread_local.ThreadLocal.run.Goals as goal
-
-pub returns-clause-run : goal.returns-clause-run
-returns-clause-run g c =
-    let old = c.args.self.now.systems in
-    let same : length c.run_each.new.locals ≡ old.len = search rules in
-    rw (with_items_is old c.run_each.new.locals same) (rw c.as_mut_slice.ensures.value at c.run_each.ensures.run)

@@ -1,3 +1,0 @@
-pub mod LocalRuns
-pub mod Made
-pub mod ThreadLocals

@@ -1,7 +1,0 @@
--- The thread-local systems of a dispatcher.
-use Rattle.std.specs.Prelude.{List}
-use Rattle.shred_systems.specs.declared.thread_local.ThreadLocal.{ThreadLocal}
-
--- the systems, in order
-abbrev pub systems_of : {L : Type 0} → ThreadLocal L → List L
-systems_of locals = locals.systems.items

@@ -1,0 +1,10 @@
+pub mod Trees
+pub mod Pieces
+pub mod TreeViews
+pub mod Parted
+pub mod Halves
+pub mod Leaves
+pub mod Withs
+pub mod Places
+pub mod Listed
+pub mod ParSeqs

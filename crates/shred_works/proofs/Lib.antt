@@ -1,4 +1,0 @@
-pub mod Depths
-pub mod Occupants
-pub mod Runs
-pub mod Turns

@@ -1,3 +1,0 @@
-pub mod Restricted
-pub mod WorkSteps
-pub mod Weaker

@@ -1,3 +1,0 @@
-pub mod OwnFacts
-pub mod Turners
-pub mod OwnRules

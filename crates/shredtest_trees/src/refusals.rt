@@ -1,0 +1,84 @@
+//! Trees whose memory is refused: each answers as with ample memory, or that memory is wanting. They pass whichever request
+//! is refused.
+
+use crate::adds::{DONE, adds_to, ended};
+use crate::counts::tick_of;
+use shred_run::Fault;
+use shred_trees::{Nil, Par, ParError, ParSeq, RunWithPool, par, seq};
+use shred_world::{Only, World, only_id};
+use std::alloc::Global;
+use std::process::Abort;
+use std::sync::atomic::{AtomicU64, Ordering};
+use std::test::Fail;
+
+/// What a count is, where it is held.
+fn count_of(world: &World<Only<i64>>, number: u64) -> Option<i64> {
+    match world.try_fetch_by_id::<i64>(only_id(number)) {
+        Ok(Some(held)) => Some(*held),
+        _ => None,
+    }
+}
+
+/// A world of so many counts, each of them 0, where there is memory for it.
+fn world_of(alloc: Global, count: u64) -> Option<World<Only<i64>>> {
+    let mut world = World::empty(alloc);
+    for number in 0..count {
+        if world.insert_by_id(only_id(number), 0).is_err() {
+            return None;
+        }
+    }
+    Some(world)
+}
+
+#[test]
+fn three_beside_each_other_all_run_or_want_memory(rt: HostRuntime) -> Result<(), Fail> {
+    let counter = AtomicU64::new(0);
+    let made: Result<Par<Only<i64>, u8, _, Nil>, ParError> =
+        par![rt.alloc(); tick_of(&counter), tick_of(&counter), tick_of(&counter),];
+    let tree = match made {
+        Ok(tree) => tree,
+        Err(refused) => {
+            assert_eq!(rt; refused, ParError::OutOfMemory);
+            return Ok(());
+        }
+    };
+    let mut par_seq = ParSeq::new(tree, 2);
+    let mut world: World<Only<i64>> = World::empty(rt.alloc());
+    let end = ended(par_seq.dispatch(&rt, &mut world));
+    let runs = counter.load(Ordering::SeqCst);
+    assert!(rt; end == DONE || end == ("out of memory", 0));
+    assert!(rt; end != DONE || runs == 3);
+    assert!(rt; runs <= 3);
+    Ok(())
+}
+
+#[test]
+fn a_tree_of_three_levels_leaves_its_end_or_wants_memory(rt: HostRuntime) -> Result<(), Fail> {
+    let inner: Result<Par<Only<i64>, u8, _, Nil>, ParError> =
+        par![rt.alloc(); adds_to(1, 5), adds_to(2, 7),];
+    let Ok(inner) = inner else {
+        return Ok(());
+    };
+    let made: Result<Par<Only<i64>, u8, _, Nil>, ParError> =
+        par![rt.alloc(); adds_to(0, 1), seq![inner, adds_to(1, 3),],];
+    let tree = match made {
+        Ok(tree) => tree,
+        Err(refused) => {
+            assert_eq!(rt; refused, ParError::OutOfMemory);
+            return Ok(());
+        }
+    };
+    let Some(mut world) = world_of(rt.alloc(), 3) else {
+        return Ok(());
+    };
+    let mut par_seq = ParSeq::new(tree, 2);
+    let end = ended(par_seq.dispatch(&rt, &mut world));
+    assert!(rt; end == DONE || end == ("out of memory", 0));
+    assert!(rt; end != DONE || count_of(&world, 0) == Some(1));
+    assert!(rt; end != DONE || count_of(&world, 1) == Some(8));
+    assert!(rt; end != DONE || count_of(&world, 2) == Some(7));
+    // The next run is not refused.
+    let end = ended(par_seq.dispatch(&rt, &mut world));
+    assert_eq!(rt; end, DONE);
+    Ok(())
+}

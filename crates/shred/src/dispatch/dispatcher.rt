@@ -85,6 +85,22 @@ impl<V: ResourceValue, S: System<V>, C: BatchController<V>, L> Dispatcher<V, S, 
         widest_of(&self.stages)
     }
 
+    /// The stages, the thread-local systems and the number of workers, of which `new_dispatcher` makes a dispatcher. It takes
+    /// no memory.
+    pub fn into_parts(self) -> (Vec<Stage<V, S, C>>, ThreadLocal<L>, usize)
+        ensures plan { plan_of result.0.items ≡ dispatcher_plan self }
+        ensures states { (path : Agent) → plan_states result.0.items path ≡ dispatcher_states self path }
+        ensures locals { systems_of result.1 ≡ dispatcher_locals self }
+        ensures workers { result.2 ≡ dispatcher_workers self }
+    {
+        let Dispatcher {
+            stages,
+            thread_local,
+            workers,
+        } = self;
+        (stages, thread_local, workers)
+    }
+
     /// Puts the plan's text and a line feed into the sink, with the names of the builder. Where a system has no name,
     /// nothing is put, and the answer is `Unnamed` with the first such id in the plan's order. Where the sink fails, it is
     /// `Write`, and a beginning of the text was put. It takes no memory.
@@ -101,8 +117,8 @@ impl<V: ResourceValue, S: System<V>, C: BatchController<V>, L> Dispatcher<V, S, 
     }
 }
 
-// The stages' setups, in order, up to the first that is not Done.
-fn set_up_stages<
+/// The setups of stages, in order, up to the first that is not Done.
+pub fn set_up_stages<
     V: ResourceValue + Drop,
     S: System<V, Error = E> + Drop,
     C: BatchController<V, Error = E> + Drop,

@@ -1,0 +1,4 @@
+mod AtHome
+mod Begun
+mod Shown
+mod Stepped

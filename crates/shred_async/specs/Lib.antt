@@ -1,0 +1,10 @@
+pub mod Told
+pub mod AsyncState
+pub mod Steps
+pub mod Parts
+pub mod Standing
+pub mod Begun
+pub mod Placed
+pub mod Shown
+pub mod Lent
+pub mod BuiltOver

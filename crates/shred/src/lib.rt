@@ -27,10 +27,12 @@ pub use shred_cell::{
     CellRef, OfKind, SharedError, SharedFetch, SharedFetchMut, SharedWorld, cell, word,
 };
 pub use shred_meta::{Common, MetaIter, MetaIterMut, MetaMut, MetaTable};
+pub use shred_run::kept::batch_entry;
 pub use shred_run::{
     BatchController, Fault, MultiDispatchController, MultiDispatcher, NoBatch, RunningTime,
     StageFault, System, SystemId,
 };
+pub use shred_stage::dispatch::inner::tiers_of;
 pub use shred_stage::{
     AddError, DispatchError, PlanSink, PrintError, SinkFailed, Stage, StagesBuilder, ToWriter,
 };

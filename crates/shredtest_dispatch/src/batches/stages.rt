@@ -2,9 +2,9 @@
 
 use crate::batches::adds::{Adds, adds_to, expect_counts, refuses, world_of};
 use crate::batches::bounds::{Bounds, times};
-use shred::{Fault, OutOfMemory, Stage, StageFault, StagesBuilder, SystemId, World};
-use shred_run::kept::batch_entry;
-use shred_stage::dispatch::inner::tiers_of;
+use shred::{
+    Fault, OutOfMemory, Stage, StageFault, StagesBuilder, SystemId, World, batch_entry, tiers_of,
+};
 use shredtest::values::Value;
 use std::alloc::Global;
 use std::process::Abort;

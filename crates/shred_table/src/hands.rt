@@ -22,7 +22,7 @@ pub fn make_hands<V: Drop>(
 {
     let mut hands = Vec::new(alloc);
     for pair in pairs {
-        let mut hand = Table::hand(alloc);
+        let mut hand = Table::new(alloc);
         if let Err(error) = table.make_room(pair.1, &mut hand) {
             return Err(error);
         }

@@ -8,7 +8,6 @@ mod listed;
 pub mod only;
 pub mod parting;
 pub mod resource;
-mod store;
 pub mod table;
 pub mod util;
 

@@ -9,33 +9,18 @@ use crate::id::ResourceId;
 use crate::table::{Table, fill, open, take};
 use std::alloc::Global;
 
-/// A hand with an empty slot for each of these ids, and with no other slot. The dispatcher makes such hands; `View::part`
-/// makes its own.
+/// A table with an empty slot for each of these ids, and with no other slot.
 pub fn empty_hand<V: Drop>(alloc: Global, ids: &[ResourceId]) -> Result<Table<V>, OutOfMemory>
     ensures { IfOk result (IsEmptyHand ids.now) }
 {
-    with_room(Table::hand(alloc), ids)
-}
-
-/// A world's table with an empty slot for each of these ids, and with no other slot.
-pub fn empty_table<V: Drop>(alloc: Global, ids: &[ResourceId]) -> Result<Table<V>, OutOfMemory>
-    ensures { IfOk result (IsEmptyHand ids.now) }
-{
-    with_room(Table::new(alloc), ids)
-}
-
-// A table that has no slot, with an empty slot for each of these ids.
-fn with_room<V: Drop>(mut table: Table<V>, ids: &[ResourceId]) -> Result<Table<V>, OutOfMemory>
-    requires { (id : ResourceId) → slot_at table id ≡ None }
-    ensures { IfOk result (IsEmptyHand ids.now) }
-{
+    let mut hand = Table::new(alloc);
     for id in ids {
-        match open(&mut table, *id) {
+        match open(&mut hand, *id) {
             Ok(()) => {}
             Err(error) => return Err(error),
         }
     }
-    Ok(table)
+    Ok(hand)
 }
 
 impl<V: Drop> Table<V> {

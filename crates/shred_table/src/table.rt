@@ -12,9 +12,7 @@ use crate::accessor::OutOfMemory;
 use crate::id::ResourceId;
 use crate::listed::Listed;
 use crate::resource::{Resource, ResourceValue};
-use crate::store::Slots;
 use std::alloc::Global;
-use std::collections::HashMap;
 use std::mem;
 
 /// The place of a value; it stays while the value is moved out.
@@ -79,27 +77,17 @@ impl<V> Slot<V> {
 /// Slots by id, and the ids whose values are noted as handed out.
 #[derive(Drop)]
 pub struct Table<V> {
-    slots: Slots<V>,
+    slots: Listed<V>,
     out: Vec<ResourceId>,
 }
 
 impl<V> Table<V> {
-    /// A world's table, without slots. It takes no memory.
+    /// No slots. It takes no memory.
     pub fn new(alloc: Global) -> Self
         ensures { (id : ResourceId) → slot_at result id ≡ None }
     {
         Table {
-            slots: Slots::Hashed(HashMap::new(alloc)),
-            out: Vec::new(alloc),
-        }
-    }
-
-    // A hand, without slots. It takes no memory.
-    pub(crate) fn hand(alloc: Global) -> Self
-        ensures { (id : ResourceId) → slot_at result id ≡ None }
-    {
-        Table {
-            slots: Slots::Listed(Listed::new(alloc)),
+            slots: Listed::new(alloc),
             out: Vec::new(alloc),
         }
     }

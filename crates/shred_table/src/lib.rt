@@ -3,6 +3,7 @@
 
 pub mod accessor;
 pub mod hands;
+mod hints;
 pub mod id;
 mod listed;
 pub mod only;

@@ -1,4 +1,4 @@
-//! A list of a few slots, in the order of their ids.
+//! A list of slots, in the order of their ids.
 ghost use Rattle.std.specs.Prelude.{◌≡◌, ℕ, ◌<◌, ◌≤◌, length, AllPairs, None, Some, Option, map, IfOk, IfErr, OnOk, OnErr};
 ghost use Rattle.std.specs.Borrow.{sem};
 ghost use Rattle.std.specs.Option.{option_copied, option_copied_mut};
@@ -10,6 +10,7 @@ use crate::accessor::OutOfMemory;
 use crate::id::ResourceId;
 use crate::table::Slot;
 use std::alloc::Global;
+use std::cmp::Ordering;
 
 /// Slots in the order of their ids. A slot is found by halving the list.
 #[derive(Drop)]
@@ -37,7 +38,36 @@ impl<V> Listed<V> {
         ensures found { IfOk result (IsPlaceOf id self.now.slots.items) }
         ensures gap { IfErr result (IsGapFor id self.now.slots.items) }
     {
-        self.slots.binary_search_by_key(&id, |slot| slot.0)
+        let mut low: usize = 0;
+        let mut high = self.slots.len();
+        while low < high {
+            let middle = low + (high - low) / 2;
+            match self.slots[middle].0.cmp(&id) {
+                Ordering::Less => low = middle + 1,
+                Ordering::Equal => return Ok(middle),
+                Ordering::Greater => high = middle,
+            }
+        }
+        Err(low)
+    }
+
+    // The same, where a place is looked at first.
+    fn place_near(&self, id: ResourceId, near: usize) -> Result<usize, usize>
+        ensures found { IfOk result (IsPlaceOf id self.now.slots.items) }
+        ensures gap { IfErr result (IsGapFor id self.now.slots.items) }
+    {
+        if near < self.slots.len() && self.slots[near].0 == id {
+            return Ok(near);
+        }
+        self.place(id)
+    }
+
+    // Where the slot of the id is, or where it would go, to be looked at first later on.
+    pub(crate) fn find(&self, id: ResourceId, near: usize) -> usize {
+        match self.place_near(id, near) {
+            Ok(place) => place,
+            Err(place) => place,
+        }
     }
 
     // The slot of an id.
@@ -60,12 +90,12 @@ impl<V> Listed<V> {
         }
     }
 
-    // The slot of an id, to write.
-    pub(crate) fn get_mut(&mut self, id: ResourceId) -> Option<&mut Slot<V>>
+    // The slot of an id, to write. A place is looked at first.
+    pub(crate) fn get_mut(&mut self, id: ResourceId, near: usize) -> Option<&mut Slot<V>>
         ensures shown { option_copied_mut result ≡ listed_at self.old id }
         ensures* written { sem 𝓛 (LendsListed V.row self.entry id result) }
     {
-        match self.place(id) {
+        match self.place_near(id, near) {
             Ok(place) => Some(&mut self.slots[place].1),
             Err(_) => None,
         }

@@ -9,6 +9,7 @@ ghost use Rattle.shred_table.specs.Lent.{LendsSlot, LendsValue, LendsResource, L
 ghost use Rattle.shred_table.specs.declared.id.ResourceId.{ResourceId};
 
 use crate::accessor::OutOfMemory;
+use crate::hints::Hints;
 use crate::id::ResourceId;
 use crate::listed::Listed;
 use crate::resource::{Resource, ResourceValue};
@@ -79,6 +80,7 @@ impl<V> Slot<V> {
 pub struct Table<V> {
     slots: Listed<V>,
     out: Vec<ResourceId>,
+    hints: Hints,
 }
 
 impl<V> Table<V> {
@@ -89,6 +91,21 @@ impl<V> Table<V> {
         Table {
             slots: Listed::new(alloc),
             out: Vec::new(alloc),
+            hints: Hints::new(alloc),
+        }
+    }
+
+    // No slots, and room to note where so many values came from.
+    pub(crate) fn with_homes(alloc: Global, count: usize) -> Result<Self, OutOfMemory>
+        ensures { IfOk result (λ table. (id : ResourceId) → slot_at table id ≡ None) }
+    {
+        match Hints::with_room(alloc, count) {
+            Ok(hints) => Ok(Table {
+                slots: Listed::new(alloc),
+                out: Vec::new(alloc),
+                hints,
+            }),
+            Err(error) => Err(error),
         }
     }
 
@@ -139,12 +156,51 @@ impl<V> Table<V> {
         let _ = self.slots.remove(id);
     }
 
+    // Where the slot of the id is, to be looked at first later on; behind it the next one is looked for.
+    pub(crate) fn find(&mut self, id: ResourceId) -> usize
+        ensures slots { slots_of self.new ≡ slots_of self.old }
+        ensures noted { (q : ResourceId) → noted_in self.new q ≡ noted_in self.old q }
+    {
+        let place = self.slots.find(id, self.hints.next());
+        self.hints.found(place);
+        place
+    }
+
+    /// Looks for what is moved next from the first slot on.
+    pub fn rewind(&mut self)
+        ensures slots { slots_of self.new ≡ slots_of self.old }
+        ensures noted { (q : ResourceId) → noted_in self.new q ≡ noted_in self.old q }
+    {
+        self.hints.rewind();
+    }
+
+    // The place that the value of this number came from.
+    pub(crate) fn home(&self, number: usize) -> usize {
+        self.hints.home(number)
+    }
+
+    // Notes the place that the value of this number came from.
+    pub(crate) fn note_home(&mut self, number: usize, place: usize)
+        ensures slots { slots_of self.new ≡ slots_of self.old }
+        ensures noted { (q : ResourceId) → noted_in self.new q ≡ noted_in self.old q }
+    {
+        self.hints.note_home(number, place);
+    }
+
+    // The slot of an id, to write. A place is looked at first.
+    pub(crate) fn slot_near(&mut self, id: ResourceId, near: usize) -> Option<&mut Slot<V>>
+        ensures shown { option_copied_mut result ≡ slot_at self.old id }
+        ensures* written { sem 𝓛 (LendsSlot V.row self.entry id result) }
+    {
+        self.slots.get_mut(id, near)
+    }
+
     // The slot of an id, to write.
     pub(crate) fn slot_mut(&mut self, id: ResourceId) -> Option<&mut Slot<V>>
         ensures shown { option_copied_mut result ≡ slot_at self.old id }
         ensures* written { sem 𝓛 (LendsSlot V.row self.entry id result) }
     {
-        self.slots.get_mut(id)
+        self.slots.get_mut(id, 0)
     }
 }
 
@@ -204,7 +260,16 @@ pub fn take<V>(table: &mut Table<V>, id: ResourceId) -> Option<V>
     ensures slots { (q : ResourceId) → slot_at table.new q ≡ with_at (slot_at table.old) id (emptied (slot_at table.old id)) q }
     ensures noted { (q : ResourceId) → noted_in table.new q ≡ noted_in table.old q }
 {
-    match table.slot_mut(id) {
+    take_near(table, id, 0)
+}
+
+// `take`, with a place that is looked at first.
+pub(crate) fn take_near<V>(table: &mut Table<V>, id: ResourceId, near: usize) -> Option<V>
+    ensures value { result ≡ slot_value (slot_at table.old id) }
+    ensures slots { (q : ResourceId) → slot_at table.new q ≡ with_at (slot_at table.old) id (emptied (slot_at table.old id)) q }
+    ensures noted { (q : ResourceId) → noted_in table.new q ≡ noted_in table.old q }
+{
+    match table.slot_near(id, near) {
         Some(slot) => slot.value.take(),
         None => None,
     }
@@ -215,7 +280,15 @@ pub fn fill<V: Drop>(table: &mut Table<V>, id: ResourceId, value: V)
     ensures slots { (q : ResourceId) → slot_at table.new q ≡ with_at (slot_at table.old) id (filled value (slot_at table.old id)) q }
     ensures noted { (q : ResourceId) → noted_in table.new q ≡ noted_in table.old q }
 {
-    if let Some(slot) = table.slot_mut(id) {
+    fill_near(table, id, 0, value);
+}
+
+// `fill`, with a place that is looked at first.
+pub(crate) fn fill_near<V: Drop>(table: &mut Table<V>, id: ResourceId, near: usize, value: V)
+    ensures slots { (q : ResourceId) → slot_at table.new q ≡ with_at (slot_at table.old) id (filled value (slot_at table.old id)) q }
+    ensures noted { (q : ResourceId) → noted_in table.new q ≡ noted_in table.old q }
+{
+    if let Some(slot) = table.slot_near(id, near) {
         slot.value = Some(value);
     }
 }

@@ -1,4 +1,4 @@
-use Rattle.std.proofs.Common.{◌≡◌, Bool, None, Option, cond, [], slice_index_or, take, refl, sym, ◌∙◌, ap, arith}
+use Rattle.std.proofs.Common.{◌≡◌, Bool, None, Option, cond, [], slice_index_or, take, sym, ◌∙◌, ap, arith}
 use Rattle.std.proofs.lemmas.List.{take_all}
 use Rattle.std.proofs.lemmas.List.Folds.{list_any_more}
 use Rattle.std.proofs.Math.ListN.{length-set}
@@ -17,7 +17,7 @@ use Rattle.shred_table.proofs.hands.move_all_out.Goals as goal
 pub loop-i-init : goal.loop-i-init
 loop-i-init g c = record {
   long = zip-length (HasRoom c.args.table.now) c.args.pairs.now c.args.hands.now c.requires.room;
-  left = λ q. refl;
+  left = λ q. ap (λ s. listed_at s q) c.rewind.ensures.slots;
   hands = zip-start (IsFilled c.args.table.now) (HasRoom c.args.table.now) c.args.pairs.now c.args.hands.now c.requires.room;
 }
 

@@ -1,5 +1,5 @@
 //! A list of slots, in the order of their ids.
-ghost use Rattle.std.specs.Prelude.{◌≡◌, ℕ, ◌<◌, ◌≤◌, length, AllPairs, None, Some, Option, map, IfOk, IfErr, OnOk, OnErr};
+ghost use Rattle.std.specs.Prelude.{◌≡◌, ℕ, ◌<◌, ◌≤◌, length, AllPairs, None, Some, Option, map, IfOk, IfErr, OnOk, OnErr, IfSome, is_some, ◌&&◌};
 ghost use Rattle.std.specs.Borrow.{sem};
 ghost use Rattle.std.specs.Option.{option_copied, option_copied_mut};
 ghost use Rattle.std.proofs.Props.{props};
@@ -7,7 +7,10 @@ ghost use Rattle.shred_table.specs.InOrder.{ComesBefore};
 ghost use Rattle.shred_table.specs.declared.id.ResourceId.{ResourceId};
 
 use crate::accessor::OutOfMemory;
+use crate::held;
 use crate::id::ResourceId;
+use crate::resource::ResourceValue;
+use crate::steps::Steps;
 use crate::table::Slot;
 use std::alloc::Global;
 use std::cmp::Ordering;
@@ -22,7 +25,9 @@ pub(crate) struct Listed<V> {
 impl<V> Listed<V> {
     ghost use Rattle.shred_table.specs.Lent.{LendsListed};
     ghost use Rattle.shred_table.specs.Listed.{listed_at, IsPlaceOf, IsGapFor};
-    ghost use Rattle.shred_table.specs.Slots.{with_at};
+    ghost use Rattle.shred_table.specs.Counts.{IsCountOf, IsWithinDigits};
+    ghost use Rattle.shred_table.specs.InOrder.{comes_first};
+    ghost use Rattle.shred_table.specs.Slots.{slot_held, with_at};
 
     // No slots. It takes no memory.
     pub(crate) fn new(alloc: Global) -> Self
@@ -78,6 +83,17 @@ impl<V> Listed<V> {
             Ok(place) => Some(&self.slots[place].1),
             Err(_) => None,
         }
+    }
+
+    // How many ids that come before it hold a value, where the id holds one.
+    pub(crate) fn slot_of(&self, id: ResourceId, steps: &mut Steps) -> Option<usize>
+    where
+        V: ResourceValue,
+        ensures held { is_some result ≡ is_some (slot_held V.kind_of id (listed_at self.now id)) }
+        ensures slot { IfSome result (IsCountOf (λ q. is_some (slot_held V.kind_of q (listed_at self.now q)) && comes_first q id)) }
+        ensures steps { (count : ℕ) × IsCountOf (λ q. is_some (slot_held V.kind_of q (listed_at self.now q))) count × IsWithinDigits count steps.old.count steps.new.count }
+    {
+        held::slot_of(self.slots.as_slice(), id, steps)
     }
 
     // The ids that have a slot, in order.

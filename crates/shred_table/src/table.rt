@@ -1,9 +1,11 @@
 //! A table of slots, each of one id; the value of a slot may be moved out of it and back.
-ghost use Rattle.std.specs.Prelude.{◌≡◌, ◌≢◌, ◌||◌, false, is_some, IfNone, IfSome, None, Some, MatchOption, OnOk, OnErr, IfOk, IfErr};
+ghost use Rattle.std.specs.Prelude.{◌≡◌, ℕ, ◌&&◌, ◌≢◌, ◌||◌, false, is_some, IfNone, IfSome, None, Some, MatchOption, OnOk, OnErr, IfOk, IfErr};
 ghost use Rattle.std.specs.Option.{option_copied, option_copied_mut};
 ghost use Rattle.std.specs.Borrow.{sem};
 ghost use Rattle.shred_table.specs.Slots.{slots_of, slot_at, noted_in, among, of_kind, held, slot_held, with_at};
+ghost use Rattle.shred_table.specs.Counts.{IsCountOf, IsWithinDigits};
 ghost use Rattle.shred_table.specs.Id.{id_kind, same_id};
+ghost use Rattle.shred_table.specs.InOrder.{comes_first};
 ghost use Rattle.shred_table.specs.Parting.{emptied, slot_value, filled};
 ghost use Rattle.shred_table.specs.Lent.{LendsSlot, LendsValue, LendsResource, LendsHeld};
 ghost use Rattle.shred_table.specs.declared.id.ResourceId.{ResourceId};
@@ -13,6 +15,7 @@ use crate::hints::Hints;
 use crate::id::ResourceId;
 use crate::listed::Listed;
 use crate::resource::{Resource, ResourceValue};
+use crate::steps::Steps;
 use std::alloc::Global;
 use std::mem;
 
@@ -138,6 +141,18 @@ impl<V> Table<V> {
             Some(slot) => slot.held(id),
             None => None,
         }
+    }
+
+    /// How many ids that come before it are held, where the id is held. It takes no more comparisons than the number of held
+    /// ids has binary digits.
+    pub fn slot_of(&self, id: ResourceId, steps: &mut Steps) -> Option<usize>
+    where
+        V: ResourceValue,
+        ensures held { is_some result ≡ is_some (held V.kind_of self.now id) }
+        ensures slot { IfSome result (IsCountOf (λ q. is_some (held V.kind_of self.now q) && comes_first q id)) }
+        ensures steps { (count : ℕ) × IsCountOf (λ q. is_some (held V.kind_of self.now q)) count × IsWithinDigits count steps.old.count steps.new.count }
+    {
+        self.slots.slot_of(id, steps)
     }
 
     /// The ids that have a slot.

@@ -39,7 +39,7 @@ pub use shred_stage::{
 pub use shred_world::{
     Accessor, BatchAccessor, Behind, DataError, DefaultProvider, DynamicSystemData, Entry, Fetch,
     FetchMut, Kind, Lent, LocalLent, LocalWorld, Only, OutOfMemory, PanicHandler, Parts, Read,
-    ReadExpect, ReplaceError, Resource, ResourceId, ResourceValue, Resources, SetupHandler,
+    ReadExpect, ReplaceError, Resource, ResourceId, ResourceValue, Resources, SetupHandler, Steps,
     SystemData, Table, View, ViewWork, World, WorldError, Write, WriteExpect, bundle_accessor,
     check_intersection, only_id,
 };

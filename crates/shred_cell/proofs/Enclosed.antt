@@ -1,16 +1,17 @@
 -- Values that are moved into cells.
 use Rattle.std.proofs.Common.{◌≡◌, ◌||◌, Bool, true, false, Option, Some, None, cond, refl, ◌∙◌, ap}
-use Rattle.std.specs.Prelude.{is_some}
+use Rattle.std.specs.Prelude.{is_some, IfSome, option_map}
 use Rattle.shred_table.specs.declared.id.Kind.{Kind}
 use Rattle.shred_table.specs.declared.id.ResourceId.{ResourceId}
 use Rattle.shred_table.specs.declared.table.Slot.{Slot}
-use Rattle.shred_table.specs.Id.{same_id}
+use Rattle.shred_table.specs.Id.{id_kind, same_id}
 use Rattle.shred_table.specs.Slots.{slot_held, of_kind, with_at}
 use Rattle.shred_table.proofs.Tables.Slots.{same_id-true}
 use Rattle.shred_table.proofs.Tables.Moves.{with_at-there}
 use Rattle.shred_table.specs.Parting.{emptied, filled, slot_value, given}
 use Rattle.shred_cell.specs.declared.cell.TrustCell.{TrustCell}
-use Rattle.shred_cell.specs.Shared.{cell_of}
+use Rattle.shred_cell.specs.Cells.{tag_of}
+use Rattle.shred_cell.specs.Shared.{cell_for, cell_of}
 
 module _ {V F : Type 0} (kind : V → Kind) (id : ResourceId) where
   -- an empty slot has nothing for a cell
@@ -22,6 +23,47 @@ module _ {V F : Type 0} (kind : V → Kind) (id : ResourceId) where
   pub cell-more : (a : Bool) (s t : Option (Slot V)) (x y : Option (Slot (TrustCell V F Kind))) → s ≡ cond a (emptied t) t → x ≡ cond a (given (cell_of kind id t) y) y → given (cell_of kind id s) x ≡ given (cell_of kind id t) y
   cell-more true s t x y left came = ap (λ (o : Option (Slot V)). given (cell_of kind id o) x) left ∙ ap (λ (o : Option (TrustCell V F Kind)). given o x) (none_of_emptied t) ∙ came
   cell-more false s t x y left came = ap (λ (o : Option (Slot V)). given (cell_of kind id o) x) left ∙ ap (given (cell_of kind id t)) came
+
+  -- where the cell that came, and the one that was there, are for the id, the one that is there is
+  pub placed-after : (a : Bool) (t : Option (Slot V)) (x y : Option (Slot (TrustCell V F Kind))) → x ≡ cond a (given (cell_of kind id t) y) y → IfSome (slot_value y) (λ cell. tag_of cell ≡ id_kind id) → IfSome (slot_value x) (λ cell. tag_of cell ≡ id_kind id)
+  placed-after a t x y is placed = rw is (either a (slot_held kind id t) y placed) where
+    either : (a : Bool) (o : Option V) (y : Option (Slot (TrustCell V F Kind))) → IfSome (slot_value y) (λ cell. tag_of cell ≡ id_kind id) → IfSome (slot_value (cond a (given (option_map (λ _. cell_for {F = F} id) o) y) y)) (λ cell. tag_of cell ≡ id_kind id)
+    either true (Some v) (Some s) placed = refl
+    either true (Some v) None placed = placed
+    either true None y placed = placed
+    either false o y placed = placed
+
+  -- a cell is there afterwards where one came, into a slot that is there for it, or was there
+  pub cell-after : (a : Bool) (t : Option (Slot V)) (x y : Option (Slot (TrustCell V F Kind))) → x ≡ cond a (given (cell_of kind id t) y) y → is_some t ≡ a → is_some y ≡ a
+      → is_some (slot_value x) ≡ is_some (slot_held kind id t) || is_some (slot_value y)
+  cell-after true (Some s) x (Some y) is home room = rw is (either (of_kind kind id s.value)) where
+    either : (o : Option V) → is_some (slot_value (given (option_map (λ _. cell_for {F = F} id) o) (Some y))) ≡ is_some o || is_some y.value
+    either (Some v) = refl
+    either None = refl
+  cell-after true None x y is home room = absurd (cc)
+  cell-after true (Some s) x None is home room = absurd (cc)
+  cell-after false None x y is home room = rw is refl
+  cell-after false (Some s) x y is home room = absurd (cc)
+
+-- a slot into which a value may have come was there before
+pub slot-after : {X : Type 0} (a : Bool) (o : Option X) (x y : Option (Slot X)) → x ≡ cond a (given o y) y → is_some x ≡ is_some y
+slot-after true (Some v) x (Some s) is = ap is_some is
+slot-after true (Some v) x None is = ap is_some is
+slot-after true None x y is = ap is_some is
+slot-after false o x y is = ap is_some is
+
+-- a slot whose value may have gone was there before
+pub home-after : {X : Type 0} (a : Bool) (x t : Option (Slot X)) → x ≡ cond a (emptied t) t → is_some x ≡ is_some t
+home-after true x (Some s) is = ap is_some is
+home-after true x None is = ap is_some is
+home-after false x t is = ap is_some is
+
+-- and has no value, where all values went
+pub moved-after : {X : Type 0} (a : Bool) (x t : Option (Slot X)) → x ≡ cond a (emptied t) t → is_some t ≡ a → is_some (slot_value x) ≡ false
+moved-after {X} true x (Some s) is home = ap (λ (o : Option (Slot X)). is_some (slot_value o)) is
+moved-after true x None is home = absurd (cc)
+moved-after {X} false x None is home = ap (λ (o : Option (Slot X)). is_some (slot_value o)) is
+moved-after false x (Some s) is home = absurd (cc)
 
 -- a slot that is emptied and filled again had a value before
 pub refilled-fewer : {X : Type 0} (m n l : ResourceId → Option (Slot X)) (id : ResourceId) (w : X) → ((q : ResourceId) → n q ≡ with_at m id (emptied (m id)) q) → ((q : ResourceId) → l q ≡ with_at n id (filled w (n id)) q)

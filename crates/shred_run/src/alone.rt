@@ -15,7 +15,7 @@ ghost use Rattle.shred_table.specs.Shown.{HasOwnSlots};
 use crate::calls::run_system;
 use crate::loan::Loan;
 use crate::system::{Fault, System};
-use shred_world::parting::{empty_hand, move_each};
+use shred_world::parting::{empty_hand, move_each, move_home};
 use shred_world::{Accessor, OutOfMemory, ResourceId, ResourceValue, Shelf, Table};
 use std::alloc::Global;
 
@@ -93,7 +93,7 @@ fn step_in<V: ResourceValue + Drop, S: System<V>>(
         system,
         &mut room.hand,
     );
-    move_each(&mut room.hand, room.writes.as_slice(), table);
+    move_home(&mut room.hand, room.writes.as_slice(), table);
     outcome
 }
 

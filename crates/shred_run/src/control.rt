@@ -15,7 +15,7 @@ ghost use Rattle.shred_world.specs.Views.{lent_slot};
 use crate::calls::{Call, call_over};
 use crate::loan::{Loan, behind};
 use crate::system::Fault;
-use shred_world::parting::move_each;
+use shred_world::parting::{move_each, move_home};
 use shred_world::{ResourceId, ResourceValue, Table};
 
 /// A controller, with the two lists that it declares, and a slot for each id that it writes, into which the value is moved
@@ -76,6 +76,6 @@ pub(crate) fn call_kept<V: ResourceValue + Drop, C, A, E, K: Call<V, C, A, E>>(
 {
     move_each(own, entry.writes.as_slice(), &mut entry.hand);
     let answer = call_in_hand(call, entry, loan, own);
-    move_each(&mut entry.hand, entry.writes.as_slice(), own);
+    move_home(&mut entry.hand, entry.writes.as_slice(), own);
     answer
 }

@@ -8,7 +8,7 @@ ghost use Rattle.shred_run.specs.Hands.{HasEmptyHand, WriteApart, some_writes, F
 
 use crate::entry::Group;
 use shred_world::Table;
-use shred_world::parting::move_each;
+use shred_world::parting::{move_each, move_home};
 
 impl<V: Drop, S> Group<V, S> {
     // Moves what the group writes into its hand.
@@ -26,7 +26,7 @@ impl<V: Drop, S> Group<V, S> {
         ensures hand { IsLeftEmpty self.old self.new }
         ensures back { (q : ResourceId) → slot_at table.new q ≡ cond (among self.old.written.items q) (given (slot_value (slot_at self.old.hand q)) (slot_at table.old q)) (slot_at table.old q) }
     {
-        move_each(&mut self.hand, self.written.as_slice(), table);
+        move_home(&mut self.hand, self.written.as_slice(), table);
     }
 }
 
@@ -37,6 +37,7 @@ pub fn move_all_out<V: Drop, S>(groups: &mut [Group<V, S>], table: &mut Table<V>
     ensures hands { AllZip (IsMovedOut (slot_at table.old)) groups.old groups.new }
     ensures left { (q : ResourceId) → slot_at table.new q ≡ cond (some_writes groups.old q) (emptied (slot_at table.old q)) (slot_at table.old q) }
 {
+    table.rewind();
     for group in groups.iter_mut() {
         group.move_out(table);
     }

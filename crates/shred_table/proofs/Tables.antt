@@ -7,3 +7,5 @@ pub mod Slots
 pub mod Held
 pub mod Moves
 pub mod Members
+pub mod Halving
+pub mod Counted

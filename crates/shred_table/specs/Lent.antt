@@ -7,11 +7,9 @@ use Rattle.shred_table.specs.declared.table.Table.{Table}
 use Rattle.shred_table.specs.contracts.table.Slot.{the_row as slot_row}
 use Rattle.shred_table.specs.contracts.table.Table.{the_row as table_row}
 use Rattle.shred_table.specs.declared.listed.Listed.{Listed}
-use Rattle.shred_table.specs.declared.store.Slots.{Slots}
 use Rattle.shred_table.specs.contracts.listed.Listed.{the_row as listed_row}
-use Rattle.shred_table.specs.contracts.store.Slots.{the_row as slots_row}
 use Rattle.shred_table.specs.Listed.{listed_at}
-use Rattle.shred_table.specs.Slots.{kept_at, slot_at, noted_in, with_at}
+use Rattle.shred_table.specs.Slots.{slot_at, noted_in, with_at}
 
 -- the slot with this value
 abbrev pub with_value : {V : Type 0} → Slot V → V → Slot V
@@ -30,12 +28,6 @@ abbrev pub LendsListed : (V : RattleType) → MutBor (Listed V.Denot) → Resour
 LendsListed V s id r = LendsSo (listed_row V) (slot_row V) s r
     (λ n w. OnSome r ((q : ResourceId) → listed_at n q ≡ with_at (listed_at s.now) id (Some w) q))
     (λ n. (q : ResourceId) → listed_at n q ≡ listed_at s.now q)
-
--- the slots end with the one last written at the id, or as they were where there is none
-abbrev pub LendsKept : (V : RattleType) → MutBor (Slots V.Denot) → ResourceId → Option (MutBor (Slot V.Denot)) → Fml
-LendsKept V s id r = LendsSo (slots_row V) (slot_row V) s r
-    (λ n w. OnSome r ((q : ResourceId) → kept_at n q ≡ with_at (kept_at s.now) id (Some w) q))
-    (λ n. (q : ResourceId) → kept_at n q ≡ kept_at s.now q)
 
 -- the table ends with the slot last written at the id, or as it was where there is none, and all else as it was
 abbrev pub LendsSlot : (V : RattleType) → MutBor (Table V.Denot) → ResourceId → Option (MutBor (Slot V.Denot)) → Fml

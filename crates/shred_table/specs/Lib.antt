@@ -3,6 +3,8 @@ pub mod InOrder
 pub mod Listed
 pub mod Only
 pub mod Slots
+pub mod Held
+pub mod Counts
 pub mod Lent
 pub mod Parting
 pub mod Shown

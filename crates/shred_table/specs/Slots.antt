@@ -1,28 +1,21 @@
 -- What the slots of a table hold.
 use Rattle.std.specs.Prelude.{Bool, false, Option, Some, None, cond, is_none, nat_eq, List}
 use Rattle.std.specs.List.{list_any}
-use Rattle.std.specs.HashMap.{get}
 use Rattle.shred_table.specs.declared.id.Kind.{Kind}
 use Rattle.shred_table.specs.declared.id.ResourceId.{ResourceId}
 use Rattle.shred_table.specs.Id.{same_id}
 use Rattle.shred_table.specs.Listed.{listed_at}
-use Rattle.shred_table.specs.declared.store.Slots.{Slots}
-use Rattle.shred_table.specs.declared.store.Slots.TheVariants.{Hashed, Listed}
+use Rattle.shred_table.specs.declared.listed.Listed.{Listed}
 use Rattle.shred_table.specs.declared.table.Slot.{Slot}
 use Rattle.shred_table.specs.declared.table.Table.{Table}
 
--- the slot of an id, hashed or listed
-abbrev pub kept_at : {V : Type 0} → Slots V → ResourceId → Option (Slot V)
-kept_at (Hashed slots) id = get same_id slots id
-kept_at (Listed slots) id = listed_at slots id
-
 -- the slots of a table
-abbrev pub slots_of : {V : Type 0} → Table V → Slots V
+abbrev pub slots_of : {V : Type 0} → Table V → Listed V
 slots_of t = t.slots
 
 -- the slot of an id
 abbrev pub slot_at : {V : Type 0} → Table V → ResourceId → Option (Slot V)
-slot_at t id = kept_at t.slots id
+slot_at t id = listed_at t.slots id
 
 -- a value under an id, where it is of the id's kind
 abbrev pub of_kind : {V : Type 0} → (V → Kind) → ResourceId → Option V → Option V

@@ -22,7 +22,7 @@ pub fn make_hands<V: Drop>(
 {
     let mut hands = Vec::new(alloc);
     for pair in pairs {
-        let mut hand = Table::hand(alloc);
+        let mut hand = Table::with_homes(alloc, pair.1.len())?;
         if let Err(error) = table.make_room(pair.1, &mut hand) {
             return Err(error);
         }
@@ -46,6 +46,7 @@ pub fn move_all_out<V: Drop>(
     ensures nothing_out { All HasNothingOut hands.new }
     ensures left { (q : ResourceId) → slot_at table.new q ≡ cond (written_by pairs.now q) (emptied (slot_at table.old q)) (slot_at table.old q) }
 {
+    table.rewind();
     for i in 0..pairs.len() {
         let hand = &mut hands[i];
         move_out(table, pairs[i].1, hand);

@@ -3,12 +3,14 @@
 
 pub mod accessor;
 pub mod hands;
+mod held;
+mod hints;
 pub mod id;
 mod listed;
 pub mod only;
 pub mod parting;
 pub mod resource;
-mod store;
+pub mod steps;
 pub mod table;
 pub mod util;
 
@@ -16,5 +18,6 @@ pub use accessor::{Accessor, BatchAccessor, OutOfMemory};
 pub use id::{Kind, ResourceId};
 pub use only::{Only, only_id};
 pub use resource::{Resource, ResourceValue};
+pub use steps::Steps;
 pub use table::{Slot, Table};
 pub use util::check_intersection;

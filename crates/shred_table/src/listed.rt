@@ -1,5 +1,5 @@
-//! A list of a few slots, in the order of their ids.
-ghost use Rattle.std.specs.Prelude.{◌≡◌, ℕ, ◌<◌, ◌≤◌, length, AllPairs, None, Some, Option, map, IfOk, IfErr, OnOk, OnErr};
+//! A list of slots, in the order of their ids.
+ghost use Rattle.std.specs.Prelude.{◌≡◌, ℕ, ◌<◌, ◌≤◌, length, AllPairs, None, Some, Option, map, IfOk, IfErr, OnOk, OnErr, IfSome, is_some, ◌&&◌};
 ghost use Rattle.std.specs.Borrow.{sem};
 ghost use Rattle.std.specs.Option.{option_copied, option_copied_mut};
 ghost use Rattle.std.proofs.Props.{props};
@@ -7,9 +7,13 @@ ghost use Rattle.shred_table.specs.InOrder.{ComesBefore};
 ghost use Rattle.shred_table.specs.declared.id.ResourceId.{ResourceId};
 
 use crate::accessor::OutOfMemory;
+use crate::held;
 use crate::id::ResourceId;
+use crate::resource::ResourceValue;
+use crate::steps::Steps;
 use crate::table::Slot;
 use std::alloc::Global;
+use std::cmp::Ordering;
 
 /// Slots in the order of their ids. A slot is found by halving the list.
 #[derive(Drop)]
@@ -21,7 +25,9 @@ pub(crate) struct Listed<V> {
 impl<V> Listed<V> {
     ghost use Rattle.shred_table.specs.Lent.{LendsListed};
     ghost use Rattle.shred_table.specs.Listed.{listed_at, IsPlaceOf, IsGapFor};
-    ghost use Rattle.shred_table.specs.Slots.{with_at};
+    ghost use Rattle.shred_table.specs.Counts.{IsCountOf, IsWithinDigits};
+    ghost use Rattle.shred_table.specs.InOrder.{comes_first};
+    ghost use Rattle.shred_table.specs.Slots.{slot_held, with_at};
 
     // No slots. It takes no memory.
     pub(crate) fn new(alloc: Global) -> Self
@@ -37,7 +43,36 @@ impl<V> Listed<V> {
         ensures found { IfOk result (IsPlaceOf id self.now.slots.items) }
         ensures gap { IfErr result (IsGapFor id self.now.slots.items) }
     {
-        self.slots.binary_search_by_key(&id, |slot| slot.0)
+        let mut low: usize = 0;
+        let mut high = self.slots.len();
+        while low < high {
+            let middle = low + (high - low) / 2;
+            match self.slots[middle].0.cmp(&id) {
+                Ordering::Less => low = middle + 1,
+                Ordering::Equal => return Ok(middle),
+                Ordering::Greater => high = middle,
+            }
+        }
+        Err(low)
+    }
+
+    // The same, where a place is looked at first.
+    fn place_near(&self, id: ResourceId, near: usize) -> Result<usize, usize>
+        ensures found { IfOk result (IsPlaceOf id self.now.slots.items) }
+        ensures gap { IfErr result (IsGapFor id self.now.slots.items) }
+    {
+        if near < self.slots.len() && self.slots[near].0 == id {
+            return Ok(near);
+        }
+        self.place(id)
+    }
+
+    // Where the slot of the id is, or where it would go, to be looked at first later on.
+    pub(crate) fn find(&self, id: ResourceId, near: usize) -> usize {
+        match self.place_near(id, near) {
+            Ok(place) => place,
+            Err(place) => place,
+        }
     }
 
     // The slot of an id.
@@ -50,6 +85,17 @@ impl<V> Listed<V> {
         }
     }
 
+    // How many ids that come before it hold a value, where the id holds one.
+    pub(crate) fn slot_of(&self, id: ResourceId, steps: &mut Steps) -> Option<usize>
+    where
+        V: ResourceValue,
+        ensures held { is_some result ≡ is_some (slot_held V.kind_of id (listed_at self.now id)) }
+        ensures slot { IfSome result (IsCountOf (λ q. is_some (slot_held V.kind_of q (listed_at self.now q)) && comes_first q id)) }
+        ensures steps { (count : ℕ) × IsCountOf (λ q. is_some (slot_held V.kind_of q (listed_at self.now q))) count × IsWithinDigits count steps.old.count steps.new.count }
+    {
+        held::slot_of(self.slots.as_slice(), id, steps)
+    }
+
     // The ids that have a slot, in order.
     pub(crate) fn ids(&self, alloc: Global) -> Result<Vec<ResourceId>, OutOfMemory>
         ensures { IfOk result (λ ids. ids.items ≡ map (λ slot. slot.0) self.now.slots.items) }
@@ -60,12 +106,12 @@ impl<V> Listed<V> {
         }
     }
 
-    // The slot of an id, to write.
-    pub(crate) fn get_mut(&mut self, id: ResourceId) -> Option<&mut Slot<V>>
+    // The slot of an id, to write. A place is looked at first.
+    pub(crate) fn get_mut(&mut self, id: ResourceId, near: usize) -> Option<&mut Slot<V>>
         ensures shown { option_copied_mut result ≡ listed_at self.old id }
         ensures* written { sem 𝓛 (LendsListed V.row self.entry id result) }
     {
-        match self.place(id) {
+        match self.place_near(id, near) {
             Ok(place) => Some(&mut self.slots[place].1),
             Err(_) => None,
         }

@@ -6,36 +6,21 @@ ghost use Rattle.shred_table.specs.Slots.{slot_at, with_at, among};
 
 use crate::accessor::OutOfMemory;
 use crate::id::ResourceId;
-use crate::table::{Table, fill, open, take};
+use crate::table::{Table, fill_near, open, take_near};
 use std::alloc::Global;
 
-/// A hand with an empty slot for each of these ids, and with no other slot. The dispatcher makes such hands; `View::part`
-/// makes its own.
+/// A table with an empty slot for each of these ids, and with no other slot.
 pub fn empty_hand<V: Drop>(alloc: Global, ids: &[ResourceId]) -> Result<Table<V>, OutOfMemory>
     ensures { IfOk result (IsEmptyHand ids.now) }
 {
-    with_room(Table::hand(alloc), ids)
-}
-
-/// A world's table with an empty slot for each of these ids, and with no other slot.
-pub fn empty_table<V: Drop>(alloc: Global, ids: &[ResourceId]) -> Result<Table<V>, OutOfMemory>
-    ensures { IfOk result (IsEmptyHand ids.now) }
-{
-    with_room(Table::new(alloc), ids)
-}
-
-// A table that has no slot, with an empty slot for each of these ids.
-fn with_room<V: Drop>(mut table: Table<V>, ids: &[ResourceId]) -> Result<Table<V>, OutOfMemory>
-    requires { (id : ResourceId) → slot_at table id ≡ None }
-    ensures { IfOk result (IsEmptyHand ids.now) }
-{
+    let mut hand = Table::with_homes(alloc, ids.len())?;
     for id in ids {
-        match open(&mut table, *id) {
+        match open(&mut hand, *id) {
             Ok(()) => {}
             Err(error) => return Err(error),
         }
     }
-    Ok(table)
+    Ok(hand)
 }
 
 impl<V: Drop> Table<V> {
@@ -75,13 +60,26 @@ impl<V: Drop> Table<V> {
         Ok(())
     }
 
-    // Moves the value of an id, where there is one, into the slot of another table.
-    fn move_one(&mut self, id: ResourceId, to: &mut Table<V>)
+    // Moves the value of an id, where there is one, into the slot of another table, which notes where it came from.
+    fn move_one(&mut self, id: ResourceId, number: usize, to: &mut Table<V>)
         ensures from { (q : ResourceId) → slot_at self.new q ≡ with_at (slot_at self.old) id (emptied (slot_at self.old id)) q }
         ensures to { (q : ResourceId) → slot_at to.new q ≡ with_at (slot_at to.old) id (given (slot_value (slot_at self.old id)) (slot_at to.old id)) q }
     {
-        if let Some(value) = take(self, id) {
-            fill(to, id, value);
+        let home = self.find(id);
+        if let Some(value) = take_near(self, id, home) {
+            fill_near(to, id, number, value);
+        }
+        to.note_home(number, home);
+    }
+
+    // Moves the value of an id, where there is one, into the slot of the table that it came from.
+    fn move_one_home(&mut self, id: ResourceId, number: usize, to: &mut Table<V>)
+        ensures from { (q : ResourceId) → slot_at self.new q ≡ with_at (slot_at self.old) id (emptied (slot_at self.old id)) q }
+        ensures to { (q : ResourceId) → slot_at to.new q ≡ with_at (slot_at to.old) id (given (slot_value (slot_at self.old id)) (slot_at to.old id)) q }
+    {
+        let home = self.home(number);
+        if let Some(value) = take_near(self, id, number) {
+            fill_near(to, id, home, value);
         }
     }
 }
@@ -92,8 +90,18 @@ pub fn move_each<V: Drop>(from: &mut Table<V>, ids: &[ResourceId], to: &mut Tabl
     ensures from { (q : ResourceId) → slot_at from.new q ≡ cond (among ids.now q) (emptied (slot_at from.old q)) (slot_at from.old q) }
     ensures to { (q : ResourceId) → slot_at to.new q ≡ cond (among ids.now q) (given (slot_value (slot_at from.old q)) (slot_at to.old q)) (slot_at to.old q) }
 {
-    for id in ids {
-        from.move_one(*id, to);
+    for number in 0..ids.len() {
+        from.move_one(ids[number], number, to);
+    }
+}
+
+/// `move_each`, back into the table that the values came from. The place that each left is looked at first.
+pub fn move_home<V: Drop>(from: &mut Table<V>, ids: &[ResourceId], to: &mut Table<V>)
+    ensures from { (q : ResourceId) → slot_at from.new q ≡ cond (among ids.now q) (emptied (slot_at from.old q)) (slot_at from.old q) }
+    ensures to { (q : ResourceId) → slot_at to.new q ≡ cond (among ids.now q) (given (slot_value (slot_at from.old q)) (slot_at to.old q)) (slot_at to.old q) }
+{
+    for number in 0..ids.len() {
+        from.move_one_home(ids[number], number, to);
     }
 }
 
@@ -113,5 +121,5 @@ pub fn move_back<V: Drop>(table: &mut Table<V>, ids: &[ResourceId], hand: &mut T
     ensures back { (q : ResourceId) → slot_at table.new q ≡ cond (among ids.now q) (slot_at hand.old q) (slot_at table.old q) }
     ensures hand { (q : ResourceId) → slot_at hand.new q ≡ emptied (slot_at hand.old q) }
 {
-    move_each(hand, ids, table);
+    move_home(hand, ids, table);
 }

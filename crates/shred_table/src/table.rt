@@ -1,20 +1,22 @@
 //! A table of slots, each of one id; the value of a slot may be moved out of it and back.
-ghost use Rattle.std.specs.Prelude.{◌≡◌, ◌≢◌, ◌||◌, false, is_some, IfNone, IfSome, None, Some, MatchOption, OnOk, OnErr, IfOk, IfErr};
+ghost use Rattle.std.specs.Prelude.{◌≡◌, ℕ, ◌&&◌, ◌≢◌, ◌||◌, false, is_some, IfNone, IfSome, None, Some, MatchOption, OnOk, OnErr, IfOk, IfErr};
 ghost use Rattle.std.specs.Option.{option_copied, option_copied_mut};
 ghost use Rattle.std.specs.Borrow.{sem};
 ghost use Rattle.shred_table.specs.Slots.{slots_of, slot_at, noted_in, among, of_kind, held, slot_held, with_at};
+ghost use Rattle.shred_table.specs.Counts.{IsCountOf, IsWithinDigits};
 ghost use Rattle.shred_table.specs.Id.{id_kind, same_id};
+ghost use Rattle.shred_table.specs.InOrder.{comes_first};
 ghost use Rattle.shred_table.specs.Parting.{emptied, slot_value, filled};
 ghost use Rattle.shred_table.specs.Lent.{LendsSlot, LendsValue, LendsResource, LendsHeld};
 ghost use Rattle.shred_table.specs.declared.id.ResourceId.{ResourceId};
 
 use crate::accessor::OutOfMemory;
+use crate::hints::Hints;
 use crate::id::ResourceId;
 use crate::listed::Listed;
 use crate::resource::{Resource, ResourceValue};
-use crate::store::Slots;
+use crate::steps::Steps;
 use std::alloc::Global;
-use std::collections::HashMap;
 use std::mem;
 
 /// The place of a value; it stays while the value is moved out.
@@ -79,28 +81,34 @@ impl<V> Slot<V> {
 /// Slots by id, and the ids whose values are noted as handed out.
 #[derive(Drop)]
 pub struct Table<V> {
-    slots: Slots<V>,
+    slots: Listed<V>,
     out: Vec<ResourceId>,
+    hints: Hints,
 }
 
 impl<V> Table<V> {
-    /// A world's table, without slots. It takes no memory.
+    /// No slots. It takes no memory.
     pub fn new(alloc: Global) -> Self
         ensures { (id : ResourceId) → slot_at result id ≡ None }
     {
         Table {
-            slots: Slots::Hashed(HashMap::new(alloc)),
+            slots: Listed::new(alloc),
             out: Vec::new(alloc),
+            hints: Hints::new(alloc),
         }
     }
 
-    // A hand, without slots. It takes no memory.
-    pub(crate) fn hand(alloc: Global) -> Self
-        ensures { (id : ResourceId) → slot_at result id ≡ None }
+    // No slots, and room to note where so many values came from.
+    pub(crate) fn with_homes(alloc: Global, count: usize) -> Result<Self, OutOfMemory>
+        ensures { IfOk result (λ table. (id : ResourceId) → slot_at table id ≡ None) }
     {
-        Table {
-            slots: Slots::Listed(Listed::new(alloc)),
-            out: Vec::new(alloc),
+        match Hints::with_room(alloc, count) {
+            Ok(hints) => Ok(Table {
+                slots: Listed::new(alloc),
+                out: Vec::new(alloc),
+                hints,
+            }),
+            Err(error) => Err(error),
         }
     }
 
@@ -135,6 +143,18 @@ impl<V> Table<V> {
         }
     }
 
+    /// How many ids that come before it are held, where the id is held. It takes no more comparisons than the number of held
+    /// ids has binary digits.
+    pub fn slot_of(&self, id: ResourceId, steps: &mut Steps) -> Option<usize>
+    where
+        V: ResourceValue,
+        ensures held { is_some result ≡ is_some (held V.kind_of self.now id) }
+        ensures slot { IfSome result (IsCountOf (λ q. is_some (held V.kind_of self.now q) && comes_first q id)) }
+        ensures steps { (count : ℕ) × IsCountOf (λ q. is_some (held V.kind_of self.now q)) count × IsWithinDigits count steps.old.count steps.new.count }
+    {
+        self.slots.slot_of(id, steps)
+    }
+
     /// The ids that have a slot.
     pub fn ids(&self) -> Result<Vec<ResourceId>, OutOfMemory>
         ensures { IfOk result (λ ids. (q : ResourceId) → among ids.items q ≡ is_some (slot_at self.now q)) }
@@ -151,12 +171,51 @@ impl<V> Table<V> {
         let _ = self.slots.remove(id);
     }
 
+    // Where the slot of the id is, to be looked at first later on; behind it the next one is looked for.
+    pub(crate) fn find(&mut self, id: ResourceId) -> usize
+        ensures slots { slots_of self.new ≡ slots_of self.old }
+        ensures noted { (q : ResourceId) → noted_in self.new q ≡ noted_in self.old q }
+    {
+        let place = self.slots.find(id, self.hints.next());
+        self.hints.found(place);
+        place
+    }
+
+    /// Looks for what is moved next from the first slot on.
+    pub fn rewind(&mut self)
+        ensures slots { slots_of self.new ≡ slots_of self.old }
+        ensures noted { (q : ResourceId) → noted_in self.new q ≡ noted_in self.old q }
+    {
+        self.hints.rewind();
+    }
+
+    // The place that the value of this number came from.
+    pub(crate) fn home(&self, number: usize) -> usize {
+        self.hints.home(number)
+    }
+
+    // Notes the place that the value of this number came from.
+    pub(crate) fn note_home(&mut self, number: usize, place: usize)
+        ensures slots { slots_of self.new ≡ slots_of self.old }
+        ensures noted { (q : ResourceId) → noted_in self.new q ≡ noted_in self.old q }
+    {
+        self.hints.note_home(number, place);
+    }
+
+    // The slot of an id, to write. A place is looked at first.
+    pub(crate) fn slot_near(&mut self, id: ResourceId, near: usize) -> Option<&mut Slot<V>>
+        ensures shown { option_copied_mut result ≡ slot_at self.old id }
+        ensures* written { sem 𝓛 (LendsSlot V.row self.entry id result) }
+    {
+        self.slots.get_mut(id, near)
+    }
+
     // The slot of an id, to write.
     pub(crate) fn slot_mut(&mut self, id: ResourceId) -> Option<&mut Slot<V>>
         ensures shown { option_copied_mut result ≡ slot_at self.old id }
         ensures* written { sem 𝓛 (LendsSlot V.row self.entry id result) }
     {
-        self.slots.get_mut(id)
+        self.slots.get_mut(id, 0)
     }
 }
 
@@ -216,7 +275,16 @@ pub fn take<V>(table: &mut Table<V>, id: ResourceId) -> Option<V>
     ensures slots { (q : ResourceId) → slot_at table.new q ≡ with_at (slot_at table.old) id (emptied (slot_at table.old id)) q }
     ensures noted { (q : ResourceId) → noted_in table.new q ≡ noted_in table.old q }
 {
-    match table.slot_mut(id) {
+    take_near(table, id, 0)
+}
+
+// `take`, with a place that is looked at first.
+pub(crate) fn take_near<V>(table: &mut Table<V>, id: ResourceId, near: usize) -> Option<V>
+    ensures value { result ≡ slot_value (slot_at table.old id) }
+    ensures slots { (q : ResourceId) → slot_at table.new q ≡ with_at (slot_at table.old) id (emptied (slot_at table.old id)) q }
+    ensures noted { (q : ResourceId) → noted_in table.new q ≡ noted_in table.old q }
+{
+    match table.slot_near(id, near) {
         Some(slot) => slot.value.take(),
         None => None,
     }
@@ -227,7 +295,15 @@ pub fn fill<V: Drop>(table: &mut Table<V>, id: ResourceId, value: V)
     ensures slots { (q : ResourceId) → slot_at table.new q ≡ with_at (slot_at table.old) id (filled value (slot_at table.old id)) q }
     ensures noted { (q : ResourceId) → noted_in table.new q ≡ noted_in table.old q }
 {
-    if let Some(slot) = table.slot_mut(id) {
+    fill_near(table, id, 0, value);
+}
+
+// `fill`, with a place that is looked at first.
+pub(crate) fn fill_near<V: Drop>(table: &mut Table<V>, id: ResourceId, near: usize, value: V)
+    ensures slots { (q : ResourceId) → slot_at table.new q ≡ with_at (slot_at table.old) id (filled value (slot_at table.old id)) q }
+    ensures noted { (q : ResourceId) → noted_in table.new q ≡ noted_in table.old q }
+{
+    if let Some(slot) = table.slot_near(id, near) {
         slot.value = Some(value);
     }
 }

@@ -7,7 +7,7 @@ pub mod world;
 
 pub use shred_table::{
     Accessor, BatchAccessor, Kind, Only, OutOfMemory, Resource, ResourceId, ResourceValue, Slot,
-    Table, accessor, check_intersection, id, only, only_id, resource, table, util,
+    Steps, Table, accessor, check_intersection, id, only, only_id, resource, table, util,
 };
 pub use world::bundle::{SystemData, bundle_accessor};
 pub use world::dynamic::DynamicSystemData;

@@ -6,7 +6,7 @@ ghost use Rattle.shred_world.specs.Worlds.{table_of_local, table_of_world};
 
 use crate::world::World;
 use crate::world::local::LocalWorld;
-pub use shred_table::parting::{empty_hand, move_back, move_each, move_out};
+pub use shred_table::parting::{empty_hand, move_back, move_each, move_home, move_out};
 use shred_table::table::Table;
 
 /// The table behind a world, for those who lend views of it. `shred` gives none of these functions again, so by its names

@@ -1,8 +1,8 @@
 //! The world and its calls, as rows of a call and its answer.
 use crate::values::{Count, Name, Value};
 use shred_world::{
-    DefaultProvider, Kind, PanicHandler, ReplaceError, ResourceId, Resources, SetupHandler, World,
-    WorldError, check_intersection,
+    DefaultProvider, Kind, PanicHandler, ReplaceError, ResourceId, Resources, SetupHandler, Steps,
+    World, WorldError, check_intersection,
 };
 use std::alloc::Global;
 use std::process::Abort;
@@ -339,5 +339,25 @@ fn a_value_is_replaced_or_handed_back(rt: HostRuntime) -> Result<(), Fail> {
     });
     expect_replaced(&rt, &mut world, 4, Value::Count(Count(9)), missing);
     assert_eq!(rt; try_fetch(&world), Ok(Some(9)));
+    Ok(())
+}
+
+fn slot(world: &World<Value>, id: ResourceId) -> Option<usize> {
+    world.slot_of(id, &mut Steps::new())
+}
+
+#[test]
+fn a_slot_is_the_number_of_held_ids_before_it(rt: HostRuntime) -> Result<(), Fail> {
+    let mut world: World<Value> = World::empty(rt.alloc());
+    assert_eq!(rt; slot(&world, number(2)), None);
+    assert_eq!(rt; insert_by_id(&mut world, number(5), 1), Ok(None));
+    assert_eq!(rt; done(world.insert(Name(2))), Ok(None));
+    assert_eq!(rt; insert_by_id(&mut world, number(2), 3), Ok(None));
+    assert_eq!(rt; slot(&world, number(2)), Some(0));
+    assert_eq!(rt; slot(&world, number(5)), Some(1));
+    assert_eq!(rt; slot(&world, name_id()), Some(2));
+    assert_eq!(rt; slot(&world, number(3)), None);
+    assert_eq!(rt; remove_by_id(&mut world, number(2)), Ok(Some(3)));
+    assert_eq!(rt; slot(&world, number(5)), Some(0));
     Ok(())
 }

@@ -10,7 +10,7 @@ use super::moves::{enclose, release};
 use super::{OfKind, SharedWorld};
 use crate::cell::TrustCell;
 use shred_table::id::ResourceId;
-use shred_table::parting::empty_table;
+use shred_table::parting::empty_hand;
 use shred_table::resource::ResourceValue;
 use shred_table::table::Table;
 use shred_world::values::{from_table, into_table};
@@ -41,7 +41,7 @@ fn share_each<V: ResourceValue + Drop>(
     ensures ok { IfOk result (λ shared. (q : ResourceId) → shares shared q ≡ is_some (held V.kind_of table q)) }
     ensures err { IfErr result (λ back. back ≡ world_over table) }
 {
-    match empty_table(table.allocator(), ids.as_slice()) {
+    match empty_hand(table.allocator(), ids.as_slice()) {
         Ok(cells) => Ok(share(table, ids, cells)),
         Err(_) => Err(from_table(table)),
     }

@@ -1,13 +1,10 @@
 -- A table has slots under finitely many ids.
 use Rattle.std.proofs.Common.{◌≡◌, Bool, true, false, cond, ◌||◌, List, [], ◌∷◌, Some, None, refl, sym, ◌∙◌, ap}
-use Rattle.std.specs.HashMap.{keys}
 use Rattle.std.specs.Map.{keys_of, lookup}
 use Rattle.shred_table.specs.declared.id.ResourceId.{ResourceId}
-use Rattle.shred_table.specs.declared.store.Slots.{Slots}
-use Rattle.shred_table.specs.declared.store.Slots.TheVariants.{Hashed, Listed}
 use Rattle.shred_table.specs.declared.table.Table.{Table}
 use Rattle.shred_table.specs.Id.{same_id}
-use Rattle.shred_table.specs.Slots.{kept_at, slot_at, among}
+use Rattle.shred_table.specs.Slots.{slot_at, among}
 use Rattle.shred_table.proofs.Tables.Slots.{same_id-true, same_id-refl}
 
 lookup-none : {X : Type 0} (entries : List (ResourceId × X)) (id : ResourceId) → among (keys_of entries) id ≡ false → lookup (same_id id) entries ≡ None
@@ -18,20 +15,10 @@ lookup-none (e ∷ entries) id out = told (same_id id e.0) (same_id e.0 id) refl
   told false true p q f later = absurd (cc)
   told true c p q f later = absurd (let g : same_id e.0 id ≡ true = ap (λ x. same_id x id) (sym (same_id-true id e.0 p)) ∙ same_id-refl id in let h : c ≡ true = sym q ∙ g in cc)
 
--- the ids that have slots
-kept_ids : {V : Type 0} → Slots V → List ResourceId
-kept_ids (Hashed slots) = keys slots
-kept_ids (Listed slots) = keys_of slots.slots.items
-
-kept-none : {V : Type 0} (slots : Slots V) (id : ResourceId) → among (kept_ids slots) id ≡ false → kept_at slots id ≡ None
-unfolding kept_ids
-kept-none (Hashed slots) id out = lookup-none slots.entries id out
-kept-none (Listed slots) id out = lookup-none slots.slots.items id out
-
 -- the ids that have slots in a table
 pub slot_ids : {V : Type 0} → Table V → List ResourceId
-slot_ids t = kept_ids t.slots
+slot_ids t = keys_of t.slots.slots.items
 
 pub slot-none : {V : Type 0} (t : Table V) (id : ResourceId) → among (slot_ids t) id ≡ false → slot_at t id ≡ None
 unfolding slot_ids
-slot-none t id out = kept-none t.slots id out
+slot-none t id out = lookup-none t.slots.slots.items id out

@@ -1,14 +1,13 @@
 -- What is found in a list in the order of ids, after it was changed at a place.
-use Rattle.std.proofs.Common.{◌≡◌, ℕ, zero, suc, if◌then◌else◌, ◌+◌, ◌<◌, ◌≤◌, Result, Ok, Err, IfOk, IfErr, ⊎_elim, Bool, true, false, cond, List, [], ◌∷◌, Option, Some, None, length, get_or, set, refl, sym, ◌∙◌, ap, arith}
-use Rattle.std.specs.List.Sorted.{IsSearchInRange, IsBinarySearchResult, IsNonDecreasingBy}
-use Rattle.std.specs.Ordering.{ordering_index, ordering_reverse, is_lt}
+use Rattle.std.proofs.Common.{◌≡◌, ℕ, zero, suc, if◌then◌else◌, ◌+◌, ◌<◌, ◌≤◌, Result, Ok, Err, ⊎_elim, Bool, true, false, cond, List, [], ◌∷◌, Option, Some, None, length, get_or, set, refl, sym, ◌∙◌, ap, arith}
 use Rattle.std.specs.List.{All, AllPairs, insert, remove}
 use Rattle.std.specs.Result.{is_ok}
 use Rattle.std.specs.Map.{lookup}
-use Rattle.std.specs.declared.cmp.Ordering.TheVariants.{Less}
+use Rattle.std.specs.declared.cmp.Ordering.TheVariants.{Less, Equal, Greater}
+use Rattle.std.proofs.lemmas.List.{get_or_default}
 use Rattle.std.proofs.lemmas.List.Kept.{AllPairs-cons}
 use Rattle.std.proofs.lemmas.List.Elements.{All-cons}
-use Rattle.std.proofs.lemmas.List.Sorted.{All-permutation, IsPermutation-insert, searchable_from_sorted}
+use Rattle.std.proofs.lemmas.List.Sorted.{All-permutation, IsPermutation-insert}
 use Rattle.std.proofs.lemmas.List.{length-set}
 use Rattle.std.proofs.lemmas.Bool.{cases_lt}
 use Rattle.shred_table.specs.declared.id.ResourceId.{ResourceId}
@@ -23,7 +22,7 @@ Slots X = List (ResourceId × X)
 
 module _ {X : Type 0} where
   -- what follows the first is in order too
-  tail : (e : ResourceId × X) (es : Slots X) → AllPairs ComesBefore (e ∷ es) → AllPairs ComesBefore es
+  pub tail : (e : ResourceId × X) (es : Slots X) → AllPairs ComesBefore (e ∷ es) → AllPairs ComesBefore es
   tail e es sorted = λ i j d lt within. sorted (suc i) (suc j) d (omega arith) (omega arith)
 
   -- no slot is of the id
@@ -109,22 +108,26 @@ module _ {X : Type 0} where
       (λ above. same_id-before id (get_or es j d).0 (gap.after j d above within))
       (cases_lt j i))
 
-  -- the comparisons with an id rise along the list, as a search by halving asks
-  rises : (es : Slots X) (id : ResourceId) → AllPairs ComesBefore es → IsNonDecreasingBy (λ e. ordering_index (id_order e.0 id)) es
-  rises es id sorted = searchable_from_sorted id_order-total (λ e. e.0) es id (λ k d from to. ap is_lt (id_order-total.antisymm (get_or es (k + 1) d).0 (get_or es k d).0 ∙ ap ordering_reverse (sorted k (k + 1) d (omega arith) to)))
-
-  -- a search by halving ends at the place of the id, or at its gap
-  pub searched : (es : Slots X) (id : ResourceId) (r : Result ℕ ℕ) → AllPairs ComesBefore es → IsSearchInRange r (length es) → IsBinarySearchResult (λ e. id_order e.0 id) es r
-      → record { found : IfOk r (IsPlaceOf id es); gap : IfErr r (IsGapFor id es) }
-  searched es id (Ok i) sorted within is = record { found = record { in_range = within; has_id = λ d. id_order-Equal (get_or es i d).0 id (is d) }; gap = tt }
-  searched es id (Err i) sorted within parted =
-      let parts = parted (rises es id sorted) in
-      record {
-        found = tt;
-        gap = record { in_range = within; before = λ j d lt. parts.0 j d (omega arith) lt; after = λ j d le lt. id_order-turned (get_or es j d).0 id (parts.1 j d le lt) };
-      }
-
   -- put in where it goes, or kept as it was, it is in order
   pub sorted-put_in : (es : Slots X) (i : ℕ) (id : ResourceId) (w : X) {A E : Type 0} (r : Result A E) (now : Slots X) → AllPairs ComesBefore es → IsGapFor id es i → now ≡ (if is_ok r then insert es i (id, w) else es) → AllPairs ComesBefore now
   sorted-put_in es i id w (Ok a) now sorted gap is = rw is (sorted-inserted es i id w sorted gap.in_range gap.before gap.after)
   sorted-put_in es i id w (Err e) now sorted gap is = rw is sorted
+
+module _ {X : Type 0} (es : Slots X) (sorted : AllPairs ComesBefore es) (id : ResourceId) (m : ℕ) (d : ResourceId × X) (within : m < length es) where
+  -- where the slot at a place comes before the id, so do those before it
+  pub all_before : id_order (get_or es m d).0 id ≡ Less → (i : ℕ) (e : ResourceId × X) → i < m + 1 → id_order (get_or es i e).0 id ≡ Less
+  all_before here i e lt =
+      let there : id_order (get_or es m e).0 id ≡ Less = ap (λ (s : ResourceId × X). id_order s.0 id) (get_or_default es m e d within) ∙ here in
+      ⊎_elim (λ below. id_order-total.trans (get_or es i e).0 (get_or es m e).0 id (sorted i m e below within) there)
+      (λ not_below. let same : i ≡ m = omega (arith, lt, not_below) in rw same there) (cases_lt i m)
+
+  -- where it comes after the id, so do those behind it
+  pub all_after : id_order (get_or es m d).0 id ≡ Greater → (i : ℕ) (e : ResourceId × X) → m ≤ i → i < length es → id_order id (get_or es i e).0 ≡ Less
+  all_after here i e le lt =
+      let there : id_order id (get_or es m e).0 ≡ Less = id_order-turned (get_or es m e).0 id (ap (λ (s : ResourceId × X). id_order s.0 id) (get_or_default es m e d within) ∙ here) in
+      ⊎_elim (λ below. id_order-total.trans id (get_or es m e).0 (get_or es i e).0 there (sorted m i e below lt))
+      (λ not_below. let same : i ≡ m = omega (arith, le, not_below) in rw same there) (cases_lt m i)
+
+  -- where it stands alike, it is the id's
+  pub is_place : id_order (get_or es m d).0 id ≡ Equal → IsPlaceOf id es m
+  is_place here = record { in_range = within; has_id = λ e. ap (λ (s : ResourceId × X). s.0) (get_or_default es m e d within) ∙ id_order-Equal (get_or es m d).0 id here }

@@ -1,5 +1,5 @@
 //! The world: a finite map from ids to values of their id's kind.
-ghost use Rattle.std.specs.Prelude.{◌≡◌, ◌≢◌, ◌↔◌, ◌⊎◌, ◌||◌, ⊤, false, None, Some, Err, OnOk, OnErr, IfOk, IfErr, is_some};
+ghost use Rattle.std.specs.Prelude.{◌≡◌, ◌≢◌, ◌↔◌, ◌⊎◌, ◌||◌, ◌&&◌, ⊤, ℕ, false, None, Some, Err, OnOk, OnErr, IfOk, IfErr, IfSome, is_some};
 ghost use Rattle.std.specs.Borrow.{sem};
 ghost use Rattle.std.specs.Option.{option_map};
 ghost use Rattle.shred_table.specs.declared.id.ResourceId.{ResourceId};
@@ -13,6 +13,7 @@ use crate::world::view::View;
 use shred_table::accessor::OutOfMemory;
 use shred_table::id::{Kind, ResourceId};
 use shred_table::resource::{Resource, ResourceValue};
+use shred_table::steps::Steps;
 use shred_table::table::{self, Table};
 use std::alloc::Global;
 use thiserror::Error;
@@ -99,7 +100,9 @@ impl<V> World<V> {
 
 impl<V: ResourceValue> World<V> {
     ghost use Rattle.shred_world.specs.Worlds.{world_held, IsFilled};
+    ghost use Rattle.shred_table.specs.Counts.{IsCountOf, IsWithinDigits};
     ghost use Rattle.shred_table.specs.Id.{id_of, id_kind};
+    ghost use Rattle.shred_table.specs.InOrder.{comes_first};
     ghost use Rattle.shred_table.specs.Slots.{with_at, without_at, among};
     ghost use Rattle.shred_world.specs.Entries.{lent_world, entry_world};
     ghost use Rattle.shred_world.specs.Views.{view_held, may_read, may_write, is_out};
@@ -129,6 +132,16 @@ impl<V: ResourceValue> World<V> {
         ensures { result ≡ is_some (world_held V.kind_of self.now id) }
     {
         self.local.has_value_raw(id)
+    }
+
+    /// How many held ids come before this one, where it is held. It takes no more comparisons of ids than the number of held
+    /// ids has binary digits.
+    pub fn slot_of(&self, id: ResourceId, steps: &mut Steps) -> Option<usize>
+        ensures held { is_some result ≡ is_some (world_held V.kind_of self.now id) }
+        ensures slot { IfSome result (IsCountOf (λ q. is_some (world_held V.kind_of self.now q) && comes_first q id)) }
+        ensures steps { (count : ℕ) × IsCountOf (λ q. is_some (world_held V.kind_of self.now q)) count × IsWithinDigits count steps.old.count steps.new.count }
+    {
+        self.local.table.slot_of(id, steps)
     }
 
     /// Whether a resource of the type is held.

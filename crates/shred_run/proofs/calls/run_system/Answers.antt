@@ -4,7 +4,8 @@ use Rattle.std.proofs.lemmas.Bool.Decides.{nat_tests}
 use Rattle.shred_run.specs.Steps.{declared_of}
 use Rattle.shred_run.proofs.Runs.Viewed.{declared_shown, still_has_slots, still_only_slots}
 use Rattle.shred_table.specs.Shown.{shown}
-use Rattle.shred_table.specs.Slots.{among, kept_at, slot_at}
+use Rattle.shred_table.specs.Listed.{listed_at}
+use Rattle.shred_table.specs.Slots.{among, slot_at}
 use Rattle.shred_world.specs.Views.{lent_slot, is_own, declared_held}
 use Rattle.shred_run.proofs.calls.run_system.Goals as goal
 
@@ -20,7 +21,7 @@ returns-clause-lies g c =
     let made = c.over-view.ensures in
     let same = c.run.ensures.view in
     let tie : c.own-1.given.0 ≡ w.own.now = c.own-1.given.1 (sym (c.run.ensures.table ∙ made.name)) in
-    let slots : (q : _) → slot_at v.own.now q ≡ slot_at own q = λ q i. kept_at (made.slots i) q in
+    let slots : (q : _) → slot_at v.own.now q ≡ slot_at own q = λ q i. listed_at (made.slots i) q in
     let kept : (q : _) → is_some (slot_at c.own-1.given.0 q) ≡ is_some (slot_at own q) = λ q. (λ i. is_some (slot_at (tie i) q)) ∙ same.slots q ∙ ap is_some (slots q) in
     let some : (length c.args.loan.now.shelf.now == 0) ≡ false = grind (arith, nat_tests) in
     let own_are : (q : _) → is_own v q ≡ among writes q = λ q. (λ i. (length (made.shelf i) == 0) || among (made.owned i) q) ∙ ap (λ (b : Bool). b || among writes q) some in

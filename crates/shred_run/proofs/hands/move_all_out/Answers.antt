@@ -1,8 +1,9 @@
-use Rattle.std.proofs.Common.{◌≡◌, Bool, cond, get_or, take, refl, sym, ◌∙◌, ap, subst, arith}
+use Rattle.std.proofs.Common.{◌≡◌, Bool, cond, get_or, take, sym, ◌∙◌, ap, subst, arith}
 use Rattle.std.proofs.lemmas.List.{take_all}
 use Rattle.std.proofs.lemmas.List.Folds.{list_any_more}
 use Rattle.shred_table.specs.declared.id.ResourceId.{ResourceId}
 use Rattle.shred_table.specs.Parting.{emptied}
+use Rattle.shred_table.specs.Listed.{listed_at}
 use Rattle.shred_table.specs.Slots.{slot_at, among}
 use Rattle.shred_table.proofs.Parted.Pairs.{zip-at, zip-more, zip-end, left-or}
 use Rattle.shred_run.specs.Hands.{HasEmptyHand, IsMovedOut, some_writes}
@@ -11,7 +12,7 @@ use Rattle.shred_run.proofs.Runs.Sweeps.{carried-now, Untouched, untouched-start
 use Rattle.shred_run.proofs.hands.move_all_out.Goals as goal
 
 pub loop-group-init : goal.loop-group-init
-loop-group-init g c = record { hands = untouched-start HasEmptyHand (IsMovedOut (slot_at c.args.table.now)) c.args.groups.now c.requires.empty; left = λ q. refl }
+loop-group-init g c = record { hands = untouched-start HasEmptyHand (IsMovedOut (slot_at c.args.table.now)) c.args.groups.now c.requires.empty; left = λ q. ap (λ s. listed_at s q) c.rewind.ensures.slots }
 
 pub move_out-requires : goal.move_out-requires
 move_out-requires g c =

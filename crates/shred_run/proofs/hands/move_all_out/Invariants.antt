@@ -9,6 +9,6 @@ use Rattle.shred_run.proofs.hands.move_all_out.Given as goal
 
 abbrev pub invariant-loop-group : goal.invariant-loop-group
 invariant-loop-group g l = record {
-  hands : ZipTo (IsMovedOut (slot_at l.initial.table)) (Untouched HasEmptyHand) l.group-index l.initial.groups l.groups;
-  left : (q : ResourceId) → slot_at l.table q ≡ cond (some_writes (take l.group-index l.initial.groups) q) (emptied (slot_at l.initial.table q)) (slot_at l.initial.table q);
+  hands : ZipTo (IsMovedOut (slot_at l.fn.table)) (Untouched HasEmptyHand) l.group-index l.initial.groups l.groups;
+  left : (q : ResourceId) → slot_at l.table q ≡ cond (some_writes (take l.group-index l.initial.groups) q) (emptied (slot_at l.fn.table q)) (slot_at l.fn.table q);
 }

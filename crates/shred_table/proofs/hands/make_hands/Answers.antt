@@ -24,4 +24,4 @@ loop-pair-preserved g c =
     (subst (λ (ps : List Pair). AllZip (HasRoom c.args.table.now) ps (c.loop-pair.hands.items ++ c.make_room.new.hand ∷ [])) (sym more) zip)
 
 pub make_room-requires : goal.make_room-requires
-make_room-requires g c = λ q. spare _ (c.hand-hand.ensures q)
+make_room-requires g c = λ q. spare _ (c.in_ok-hand.ensures q)

@@ -6,7 +6,8 @@ use Rattle.shred_table.specs.declared.table.Slot.{Slot}
 use Rattle.shred_table.specs.declared.table.Table.{Table}
 use Rattle.shred_table.specs.Parting.{emptied}
 use Rattle.shred_table.specs.Parts.{Pair, writes_of, written_by, Fits}
-use Rattle.shred_table.specs.Slots.{kept_at, slot_at, among}
+use Rattle.shred_table.specs.Listed.{listed_at}
+use Rattle.shred_table.specs.Slots.{slot_at, among}
 use Rattle.shred_table.proofs.Parted.Pairs.{zip-get, zip-length, zip-at, zip-more, same-start, joined-more, joined-rest, joined-slots, joined-all, written-at, written-before}
 use Rattle.shred_table.proofs.hands.move_all_back.Goals as goal
 
@@ -57,12 +58,12 @@ loop-i-preserved g c =
     }
 
 pub returns-clause-joined : goal.returns-clause-joined
-returns-clause-joined g c = joined-all c.loop-i.i c.args.pairs.now c.args.hands.now (slot_at c.args.table.now) (slot_at c.forget_notes.new.table) c.requires.apart (omega arith) (omega (arith, c.loop-i.invariant.long)) (λ q. (λ i. kept_at (c.forget_notes.ensures.slots i) q) ∙ c.loop-i.invariant.table q)
+returns-clause-joined g c = joined-all c.loop-i.i c.args.pairs.now c.args.hands.now (slot_at c.args.table.now) (slot_at c.forget_notes.new.table) c.requires.apart (omega arith) (omega (arith, c.loop-i.invariant.long)) (λ q. (λ i. listed_at (c.forget_notes.ensures.slots i) q) ∙ c.loop-i.invariant.table q)
 
 pub returns-clause-rest : goal.returns-clause-rest
 returns-clause-rest g c = λ q n.
     let whole : take c.loop-i.i c.args.pairs.now ≡ c.args.pairs.now = take_all c.loop-i.i c.args.pairs.now (omega arith) in
-    (λ i. kept_at (c.forget_notes.ensures.slots i) q) ∙ c.loop-i.invariant.table q ∙ joined-rest c.loop-i.i c.args.pairs.now c.args.hands.now (slot_at c.args.table.now) q (ap (λ (ps : List Pair). written_by ps q) whole ∙ n)
+    (λ i. listed_at (c.forget_notes.ensures.slots i) q) ∙ c.loop-i.invariant.table q ∙ joined-rest c.loop-i.i c.args.pairs.now c.args.hands.now (slot_at c.args.table.now) q (ap (λ (ps : List Pair). written_by ps q) whole ∙ n)
 
 pub returns-clause-slots : goal.returns-clause-slots
-returns-clause-slots g c = λ q. ap is_some ((λ i. kept_at (c.forget_notes.ensures.slots i) q) ∙ c.loop-i.invariant.table q) ∙ joined-slots (λ r. is_some (slot_at c.args.table.now r)) c.loop-i.i c.args.pairs.now c.args.hands.now (slot_at c.args.table.now) c.requires.fit (λ r. refl) q
+returns-clause-slots g c = λ q. ap is_some ((λ i. listed_at (c.forget_notes.ensures.slots i) q) ∙ c.loop-i.invariant.table q) ∙ joined-slots (λ r. is_some (slot_at c.args.table.now r)) c.loop-i.i c.args.pairs.now c.args.hands.now (slot_at c.args.table.now) c.requires.fit (λ r. refl) q

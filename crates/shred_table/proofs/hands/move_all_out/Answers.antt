@@ -1,11 +1,12 @@
-use Rattle.std.proofs.Common.{◌≡◌, Bool, None, Option, cond, [], slice_index_or, take, refl, sym, ◌∙◌, ap, arith}
+use Rattle.std.proofs.Common.{◌≡◌, Bool, None, Option, cond, [], slice_index_or, take, sym, ◌∙◌, ap, arith}
 use Rattle.std.proofs.lemmas.List.{take_all}
 use Rattle.std.proofs.lemmas.List.Folds.{list_any_more}
 use Rattle.std.proofs.Math.ListN.{length-set}
 use Rattle.shred_table.specs.declared.table.Slot.{Slot}
 use Rattle.shred_table.specs.Parting.{emptied}
 use Rattle.shred_table.specs.Parts.{Pair, writes_of, written_by, HasNothingOut, HasRoom, HoldsWritten}
-use Rattle.shred_table.specs.Slots.{kept_at, slot_at, among}
+use Rattle.shred_table.specs.Listed.{listed_at}
+use Rattle.shred_table.specs.Slots.{slot_at, among}
 use Rattle.std.proofs.Common.{◌&&◌}
 use Rattle.shred_table.specs.Slots.{is_vacant}
 use Rattle.shred_table.proofs.Parted.Pairs.{zip-map}
@@ -16,7 +17,7 @@ use Rattle.shred_table.proofs.hands.move_all_out.Goals as goal
 pub loop-i-init : goal.loop-i-init
 loop-i-init g c = record {
   long = zip-length (HasRoom c.args.table.now) c.args.pairs.now c.args.hands.now c.requires.room;
-  left = λ q. refl;
+  left = λ q. ap (λ s. listed_at s q) c.rewind.ensures.slots;
   hands = zip-start (IsFilled c.args.table.now) (HasRoom c.args.table.now) c.args.pairs.now c.args.hands.now c.requires.room;
 }
 
@@ -39,7 +40,7 @@ loop-i-preserved g c =
       left = λ q. left-or (written_by (take i pairs) q) (among (writes_of pair) q) (slot_at c.args.table.now q) (slot_at c.loop-i.table q) (slot_at c.move_out.new.table q) (c.loop-i.invariant.left q) (c.move_out.ensures.left q)
           ∙ ap (λ (b : Bool). cond b (emptied (slot_at c.args.table.now q)) (slot_at c.args.table.now q)) (sym (list_any_more (λ p. among (writes_of p) q) pairs i d c.loop-i-test.true));
       hands = zip-more (IsFilled c.args.table.now) (HasRoom c.args.table.now) i pairs c.loop-i.hands d c.forget_notes.new.table c.loop-i-test.true c.loop-i.invariant.hands (
-        λ q. (λ i. kept_at (c.forget_notes.ensures.slots i) q) ∙ held-now (written_by (take i pairs) q) (among (writes_of pair) q) (slot_at c.args.table.now q) (slot_at c.loop-i.table q) (slot_at c.move_out.new.hand q)
+        λ q. (λ i. listed_at (c.forget_notes.ensures.slots i) q) ∙ held-now (written_by (take i pairs) q) (among (writes_of pair) q) (slot_at c.args.table.now q) (slot_at c.loop-i.table q) (slot_at c.move_out.new.hand q)
             (λ w. written-before i pairs d q c.requires.apart c.loop-i-test.true w) (c.loop-i.invariant.left q) (c.move_out.ensures.hand q),
         λ q. ap (λ (b : Bool). b && is_vacant (slot_at c.forget_notes.new.table q)) (c.forget_notes.ensures.noted q),
       );

@@ -9,6 +9,6 @@ use Rattle.shred_table.proofs.hands.move_all_out.Given as goal
 abbrev pub invariant-loop-i : goal.invariant-loop-i
 invariant-loop-i g l = record {
   long : length l.pairs ≡ length l.hands;
-  left : (q : ResourceId) → slot_at l.table q ≡ cond (written_by (take l.i l.pairs) q) (emptied (slot_at l.initial.table q)) (slot_at l.initial.table q);
-  hands : ZipTo (IsFilled l.initial.table) (HasRoom l.initial.table) l.i l.pairs l.hands;
+  left : (q : ResourceId) → slot_at l.table q ≡ cond (written_by (take l.i l.pairs) q) (emptied (slot_at l.fn.table q)) (slot_at l.fn.table q);
+  hands : ZipTo (IsFilled l.fn.table) (HasRoom l.fn.table) l.i l.pairs l.hands;
 }

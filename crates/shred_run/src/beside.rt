@@ -1,32 +1,28 @@
 //! One step of what stands in an entry, whose inner plans lead back here: one circle of functions, whose groups fork.
-ghost use Rattle.std.specs.Prelude.{◌≡◌, ◌-◌, map, All};
-ghost use Rattle.std.specs.Option.{option_map};
+ghost use Rattle.std.specs.Prelude.{◌≡◌, ◌-◌, All};
 ghost use Rattle.std.specs.Thread.{IsSync};
 ghost use Rattle.shred_model.specs.Beside.{AllWent, AreApart};
 ghost use Rattle.shred_model.specs.Plan.{group_access};
 ghost use Rattle.shred_run.specs.Turns.{TookTurn};
 ghost use Rattle.shred_table.specs.Slots.{held};
-ghost use Rattle.shred_model.specs.Runs.{Ran};
-ghost use Rattle.shred_model.specs.States.{configuration_of, listed_states};
-ghost use Rattle.shred_run.specs.Entries.{EntryRun, GroupRun, entry_states};
-ghost use Rattle.shred_run.specs.Hands.{HasEntryRoom, HasPlace, KeepsRoom};
+ghost use Rattle.shred_run.specs.Hands.{HasPlace, KeepsRoom};
 ghost use Rattle.shred_run.specs.Lanes.{IsReady, GroupWent};
 ghost use Rattle.shred_run.specs.OwnLists.{IsEntryOf, IsGroupOf};
-ghost use Rattle.shred_run.specs.OwnSlots.{lent_before, HasJustSlots, HasOnlySlots, HasGroupSlots};
+ghost use Rattle.shred_run.specs.OwnSlots.{HasJustSlots, HasOnlySlots};
 ghost use Rattle.shred_run.specs.PlanOf.{entry_plan, groups_plan};
 ghost use Rattle.shred_run.specs.Steppers.{HasLoanSlots, IsStepBy};
 ghost use Rattle.shred_run.specs.BatchRuns.{RanAsBatch};
-ghost use Rattle.shred_run.specs.Depths.{Declared, Owns, Related, WorkStep, lists_of, relations_of};
+ghost use Rattle.shred_run.specs.Depths.{Owns, WorkStep, lists_of, relations_of};
 ghost use Rattle.shred_run.specs.KeptControllers.{control_access};
-ghost use Rattle.shred_run.specs.OwnDepth.{depth_of, OwnStep, OwnsItself};
+ghost use Rattle.shred_run.specs.OwnDepth.{OwnStep, OwnsItself};
 ghost use Rattle.shred_run.specs.Parts.{ArePartsWithin, KeepsParts, KeepsTiers};
-ghost use Rattle.shred_run.specs.Rounds.{BatchRun, Rounds};
+ghost use Rattle.shred_run.specs.Rounds.{Rounds};
 ghost use Rattle.shred_run.specs.Controls.{keeping};
-ghost use Rattle.shred_run.specs.TierTurns.{AreGroupsWithin, TookTierTurn};
+ghost use Rattle.shred_run.specs.TierTurns.{TookTierTurn};
 ghost use Rattle.shred_run.specs.Works.{InnerRun, IsBatchWithin, IsTierWithin};
 ghost use Rattle.shred_run.specs.Rules.{RuleOwns, RuleStep};
 ghost use Rattle.shred_table.specs.declared.id.ResourceId.{ResourceId};
-ghost use Rattle.shred_table.specs.Shown.{shown, HasOwnSlots, IsSameSlots};
+ghost use Rattle.shred_table.specs.Shown.{shown, HasOwnSlots};
 ghost use Rattle.shred_world.specs.Views.{lent_slot};
 
 use crate::calls::{Ask, Begin, run_system};
@@ -82,7 +78,7 @@ where
     }
 }
 
-// A run of a batch.
+// A run of a batch: its controller begins, and the rounds follow.
 #[cycle(beside)]
 fn run_batch<
     R: Threads + Sync,
@@ -105,44 +101,17 @@ where
     requires within { IsBatchWithin C.reads C.writes (Owns (lists_of S.reads S.writes C.reads C.writes) less) loan.now.reads.now loan.now.writes.now batch.old }
     ensures { RanAsBatch V.kind_of (Owns (lists_of S.reads S.writes C.reads C.writes) less) (WorkStep V.kind_of (relations_of (lists_of S.reads S.writes C.reads C.writes) S.step C.begins C.asks) less) C.reads C.writes (keeping C.reads C.writes C.begins) (keeping C.reads C.writes C.asks) loan.now.reads.now loan.now.writes.now (lent_slot loan.now.shelf.now) batch.old own.old result batch.new own.new }
 {
-    run_parts(
-        rt,
-        less,
-        loan,
-        &mut batch.control,
-        batch.tiers.as_mut_slice(),
-        own,
-        workers,
-    )
-}
-
-// A run of a batch, of its two parts.
-#[cycle(beside)]
-fn run_parts<
-    R: Threads + Sync,
-    V: ResourceValue + Drop + Send + Sync,
-    S: System<V, Error = E> + Send,
-    C: BatchController<V, Error = E> + Send,
-    E: Drop + Send,
->(
-    rt: &R,
-    less: usize,
-    loan: &Loan<V>,
-    control: &mut KeptController<V, C>,
-    tiers: &mut [Tier<V, Work<S, Nested<V, S, C>>>],
-    own: &mut Table<V>,
-    workers: usize,
-) -> Result<(), Fault<E>>
-where
-    S::Accessor: Send,
-    C::Accessor: Send,
-    requires has { HasLoanSlots loan.now own.old }
-    requires parts { ArePartsWithin (Owns (lists_of S.reads S.writes C.reads C.writes) less) loan.now C.reads C.writes control.old tiers.old }
-    ensures ran { BatchRun V.kind_of (keeping C.reads C.writes C.asks) (control_access control.old) (InnerRun V.kind_of (WorkStep V.kind_of (relations_of (lists_of S.reads S.writes C.reads C.writes) S.step C.begins C.asks) less)) (keeping C.reads C.writes C.begins) control.old.controller tiers.old (shown V.kind_of (lent_slot loan.now.shelf.now) own.old) result control.new.controller tiers.new (shown V.kind_of (lent_slot loan.now.shelf.now) own.new) }
-    ensures kept { KeepsParts V.kind_of (Owns (lists_of S.reads S.writes C.reads C.writes) less) loan.now C.reads C.writes control.old tiers.old own.old control.new tiers.new own.new }
-{
-    match call_kept(control, &Begin, loan, own) {
-        Ok(most) => rounds(rt, less, loan, control, tiers, own, most, workers),
+    match call_kept(&mut batch.control, &Begin, loan, own) {
+        Ok(most) => rounds(
+            rt,
+            less,
+            loan,
+            &mut batch.control,
+            batch.tiers.as_mut_slice(),
+            own,
+            most,
+            workers,
+        ),
         Err(fault) => Err(fault),
     }
 }
@@ -212,16 +181,16 @@ where
     ensures kept { KeepsTiers V.kind_of (Owns (lists_of S.reads S.writes C.reads C.writes) less) loan.now tiers.old own.old tiers.new own.new }
 {
     for tier in tiers.iter_mut() {
-        if let Err(fault) = take(rt, less, tier, loan, own, workers) {
+        if let Err(fault) = turn(rt, less, tier, loan, own, workers) {
             return Err(fault);
         }
     }
     Ok(())
 }
 
-// The turn of a tier.
+// The turn of a tier: what each of its groups writes is moved into its hand, the groups run, and all goes back.
 #[cycle(beside)]
-fn take<
+fn turn<
     R: Threads + Sync,
     V: ResourceValue + Drop + Send + Sync,
     S: System<V, Error = E> + Send,
@@ -242,32 +211,7 @@ where
     requires within { IsTierWithin (Owns (lists_of S.reads S.writes C.reads C.writes) less) loan.now.reads.now loan.now.writes.now tier.old }
     ensures { TookTierTurn V.kind_of (Owns (lists_of S.reads S.writes C.reads C.writes) less) (WorkStep V.kind_of (relations_of (lists_of S.reads S.writes C.reads C.writes) S.step C.begins C.asks) less) (lent_slot loan.now.shelf.now) tier.old.groups.items own.old result tier.new.groups.items own.new }
 {
-    turn(rt, less, loan, tier.groups.as_mut_slice(), own, workers)
-}
-
-// The turn of a tier's groups: what each writes is moved into its hand, the groups run, and all goes back.
-#[cycle(beside)]
-fn turn<
-    R: Threads + Sync,
-    V: ResourceValue + Drop + Send + Sync,
-    S: System<V, Error = E> + Send,
-    C: BatchController<V, Error = E> + Send,
-    E: Drop + Send,
->(
-    rt: &R,
-    less: usize,
-    loan: &Loan<V>,
-    groups: &mut [Group<V, Work<S, Nested<V, S, C>>>],
-    own: &mut Table<V>,
-    workers: usize,
-) -> Result<(), StageFault<E>>
-where
-    S::Accessor: Send,
-    C::Accessor: Send,
-    requires has { HasLoanSlots loan.now own.old }
-    requires groups { AreGroupsWithin (Owns (lists_of S.reads S.writes C.reads C.writes) less) loan.now.writes.now groups.old }
-    ensures { TookTierTurn V.kind_of (Owns (lists_of S.reads S.writes C.reads C.writes) less) (WorkStep V.kind_of (relations_of (lists_of S.reads S.writes C.reads C.writes) S.step C.begins C.asks) less) (lent_slot loan.now.shelf.now) groups.old own.old result groups.new own.new }
-{
+    let groups = tier.groups.as_mut_slice();
     move_all_out(groups, own);
     let nearest = behind(&*own, &*loan.writes, &*loan.shelf);
     let answer = run_groups(rt, Some(less), &nearest, groups, workers);
@@ -303,7 +247,7 @@ where
     run_lanes(rt, &lane, groups, workers)
 }
 
-// A group's run, over its hand and what is lent shared.
+// A group's run, over its hand and what is lent shared: its entries' steps, in order, up to the first that is not Done.
 #[cycle(beside)]
 fn run_group<
     R: Threads + Sync,
@@ -325,103 +269,25 @@ where
     ensures { GroupWent V.kind_of (RuleStep V.kind_of (relations_of (lists_of S.reads S.writes C.reads C.writes) S.step C.begins C.asks) at) (RuleOwns (lists_of S.reads S.writes C.reads C.writes) at) (lent_slot shelf.now) group.old result group.new }
 {
     let single = group.entries.len() == 1;
-    run_entries(
-        rt,
-        at,
-        group.entries.as_mut_slice(),
-        single,
-        group.written.as_slice(),
-        shelf,
-        &mut group.hand,
-        workers,
-    )
-}
-
-// The entries' steps, in order, up to the first that is not Done.
-#[cycle(beside)]
-fn run_entries<
-    R: Threads + Sync,
-    V: ResourceValue + Drop + Send + Sync,
-    S: System<V, Error = E> + Send,
-    C: BatchController<V, Error = E> + Send,
-    E: Drop + Send,
->(
-    rt: &R,
-    at: Option<usize>,
-    entries: &mut [SystemEntry<V, Work<S, Nested<V, S, C>>>],
-    single: bool,
-    written: &[ResourceId],
-    shelf: &[Shelf<V>; 1],
-    own: &mut Table<V>,
-    workers: usize,
-) -> Result<(), StageFault<E>>
-where
-    S::Accessor: Send,
-    C::Accessor: Send,
-    requires own_lists { All (IsEntryOf (RuleOwns (lists_of S.reads S.writes C.reads C.writes) at)) entries.old }
-    requires own_slots { HasGroupSlots (lent_slot shelf.now) own.old (map entry_plan entries.old) }
-    requires just_slots { HasJustSlots written.now own.old }
-    requires places { All (HasPlace single own.old) entries.old }
-    ensures ran { Ran (GroupRun V.kind_of (RuleStep V.kind_of (relations_of (lists_of S.reads S.writes C.reads C.writes) S.step C.begins C.asks) at) 0 (map entry_plan entries.old)) (configuration_of (listed_states entry_states entries.old) (shown V.kind_of (lent_slot shelf.now) own.old)) result (configuration_of (listed_states entry_states entries.new) (shown V.kind_of (lent_slot shelf.now) own.new)) }
-    ensures plan { map entry_plan entries.new ≡ map entry_plan entries.old }
-    ensures own_lists { All (IsEntryOf (RuleOwns (lists_of S.reads S.writes C.reads C.writes) at)) entries.new }
-    ensures kinds { (id : ResourceId) → option_map V.kind_of (shown V.kind_of (lent_slot shelf.now) own.new id) ≡ option_map V.kind_of (shown V.kind_of (lent_slot shelf.now) own.old id) }
-    ensures slots { IsSameSlots own.old own.new }
-{
+    let written = group.written.as_slice();
+    let hand = &mut group.hand;
+    let entries = group.entries.as_mut_slice();
     for entry in entries.iter_mut() {
-        if let Err(fault) = run_entry(rt, at, entry, single, written, shelf, own, workers) {
-            return Err(fault);
+        if let Err(fault) = run_entry(rt, at, entry, single, written, shelf, hand, workers) {
+            return Err(StageFault::System {
+                id: entry.id,
+                fault,
+            });
         }
     }
     Ok(())
-}
-
-// The entry's run: one step of what stands in it.
-#[cycle(beside)]
-fn run_entry<
-    R: Threads + Sync,
-    V: ResourceValue + Drop + Send + Sync,
-    S: System<V, Error = E> + Send,
-    C: BatchController<V, Error = E> + Send,
-    E: Drop + Send,
->(
-    rt: &R,
-    at: Option<usize>,
-    entry: &mut SystemEntry<V, Work<S, Nested<V, S, C>>>,
-    single: bool,
-    written: &[ResourceId],
-    shelf: &[Shelf<V>; 1],
-    own: &mut Table<V>,
-    workers: usize,
-) -> Result<(), StageFault<E>>
-where
-    S::Accessor: Send,
-    C::Accessor: Send,
-    requires own_lists { IsEntryOf (RuleOwns (lists_of S.reads S.writes C.reads C.writes) at) entry.old }
-    requires own_slots { HasOwnSlots entry.old.writes.items (lent_slot shelf.now) own.old }
-    requires just_slots { HasJustSlots written.now own.old }
-    requires place { HasPlace single own.old entry.old }
-    ensures ran { Ran (EntryRun V.kind_of (RuleStep V.kind_of (relations_of (lists_of S.reads S.writes C.reads C.writes) S.step C.begins C.asks) at) 0 (entry_plan entry.old)) (configuration_of (entry_states entry.old) (shown V.kind_of (lent_slot shelf.now) own.old)) result (configuration_of (entry_states entry.new) (shown V.kind_of (lent_slot shelf.now) own.new)) }
-    ensures plan { entry_plan entry.new ≡ entry_plan entry.old }
-    ensures own_lists { IsEntryOf (RuleOwns (lists_of S.reads S.writes C.reads C.writes) at) entry.new }
-    ensures place { HasPlace single own.new entry.new }
-    ensures kinds { (id : ResourceId) → option_map V.kind_of (shown V.kind_of (lent_slot shelf.now) own.new id) ≡ option_map V.kind_of (shown V.kind_of (lent_slot shelf.now) own.old id) }
-    ensures slots { IsSameSlots own.old own.new }
-{
-    match step(rt, at, entry, single, written, shelf, own, workers) {
-        Ok(()) => Ok(()),
-        Err(fault) => Err(StageFault::System {
-            id: entry.id,
-            fault,
-        }),
-    }
 }
 
 // One step of what stands in the entry: over the table where it is the only one of its group, and else over its own hand, into
 // which what it writes is moved before, and out of it after.
 #[cycle(beside)]
 #[tactic(auto, using(crate::proofs::Runs::Places::place_single, crate::proofs::Runs::Places::place_several, crate::proofs::Runs::Places::several_place, crate::proofs::Runs::Places::single_place))]
-fn step<
+fn run_entry<
     R: Threads + Sync,
     V: ResourceValue + Drop + Send + Sync,
     S: System<V, Error = E> + Send,

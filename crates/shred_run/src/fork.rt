@@ -1,19 +1,11 @@
 //! Lanes that run one after the other, or beside each other on threads.
-ghost use Rattle.std.specs.Prelude.{◌≡◌, ◌≤◌, All, Ok, length};
+ghost use Rattle.std.specs.Prelude.{◌≡◌, All, Ok};
 ghost use Rattle.std.specs.Thread.{IsSync};
 ghost use Rattle.shred_model.specs.Beside.{AllWent};
 ghost use Rattle.shred_run.specs.Calls.{Accepts, Calls};
 
 use crate::first::first;
 use std::thread::{Threads, join_mut};
-
-// Runs a lane.
-fn run_one<X, E, F: Fn(&mut X) -> Result<(), E>>(run: &F, lane: &mut X) -> Result<(), E>
-    requires { Accepts F.Fn run.now lane.old }
-    ensures { Calls F.Fn run.now lane.old result lane.new }
-{
-    run(lane)
-}
 
 /// Runs every lane, one after the other. The answer is the first that is not Done.
 pub fn run_each<X, E: Drop, F: Fn(&mut X) -> Result<(), E>>(
@@ -25,7 +17,7 @@ pub fn run_each<X, E: Drop, F: Fn(&mut X) -> Result<(), E>>(
 {
     let mut answer = Ok(());
     for lane in lanes.iter_mut() {
-        match run_one(run, lane) {
+        match run(lane) {
             Ok(()) => {}
             Err(fault) => answer = first(answer, Err(fault)),
         }
@@ -49,21 +41,6 @@ pub fn run_lanes<R: Threads + Sync, X: Send, E: Drop + Send, F: Fn(&mut X) -> Re
     if workers <= 1 || lanes.len() <= 1 {
         return run_each(run, lanes);
     }
-    fork_lanes(rt, run, lanes, workers)
-}
-
-// Runs two lanes or more in halves beside each other.
-#[cycle(fork)]
-fn fork_lanes<R: Threads + Sync, X: Send, E: Drop + Send, F: Fn(&mut X) -> Result<(), E> + Sync>(
-    rt: &R,
-    run: &F,
-    lanes: &mut [X],
-    workers: usize,
-) -> Result<(), E>
-    requires several { 2 ≤ length lanes.old }
-    requires accepts { All (Accepts F.Fn run.now) lanes.old }
-    ensures { AllWent (Calls F.Fn run.now) lanes.old result lanes.new }
-{
     let middle = lanes.len() / 2;
     let (front, back) = lanes.split_at_mut(middle);
     let half = workers / 2;
@@ -76,7 +53,7 @@ fn fork_lanes<R: Threads + Sync, X: Send, E: Drop + Send, F: Fn(&mut X) -> Resul
             requires { IsSync R.row × IsSync F.row × All (Accepts F.Fn run.now) front.now × (answer ≡ Ok tt) }
             ensures { AllWent (Calls F.Fn run.entry.now) front.entry.now answer.exit front.exit.now }
         {
-            if let Err(fault) = run_half(rt, run, front, half) {
+            if let Err(fault) = run_lanes(rt, run, front, half) {
                 answer = Err(fault);
             }
         },
@@ -84,27 +61,10 @@ fn fork_lanes<R: Threads + Sync, X: Send, E: Drop + Send, F: Fn(&mut X) -> Resul
             requires { IsSync R.row × IsSync F.row × All (Accepts F.Fn run.now) back.now × (other ≡ Ok tt) }
             ensures { AllWent (Calls F.Fn run.entry.now) back.entry.now other.exit back.exit.now }
         {
-            if let Err(fault) = run_half(rt, run, back, rest) {
+            if let Err(fault) = run_lanes(rt, run, back, rest) {
                 other = Err(fault);
             }
         },
     );
     first(answer, other)
-}
-
-// Runs a half of the lanes: a single one on this thread.
-#[cycle(fork)]
-fn run_half<R: Threads + Sync, X: Send, E: Drop + Send, F: Fn(&mut X) -> Result<(), E> + Sync>(
-    rt: &R,
-    run: &F,
-    lanes: &mut [X],
-    workers: usize,
-) -> Result<(), E>
-    requires { All (Accepts F.Fn run.now) lanes.old }
-    ensures { AllWent (Calls F.Fn run.now) lanes.old result lanes.new }
-{
-    if lanes.len() == 1 {
-        return run_one(run, &mut lanes[0]);
-    }
-    run_lanes(rt, run, lanes, workers)
 }

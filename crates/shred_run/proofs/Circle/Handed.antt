@@ -31,13 +31,13 @@ module _ {V : Type 0} where
   stays-some true s k h o n ek eo same en = ap is_some en ∙ same ∙ ap is_some ek
   stays-some false s k h o n ek eo same en = ap is_some en ∙ ap is_some eo
 
-module _ {V X E : Type 0} (kind : V → Kind) (own : X → List ResourceId → List ResourceId → Type 0) (step : Step V X E) (reads writes : List ResourceId) (lent : Lent V) (old : X) (outcome : Outcome E) (new : X)
+module _ {V X E : Type 0} {kind : V → Kind} {own : X → List ResourceId → List ResourceId → Type 0} {step : Step V X E} {reads writes : List ResourceId} {lent nearest : Lent V} {old : X} {outcome : Outcome E} {new : X}
     (start out end hand ran : Table V) (taken : (q : ResourceId) → slot_at hand q ≡ cond (among writes q) (slot_at start q) None) (left : (q : ResourceId) → slot_at out q ≡ cond (among writes q) (emptied (slot_at start q)) (slot_at start q))
-    (back : (q : ResourceId) → slot_at end q ≡ cond (among writes q) (slot_at ran q) (slot_at out q)) where
-  pub handed : IsStepBy kind own step reads writes (lent_before out lent) old hand outcome new ran → IsStepBy kind own step reads writes lent old start outcome new end
+    (back : (q : ResourceId) → slot_at end q ≡ cond (among writes q) (slot_at ran q) (slot_at out q)) (behind : (q : ResourceId) → nearest q ≡ lent_before out lent q) where
+  pub handed : IsStepBy kind own step reads writes nearest old hand outcome new ran → IsStepBy kind own step reads writes lent old start outcome new end
   handed went =
-      let before : (q : ResourceId) → shown kind (lent_before out lent) hand q ≡ shown kind lent start q = λ q. ap (slot_held kind q) (in-hand (among writes q) (slot_at start q) (slot_at hand q) (slot_at out q) (lent q) (taken q) (left q)) in
-      let after : (q : ResourceId) → shown kind (lent_before out lent) ran q ≡ shown kind lent end q = λ q. ap (slot_held kind q) (back-in (among writes q) (slot_at start q) (slot_at hand q) (slot_at ran q) (slot_at out q) (slot_at end q) (lent q) (taken q) (left q) (went.slots q) (back q)) in
+      let before : (q : ResourceId) → shown kind nearest hand q ≡ shown kind lent start q = λ q. ap (λ l. slot_held kind q (or_slot (slot_at hand q) l)) (behind q) ∙ ap (slot_held kind q) (in-hand (among writes q) (slot_at start q) (slot_at hand q) (slot_at out q) (lent q) (taken q) (left q)) in
+      let after : (q : ResourceId) → shown kind nearest ran q ≡ shown kind lent end q = λ q. ap (λ l. slot_held kind q (or_slot (slot_at ran q) l)) (behind q) ∙ ap (slot_held kind q) (back-in (among writes q) (slot_at start q) (slot_at hand q) (slot_at ran q) (slot_at out q) (slot_at end q) (lent q) (taken q) (left q) (went.slots q) (back q)) in
       record {
         lies = subst₂ (λ (a b : Held V). step old (declared_of (record { reads = reads; writes = writes }) a) outcome new (declared_of (record { reads = reads; writes = writes }) b)) (λ i q. before q i) (λ i q. after q i) went.lies;
         kinds = λ q. ap (option_map kind) (sym (after q)) ∙ went.kinds q ∙ ap (option_map kind) (before q);

@@ -1,5 +1,5 @@
 -- Steps of what stands in entries: of a system, and of a batch whose batches nest less deep.
-use Rattle.std.proofs.Common.{◌≡◌, ℕ, suc, Bool, true, false, ◌||◌, List, [], ◌∷◌, refl, sym, ◌∙◌, subst, map}
+use Rattle.std.proofs.Common.{◌≡◌, ◌≤◌, ◌-◌, ℕ, suc, Bool, true, false, ◌||◌, List, [], ◌∷◌, Option, refl, sym, ◌∙◌, ap, subst, map, arith}
 use Rattle.std.specs.List.{AllByRecursion}
 use Rattle.std.proofs.lemmas.List.Elements.{recursion_from_All}
 use Rattle.shred_table.specs.declared.id.Kind.{Kind}
@@ -15,6 +15,8 @@ use Rattle.shred_run.specs.Steps.{Outcome}
 use Rattle.shred_run.specs.BatchRuns.{RanAsBatch}
 use Rattle.shred_run.specs.KeptControllers.{control_access}
 use Rattle.shred_run.specs.Depths.{Declared, Related, Owns, WorkStep, batch_of}
+use Rattle.shred_run.specs.OwnDepth.{depth_of}
+use Rattle.shred_run.specs.Rules.{RuleOwns, RuleStep, rule_depth}
 use Rattle.shred_run.specs.Steppers.{IsStepBy}
 use Rattle.shred_run.specs.Works.{InnerRun, IsTierWithin, IsBatchWithin, tier_numbers, tier_plan, tiers_plan}
 use Rattle.shred_run.specs.declared.work.Batch.{Batch as OneBatch}
@@ -23,6 +25,8 @@ use Rattle.shred_run.specs.declared.work.Tier.{Tier}
 use Rattle.shred_run.specs.declared.work.Work.{Work}
 use Rattle.shred_run.specs.declared.work.Work.TheVariants.{System, Batch}
 use Rattle.shred_run.proofs.Circle.Restricted.{declares, IsPlanCovered, stage-covered, batch-restricted}
+use Rattle.shred_run.proofs.Circle.Depths.{rule-step}
+use Rattle.shred_run.proofs.Inner.Deeper.{deep}
 use Rattle.shred_run.proofs.Inner.Turns.Rounds.{batch_keeps}
 use Rattle.shred_run.proofs.Inner.Turns.Tiers.{written-by_plan}
 
@@ -84,3 +88,39 @@ module _ {V S C : Type 0} (declared : Declared S C) (reads writes : List Resourc
           frame = ran.frame;
           own_lists = ran.within;
         }
+
+module _ {V S C : Type 0} (declared : Declared S C) (at : Option ℕ) (reads writes : List ResourceId) {work : Work S (Nested V S C)} where
+  module _ {nested : Nested V S C} {depth : ℕ} (is : work ≡ Batch nested) (counted : depth ≡ rule_depth at work) (owns : RuleOwns declared at work reads writes) where
+    -- a batch is followed one deep at least
+    pub batch-deep : 1 ≤ depth
+    batch-deep = let over = counted ∙ (deep declared reads writes (rule_depth at work) work nested is owns).1 in omega (arith, over)
+
+    -- and what is in it, one less
+    pub batch-within : IsBatchWithin declared.control_reads declared.control_writes (Owns declared (depth - 1)) reads writes (batch_of nested)
+    batch-within =
+        let down = deep declared reads writes (rule_depth at work) work nested is owns in
+        let over = counted ∙ down.1 in
+        let same : down.0 ≡ depth - 1 = omega (arith, over) in
+        subst (λ n. IsBatchWithin declared.control_reads declared.control_writes (Owns declared n) reads writes (batch_of nested)) same down.2
+
+  module _ {E : Type 0} {kind : V → Kind} (related : Related V S C E) {lent : Lent V} {before : Table V} {outcome : Outcome E} {after : Table V} where
+    -- a system's step, by the rule
+    pub ran-system : {system left : S} → work ≡ System system → IsStepBy kind (declared_lists declared.reads declared.writes) related.steps reads writes lent system before outcome left after
+        → IsStepBy kind (RuleOwns declared at) (RuleStep kind related at) reads writes lent work before outcome (System left) after
+    ran-system {system} {left} is step = rule-step kind declared related at (rule_depth at work) reads writes lent work before outcome (System left) after refl (ap (λ (w : Work S (Nested V S C)). depth_of w) (sym is))
+        (subst (λ (w : Work S (Nested V S C)). IsStepBy kind (Owns declared (rule_depth at work)) (WorkStep kind related (rule_depth at work)) reads writes lent w before outcome (System left) after) (sym is)
+        (system-step declared reads writes kind related lent before outcome after (rule_depth at work) system left step))
+
+    -- a batch's
+    pub ran-batch : {nested left : Nested V S C} {ended : OneBatch V C (Work S (Nested V S C))} {depth : ℕ} → work ≡ Batch nested → depth ≡ rule_depth at work → RuleOwns declared at work reads writes → batch_of left ≡ ended
+        → RanAsBatch kind (Owns declared (depth - 1)) (WorkStep kind related (depth - 1)) declared.control_reads declared.control_writes related.begins related.asks reads writes lent (batch_of nested) before outcome ended after
+        → IsStepBy kind (RuleOwns declared at) (RuleStep kind related at) reads writes lent work before outcome (Batch left) after
+    ran-batch {nested} {left} {ended} {depth} is counted owns is_left ran =
+        let down = deep declared reads writes (rule_depth at work) work nested is owns in
+        let over = counted ∙ down.1 in
+        let same : depth - 1 ≡ down.0 = omega (arith, over) in
+        let here = subst (λ n. RanAsBatch kind (Owns declared n) (WorkStep kind related n) declared.control_reads declared.control_writes related.begins related.asks reads writes lent (batch_of nested) before outcome ended after) same ran in
+        rule-step kind declared related at (rule_depth at work) reads writes lent work before outcome (Batch left) after refl (ap (λ (b : OneBatch V C (Work S (Nested V S C))). b.depth) is_left ∙ ran.same_depth ∙ ap (λ (w : Work S (Nested V S C)). depth_of w) (sym is))
+        (subst (λ (w : Work S (Nested V S C)). IsStepBy kind (Owns declared (rule_depth at work)) (WorkStep kind related (rule_depth at work)) reads writes lent w before outcome (Batch left) after) (sym is)
+        (subst (λ n. IsStepBy kind (Owns declared n) (WorkStep kind related n) reads writes lent (Batch nested) before outcome (Batch left) after) (sym down.1)
+        (batch-step declared reads writes kind related lent before outcome after down.0 nested left ended is_left down.2 here)))

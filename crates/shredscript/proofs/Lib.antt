@@ -1,6 +1,7 @@
 pub mod Changed
 pub mod Declares
 pub mod InOrder
+pub mod Overlaid
 pub mod Lines
 pub mod NotRun
 pub mod Printed

@@ -1,6 +1,7 @@
 pub mod Operation
 pub mod Change
 pub mod Steps
+pub mod Overlaid
 pub mod Lines
 pub mod PlanTexts
 pub mod Runs

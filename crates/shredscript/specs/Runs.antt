@@ -1,5 +1,5 @@
 -- Runs of scripts.
-use Rattle.std.specs.Prelude.{◌≡◌, ℕ, zero, suc, ◌≤◌, Bool, true, None, List, [], ◌++◌, length, Option, Some, Result, Ok, Err, OnOk, IfErr, MatchResult}
+use Rattle.std.specs.Prelude.{◌≡◌, ℕ, zero, suc, ◌≤◌, Bool, true, None, List, [], ◌++◌, length, map, Option, Some, Result, Ok, Err, OnOk, IfErr, MatchResult}
 use Rattle.std.specs.Io.KnownBytes.{Appends, Consumes, IsAtEnd, Keeps}
 use Rattle.indexmap.specs.IndexMap.{values}
 use Rattle.shred_model.specs.Plan.{plan_ids}
@@ -29,6 +29,7 @@ use Rattle.shredscript.specs.declared.system.ScriptSystem.{ScriptSystem}
 use Rattle.shredscript_text.specs.declared.value.Value.{Value}
 use Rattle.shredscript_text.specs.Endings.{outcome_of, status_of}
 use Rattle.shredscript_text.specs.Input.{IsLongerThan}
+use Rattle.shredscript_text.specs.Place.{id_at}
 use Rattle.shredscript.specs.Lines.{IsBuiltBy, IsNotBuilt, ScriptBuilt, ScriptWork}
 use Rattle.shredscript.specs.PlanTexts.{IsPlanPart}
 use Rattle.shredscript_text.specs.Report.{first_held, resource_names, report}
@@ -55,7 +56,7 @@ batch_asks before seen outcome after left = (after ≡ before) × (outcome ≡ O
 
 -- the lists that a script's systems declare; its batches' controllers declare none
 abbrev pub script_lists : Declared ScriptSystem ScriptBatch
-script_lists = lists_of (λ system. system.declared.reads.items) (λ system. system.declared.writes.items) (λ batch. []) (λ batch. [])
+script_lists = lists_of (λ system. map id_at system.declared.read.items) (λ system. map id_at system.declared.written.items) (λ batch. []) (λ batch. [])
 
 -- the relations of a script's systems and of its batches' controllers: of a system its steps, of a batch so many rounds of its plan
 abbrev pub script_related : Related Value ScriptSystem ScriptBatch Refusal

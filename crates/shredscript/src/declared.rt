@@ -1,7 +1,6 @@
 //! What the steps of a system declare.
-ghost use Rattle.std.specs.Prelude.{◌≡◌, ◌++◌, IfOk, OnOk};
-ghost use Rattle.std.specs.Option.{option_map, option_to_list};
-ghost use Rattle.shredscript_text.specs.Declares.{read_place, write_place, read_ids, write_ids};
+ghost use Rattle.std.specs.Prelude.{◌≡◌, [], Some, map, IfOk, OnOk};
+ghost use Rattle.shredscript_text.specs.Declares.{read_place, write_place, places_read, places_written, with_place};
 ghost use Rattle.shredscript_text.specs.Place.{id_at};
 
 use shred_world::{Accessor, OutOfMemory, ResourceId};
@@ -9,22 +8,22 @@ use shredscript_text::step::Step;
 use shredscript_text::value::id_at;
 use std::alloc::{AllocError, Global};
 
-/// The ids that a system reads, and those that it writes.
+/// The places of the resources that a system reads, and of those that it writes, each once.
 #[derive(Drop)]
 pub struct Declared {
-    pub reads: Vec<ResourceId>,
-    pub writes: Vec<ResourceId>,
+    pub read: Vec<usize>,
+    pub written: Vec<usize>,
 }
 
 impl Declared {
-    /// What the steps declare, in their order. Refused where memory is.
+    /// What the steps declare, in the order in which they first do. Refused where memory is.
     pub fn of_steps(alloc: Global, steps: &[Step]) -> Result<Declared, AllocError>
-        ensures reads { IfOk result (λ declared. declared.reads.items ≡ read_ids steps.now) }
-        ensures writes { IfOk result (λ declared. declared.writes.items ≡ write_ids steps.now) }
+        ensures read { IfOk result (λ declared. declared.read.items ≡ places_read [] steps.now) }
+        ensures written { IfOk result (λ declared. declared.written.items ≡ places_written [] steps.now) }
     {
         let mut declared = Declared {
-            reads: Vec::new(alloc),
-            writes: Vec::new(alloc),
+            read: Vec::new(alloc),
+            written: Vec::new(alloc),
         };
         for step in steps {
             if let Err(error) = declared.add(*step) {
@@ -35,49 +34,73 @@ impl Declared {
     }
 
     fn add(&mut self, step: Step) -> Result<(), AllocError>
-        ensures reads { OnOk result (self.new.reads.items ≡ self.old.reads.items ++ option_to_list (option_map id_at (read_place step))) }
-        ensures writes { OnOk result (self.new.writes.items ≡ self.old.writes.items ++ option_to_list (option_map id_at (write_place step))) }
+        ensures read { OnOk result (self.new.read.items ≡ with_place self.old.read.items (read_place step)) }
+        ensures written { OnOk result (self.new.written.items ≡ with_place self.old.written.items (write_place step)) }
     {
         if let Some(place) = step.read_place() {
-            self.reads.push(id_at(place))?;
+            add_place(&mut self.read, place)?;
         }
         if let Some(place) = step.write_place() {
-            self.writes.push(id_at(place))?;
+            add_place(&mut self.written, place)?;
         }
         Ok(())
     }
 
-    /// The same lists again.
+    /// The same places again.
     pub fn copy(&self, alloc: Global) -> Result<Declared, OutOfMemory>
-        ensures reads { IfOk result (λ copy. copy.reads.items ≡ self.now.reads.items) }
-        ensures writes { IfOk result (λ copy. copy.writes.items ≡ self.now.writes.items) }
+        ensures read { IfOk result (λ copy. copy.read.items ≡ self.now.read.items) }
+        ensures written { IfOk result (λ copy. copy.written.items ≡ self.now.written.items) }
     {
         Ok(Declared {
-            reads: copy_ids(alloc, &self.reads)?,
-            writes: copy_ids(alloc, &self.writes)?,
+            read: copy_places(alloc, &self.read)?,
+            written: copy_places(alloc, &self.written)?,
         })
     }
 }
 
 impl Accessor for Declared {
-    ghost reads = { λ declared. declared.reads.items };
+    ghost reads = { λ declared. map id_at declared.read.items };
 
-    ghost writes = { λ declared. declared.writes.items };
+    ghost writes = { λ declared. map id_at declared.written.items };
 
     fn reads(&self, alloc: Global) -> Result<Vec<ResourceId>, OutOfMemory> {
-        copy_ids(alloc, &self.reads)
+        ids_of(alloc, &self.read)
     }
 
     fn writes(&self, alloc: Global) -> Result<Vec<ResourceId>, OutOfMemory> {
-        copy_ids(alloc, &self.writes)
+        ids_of(alloc, &self.written)
     }
 }
 
-fn copy_ids(alloc: Global, ids: &Vec<ResourceId>) -> Result<Vec<ResourceId>, OutOfMemory>
-    ensures { IfOk result (λ copy. copy.items ≡ ids.now.items) }
+// Puts the place at the end of the list, where the list lacks it.
+fn add_place(places: &mut Vec<usize>, place: usize) -> Result<(), AllocError>
+    ensures { OnOk result (places.new.items ≡ with_place places.old.items (Some place)) }
 {
-    match Vec::from_slice(alloc, ids.as_slice()) {
+    if places.contains(&place) {
+        return Ok(());
+    }
+    places.push(place)?;
+    Ok(())
+}
+
+fn copy_places(alloc: Global, places: &Vec<usize>) -> Result<Vec<usize>, OutOfMemory>
+    ensures { IfOk result (λ copy. copy.items ≡ places.now.items) }
+{
+    match Vec::from_slice(alloc, places.as_slice()) {
         Ok(copy) => Ok(copy),
         Err(_) => Err(OutOfMemory),
     }
+}
+
+// The ids of the resources at these places.
+fn ids_of(alloc: Global, places: &Vec<usize>) -> Result<Vec<ResourceId>, OutOfMemory>
+    ensures { IfOk result (λ ids. ids.items ≡ map id_at places.now.items) }
+{
+    let mut ids = Vec::new(alloc);
+    for place in places {
+        if ids.push(id_at(*place)).is_err() {
+            return Err(OutOfMemory);
+        }
+    }
+    Ok(ids)
 }

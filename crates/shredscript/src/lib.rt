@@ -6,6 +6,7 @@ mod batch;
 mod build;
 mod declared;
 mod engine;
+mod kept;
 mod local;
 mod plan_text;
 mod run_plan;

@@ -1,10 +1,11 @@
 //! A script's systems, as they are dispatched.
-ghost use Rattle.std.specs.Prelude.{◌≡◌, Ok, IfOk};
-ghost use Rattle.shredscript_text.specs.Declares.{read_ids, write_ids};
+ghost use Rattle.std.specs.Prelude.{◌≡◌, [], map, Ok, IfOk};
+ghost use Rattle.shredscript_text.specs.Declares.{places_read, places_written};
+ghost use Rattle.shredscript_text.specs.Place.{id_at};
 ghost use Rattle.shredscript.specs.Steps.{steps_outcome, steps_left};
 
 use crate::declared::Declared;
-use crate::stepping::run_steps;
+use crate::kept::run_declared;
 use shred::{Fault, OutOfMemory, RunningTime, System, View, World};
 use shredscript_text::outcome::Refusal;
 use shredscript_text::step::Step;
@@ -17,8 +18,8 @@ pub(crate) struct ScriptSystem {
     declared: Declared,
     time: RunningTime,
     steps: Vec<Step>,
-    ghost reads_of_steps: { declared.reads.items ≡ read_ids steps.items },
-    ghost writes_of_steps: { declared.writes.items ≡ write_ids steps.items },
+    ghost read_by_steps: { declared.read.items ≡ places_read [] steps.items },
+    ghost written_by_steps: { declared.written.items ≡ places_written [] steps.items },
 }
 
 impl ScriptSystem {
@@ -45,9 +46,9 @@ impl System<Value> for ScriptSystem {
 
     type Accessor = Declared;
 
-    ghost reads = { λ system. system.declared.reads.items };
+    ghost reads = { λ system. map id_at system.declared.read.items };
 
-    ghost writes = { λ system. system.declared.writes.items };
+    ghost writes = { λ system. map id_at system.declared.written.items };
 
     ghost time = { λ system. system.time };
 
@@ -59,7 +60,7 @@ impl System<Value> for ScriptSystem {
     ghost disposes = { λ _ seen outcome left. (outcome ≡ Ok tt) × (left ≡ seen) };
 
     fn run(&mut self, view: &mut View<Value>) -> Result<(), Fault<Refusal>> {
-        run_steps(self.steps.as_slice(), view)
+        run_declared(self.steps.as_slice(), &self.declared, view)
     }
 
     fn running_time(&self) -> RunningTime {

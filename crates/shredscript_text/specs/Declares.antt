@@ -1,6 +1,6 @@
 -- What the steps of a system declare.
-use Rattle.std.specs.Prelude.{ℕ, Option, Some, None, List, [], ◌∷◌, ◌++◌, IsTrue, IfSome}
-use Rattle.std.specs.Option.{option_map, option_to_list}
+use Rattle.std.specs.Prelude.{ℕ, Bool, ◌==◌, Option, Some, None, List, [], ◌∷◌, ◌++◌, cond, map, IsTrue, IfSome}
+use Rattle.std.specs.List.{list_any}
 use Rattle.shred_table.specs.declared.id.ResourceId.{ResourceId}
 use Rattle.shred_world.specs.declared.world.view.View.{View}
 use Rattle.shred_world.specs.Views.{may_write}
@@ -30,15 +30,32 @@ write_place (Read place) = None
 write_place (Write place) = Some place
 write_place (Refuse code) = None
 
--- the ids that steps declare to read, in their order
-abbrev pub read_ids : List Step → List ResourceId
-read_ids [] = []
-read_ids (step ∷ steps) = option_to_list (option_map id_at (read_place step)) ++ read_ids steps
+-- whether the place is in the list
+abbrev pub has_place : List ℕ → ℕ → Bool
+has_place places place = list_any (λ other. other == place) places
 
--- the ids that steps declare to write, in their order
+-- the places, with one more at the end where there is one and they lack it
+abbrev pub with_place : List ℕ → Option ℕ → List ℕ
+with_place places None = places
+with_place places (Some place) = cond (has_place places place) places (places ++ place ∷ [])
+
+-- these places, and those that steps declare to read, each once, in the order in which they first do
+abbrev pub places_read : List ℕ → List Step → List ℕ
+places_read places [] = places
+places_read places (step ∷ steps) = places_read (with_place places (read_place step)) steps
+
+-- these places, and those that steps declare to write, each once, in the order in which they first do
+abbrev pub places_written : List ℕ → List Step → List ℕ
+places_written places [] = places
+places_written places (step ∷ steps) = places_written (with_place places (write_place step)) steps
+
+-- the ids that steps declare to read, each once
+abbrev pub read_ids : List Step → List ResourceId
+read_ids steps = map id_at (places_read [] steps)
+
+-- the ids that steps declare to write, each once
 abbrev pub write_ids : List Step → List ResourceId
-write_ids [] = []
-write_ids (step ∷ steps) = option_to_list (option_map id_at (write_place step)) ++ write_ids steps
+write_ids steps = map id_at (places_written [] steps)
 
 -- the step may write the resource that it declares to write
 abbrev pub AllowsStep : {X : Type 0} → (X → ℕ → Type 0) → X → Step → Type 0

@@ -1,9 +1,9 @@
-use Rattle.std.proofs.Common.{◌≡◌, ◌++◌, drop}
-use Rattle.shredscript_text.specs.Declares.{read_ids, write_ids}
+use Rattle.std.proofs.Common.{◌≡◌, [], drop}
+use Rattle.shredscript_text.specs.Declares.{places_read, places_written}
 use Rattle.shredscript.proofs.declared.Declared.of_steps.Given as goal
 
 abbrev pub invariant-loop-step : goal.invariant-loop-step
 invariant-loop-step l = record {
-  reads : l.declared.reads.items ++ read_ids (drop l.step-index l.steps) ≡ read_ids l.steps;
-  writes : l.declared.writes.items ++ write_ids (drop l.step-index l.steps) ≡ write_ids l.steps;
+  read : places_read l.declared.read.items (drop l.step-index l.steps) ≡ places_read [] l.steps;
+  written : places_written l.declared.written.items (drop l.step-index l.steps) ≡ places_written [] l.steps;
 }

@@ -1,10 +1,13 @@
-use Rattle.std.proofs.Common.{◌≡◌, ◌∙◌, ap, sym}
+use Rattle.std.proofs.Common.{◌≡◌, ℕ, [], map, IsTrue, sym, ◌∙◌, ap}
 use Rattle.shred_table.specs.Slots.{among}
-use Rattle.shredscript_text.specs.Declares.{write_ids}
-use Rattle.shredscript.proofs.Declares.{MayWrite-each}
+use Rattle.shred_world.specs.Views.{may_write}
+use Rattle.shredscript_text.specs.Declares.{places_written}
+use Rattle.shredscript_text.specs.Place.{id_at}
+use Rattle.shredscript.proofs.Declares.{among-places, each-step}
 use Rattle.shredscript.proofs.system.ScriptSystemSystemValue.run.Goals as goal
 
-pub run_steps-requires-clause-writes : goal.run_steps-requires-clause-writes
-run_steps-requires-clause-writes c =
-    let declared : c.args.self.now.declared.writes.items ≡ write_ids c.as_slice.result.now = c.args.self.now.writes_of_steps ∙ ap write_ids (sym c.as_slice.ensures.value) in
-    MayWrite-each c.args.view.now c.as_slice.result.now (λ id written. c.requires.lent.may_write id ∙ (λ i. among (declared i) id) ∙ written)
+pub run_declared-requires-clause-writes : goal.run_declared-requires-clause-writes
+run_declared-requires-clause-writes c =
+    let declared : c.args.self.now.declared.written.items ≡ places_written [] c.as_slice.result.now = c.args.self.now.written_by_steps ∙ ap (places_written []) (sym c.as_slice.ensures.value) in
+    each-step (λ (place : ℕ). IsTrue (may_write c.args.view.now (id_at place))) c.as_slice.result.now
+    (λ place has. c.requires.lent.may_write (id_at place) ∙ (λ i. among (map id_at (declared i)) (id_at place)) ∙ among-places (places_written [] c.as_slice.result.now) place ∙ has)

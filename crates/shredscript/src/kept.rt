@@ -1,0 +1,184 @@
+//! Numbers that are kept while the steps of a system run: read once before them, and written once after.
+ghost use Rattle.std.specs.Prelude.{◌≡◌, ℕ, List, [], Some, map, IfSome, IsSome, IsTrue};
+ghost use Rattle.std.specs.List.{All};
+ghost use Rattle.std.specs.Option.{option_or};
+ghost use Rattle.shred_table.specs.Slots.{with_at};
+ghost use Rattle.shred_world.specs.Worked.{Held};
+ghost use Rattle.shredscript_text.specs.declared.value.Value.{Value};
+ghost use Rattle.shredscript_text.specs.Declares.{AllowsStep, has_place, places_written};
+ghost use Rattle.shredscript_text.specs.Place.{id_at, number_at};
+ghost use Rattle.shredscript.specs.Overlaid.{AreHeld, kept_place, overlaid};
+ghost use Rattle.shredscript.specs.Steps.{steps_outcome, steps_left};
+
+use crate::declared::Declared;
+use crate::stepping::run_steps;
+use arrayvec::ArrayVec;
+use shred_run::Fault;
+use shredscript_text::numbers::Numbers;
+use shredscript_text::outcome::Refusal;
+use shredscript_text::step::Step;
+
+/// The number of the resource at a place.
+#[derive(Clone, Copy, Default)]
+pub struct KeptNumber {
+    pub place: usize,
+    pub number: i64,
+}
+
+/// Numbers that are kept, those that are written before those that are only read, and all others behind them.
+#[derive(Drop)]
+pub struct Keeping<'n, N> {
+    pub written: ArrayVec<KeptNumber, 8>,
+    pub read: ArrayVec<KeptNumber, 8>,
+    pub behind: &'n N,
+}
+
+impl<N: Numbers> Numbers for Keeping<'_, N> {
+    ghost use Rattle.std.proofs.Common.{refl, sym, subst, ◌∙◌};
+
+    ghost seen = { λ keeping. overlaid keeping.written.items (overlaid keeping.read.items (N.seen keeping.behind.now)) };
+
+    ghost is_ready = { λ keeping. N.is_ready keeping.behind.now };
+
+    ghost allows = { λ keeping place. IsTrue (has_place (map kept_place keeping.written.items) place) };
+
+    ghost keeps = { λ old new. (new.behind.now ≡ old.behind.now) × (new.read.items ≡ old.read.items) × (map kept_place new.written.items ≡ map kept_place old.written.items) };
+
+    fn number(&self, place: usize) -> Result<i64, Fault<Refusal>> {
+        if let Some(number) = number_in(self.written.as_slice(), place) {
+            return Ok(number);
+        }
+        match number_in(self.read.as_slice(), place) {
+            Some(number) => Ok(number),
+            None => self.behind.number(place),
+        }
+    }
+
+    fn set(&mut self, place: usize, number: i64) {
+        put(self.written.as_mut_slice(), place, number);
+    }
+
+    ghost keeps_same = { λ x. (refl, refl, refl) };
+
+    ghost keeps_then = { λ x y z one two. (two.0 ∙ one.0, two.1 ∙ one.1, two.2 ∙ one.2) };
+
+    ghost keeps_ready = { λ x y kept ready. subst N.is_ready (sym kept.0) ready };
+
+    ghost keeps_allowed = { λ x y kept place allowed. subst (λ (places : List ℕ). IsTrue (has_place places place)) (sym kept.2) allowed };
+}
+
+// The number that is kept of this place, the first where there are several.
+fn number_in(kept: &[KeptNumber], place: usize) -> Option<i64>
+    ensures { (seen : Held Value) → number_at (overlaid kept.now seen) place ≡ option_or result (number_at seen place) }
+{
+    for one in kept {
+        if one.place == place {
+            return Some(one.number);
+        }
+    }
+    None
+}
+
+// Puts the number in the place of the one that is kept of this place.
+fn put(kept: &mut [KeptNumber], place: usize, number: i64)
+    requires { IsTrue (has_place (map kept_place kept.old) place) }
+    ensures left { (seen : Held Value) → overlaid kept.new seen ≡ with_at (overlaid kept.old seen) (id_at place) (Some (record { 0 = number })) }
+    ensures places { map kept_place kept.new ≡ map kept_place kept.old }
+{
+    if let Some((first, rest)) = kept.split_first_mut() {
+        if first.place == place {
+            first.number = number;
+        } else {
+            put(rest, place, number);
+        }
+    }
+}
+
+// The numbers at these places, where all are held, and no more of them than are kept.
+fn kept_of<N: Numbers>(numbers: &N, places: &[usize]) -> Option<ArrayVec<KeptNumber, 8>>
+    requires { N.is_ready numbers.now }
+    ensures places { IfSome result (λ kept. map kept_place kept.items ≡ places.now) }
+    ensures held { IfSome result (λ kept. AreHeld (N.seen numbers.now) kept.items) }
+{
+    let mut kept = ArrayVec::new_in(());
+    for place in places {
+        let Ok(number) = numbers.number(*place) else {
+            return None;
+        };
+        let one = KeptNumber {
+            place: *place,
+            number,
+        };
+        if kept.try_push(one).is_err() {
+            return None;
+        }
+    }
+    Some(kept)
+}
+
+// Writes the kept numbers, the last first.
+fn write_kept<N: Numbers>(kept: &[KeptNumber], numbers: &mut N)
+    requires is_ready { N.is_ready numbers.old }
+    requires allowed { (place : ℕ) → IsTrue (has_place (map kept_place kept.now) place) → N.allows numbers.old place }
+    requires held { (place : ℕ) → IsTrue (has_place (map kept_place kept.now) place) → IsSome (number_at (N.seen numbers.old) place) }
+    ensures left { N.seen numbers.new ≡ overlaid kept.now (N.seen numbers.old) }
+    ensures keeps { N.keeps numbers.old numbers.new }
+{
+    if let Some((first, rest)) = kept.split_first() {
+        write_kept(rest, numbers);
+        numbers.set(first.place, first.number);
+    }
+}
+
+// Runs the steps over what is kept, and writes what they left.
+fn run_over<N: Numbers>(
+    steps: &[Step],
+    read: ArrayVec<KeptNumber, 8>,
+    written: ArrayVec<KeptNumber, 8>,
+    numbers: &mut N,
+) -> Result<(), Fault<Refusal>>
+    requires writes { All (AllowsStep N.allows numbers.old) steps.now }
+    requires is_ready { N.is_ready numbers.old }
+    requires read { AreHeld (N.seen numbers.old) read.items }
+    requires written { AreHeld (N.seen numbers.old) written.items }
+    requires places { map kept_place written.items ≡ places_written [] steps.now }
+    ensures outcome { result ≡ steps_outcome steps.now (N.seen numbers.old) }
+    ensures left { N.seen numbers.new ≡ steps_left steps.now (N.seen numbers.old) }
+    ensures keeps { N.keeps numbers.old numbers.new }
+{
+    let mut keeping = Keeping {
+        written,
+        read,
+        behind: &*numbers,
+    };
+    let outcome = run_steps(steps, &mut keeping);
+    let Keeping { written: left, .. } = keeping;
+    write_kept(left.as_slice(), numbers);
+    outcome
+}
+
+/// Runs the steps over the numbers, up to the first that refuses, which the answer tells. Where there are many of them, the
+/// numbers that they declare are read once before them and written once after.
+pub fn run_declared<N: Numbers>(
+    steps: &[Step],
+    declared: &Declared,
+    numbers: &mut N,
+) -> Result<(), Fault<Refusal>>
+    requires writes { All (AllowsStep N.allows numbers.old) steps.now }
+    requires is_ready { N.is_ready numbers.old }
+    requires written { declared.now.written.items ≡ places_written [] steps.now }
+    ensures outcome { result ≡ steps_outcome steps.now (N.seen numbers.old) }
+    ensures left { N.seen numbers.new ≡ steps_left steps.now (N.seen numbers.old) }
+    ensures keeps { N.keeps numbers.old numbers.new }
+{
+    if steps.len() / 4 < declared.written.len() {
+        return run_steps(steps, numbers);
+    }
+    let Some(read) = kept_of(numbers, declared.read.as_slice()) else {
+        return run_steps(steps, numbers);
+    };
+    let Some(written) = kept_of(numbers, declared.written.as_slice()) else {
+        return run_steps(steps, numbers);
+    };
+    run_over(steps, read, written, numbers)
+}

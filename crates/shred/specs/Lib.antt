@@ -8,3 +8,7 @@ pub mod Made
 pub mod Setups
 pub mod SystemNames
 pub mod ThreadLocals
+pub mod Places
+pub mod OneOfTwo
+pub mod OneOfThree
+pub mod OneOfFour

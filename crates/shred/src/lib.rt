@@ -5,8 +5,9 @@
 //! run plans of their own. A `Dispatcher` runs the plan, stages one after the other and the groups of a stage beside each
 //! other on threads, and then the thread-local systems. What it leaves is `FullyDispatched`, of `specs/FullRuns.antt`.
 //!
-//! The builder, the dispatcher, thread-local systems (`RunNow`, `Now`) and systems that are made of simpler ones (`Plain`,
-//! `OneOf`) stand here; what else a user needs is given again of the crates below.
+//! The builder, the dispatcher, thread-local systems (`RunNow`, `Now`), systems that are made of simpler ones (`Plain`,
+//! `OneOf`) and values of worlds of two, three and four types of resources stand here; what else a user needs is given
+//! again of the crates below.
 #![tactic(auto)]
 
 pub mod dispatch;
@@ -15,10 +16,12 @@ pub mod one_of;
 pub mod plain;
 pub mod run_now;
 pub mod thread_local;
+pub mod values;
 
 pub use dispatch::builder::DispatcherBuilder;
 pub use dispatch::dispatcher::{Dispatcher, new_dispatcher};
 pub use dispatch::names::SystemNames;
+pub use dispatch::told::Told;
 pub use now::Now;
 pub use one_of::OneOf;
 pub use plain::{Plain, PlainSystem};
@@ -44,3 +47,6 @@ pub use shred_world::{
     check_intersection, only_id,
 };
 pub use thread_local::ThreadLocal;
+pub use values::{
+    First, Fourth, OneOf2, OneOf3, OneOf4, Second, Third, first_id, fourth_id, second_id, third_id,
+};

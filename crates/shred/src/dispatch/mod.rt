@@ -3,3 +3,4 @@
 pub mod builder;
 pub mod dispatcher;
 pub mod names;
+pub mod told;

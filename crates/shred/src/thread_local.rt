@@ -58,7 +58,7 @@ impl<L: Drop> ThreadLocal<L> {
         ensures run { LocalsRun V.kind_of L.runs (systems_of self.old) (local_held V.kind_of world.old) result (systems_of self.new) (local_held V.kind_of world.new) }
         ensures kinds { KeepsKinds V.kind_of (local_held V.kind_of world.old) (local_held V.kind_of world.new) }
     {
-        run_each(rt, self.systems.as_mut_slice(), world)
+        run_locals(rt, self.systems.as_mut_slice(), world)
     }
 
     /// Sets the systems up, in order, up to the first that is not Done.
@@ -103,7 +103,7 @@ fn run_one<R: Threads + Sync, V: ResourceValue, L: RunNow<V>>(
 }
 
 // The runs of the systems, in order, up to the first that is not Done.
-fn run_each<R: Threads + Sync, V: ResourceValue, L: RunNow<V>>(
+fn run_locals<R: Threads + Sync, V: ResourceValue, L: RunNow<V>>(
     rt: &R,
     locals: &mut [L],
     world: &mut LocalWorld<V>,

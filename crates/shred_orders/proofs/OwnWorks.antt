@@ -33,7 +33,7 @@ module _ {V S C : Type 0} (declared : Declared S C) where
   module _ (own : Work S (Nested V S C) → List ResourceId → List ResourceId → Type 0) (at : ℕ) (owned : (work : Work S (Nested V S C)) (reads writes : List ResourceId) → own work reads writes → OwnsWorks at (own_state work) (record { reads = reads; writes = writes })) where
     group-owned : (group : Group V (Work S (Nested V S C))) → IsGroupOf own group → EachAt (λ n entry. OwnsWorks at (inside_at (group_states group) n) entry.access) 0 (group_plan group)
     group-owned group owns = EachAt-listed entry_states entry_plan (λ works entry. OwnsWorks at works entry.access) group.entries.items
-        (AllByRecursion-weaker (IsEntryOf own) _ (λ entry one. owned entry.system entry.reads.items entry.writes.items one.lists) group.entries.items (recursion_from_All _ group.entries.items owns))
+        (AllByRecursion-weaker (IsEntryOf own) _ (λ entry one. owned entry.work entry.reads.items entry.writes.items one.lists) group.entries.items (recursion_from_All _ group.entries.items owns))
 
     groups-owned : (groups : List (Group V (Work S (Nested V S C)))) → All (IsGroupOf own) groups → EachAt (λ g group. EachAt (λ n entry. OwnsWorks at (inside_at (inside_at (listed_states group_states groups) g) n) entry.access) 0 group) 0 (groups_plan groups)
     groups-owned groups owns = EachAt-listed group_states group_plan (λ works group. EachAt (λ n entry. OwnsWorks at (inside_at works n) entry.access) 0 group) groups

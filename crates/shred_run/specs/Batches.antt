@@ -11,7 +11,7 @@ use Rattle.shred_run.specs.OwnLists.{IsGroupOf}
 use Rattle.shred_run.specs.Sides.{plan_reads, plan_writes}
 use Rattle.shred_run.specs.Time.{time_count}
 use Rattle.shred_run.specs.declared.entry.Group.{Group}
-use Rattle.shred_run.specs.declared.entry.SystemEntry.{SystemEntry}
+use Rattle.shred_run.specs.declared.entry.GroupEntry.{GroupEntry}
 use Rattle.shred_run.specs.declared.system.RunningTime.{RunningTime}
 use Rattle.shred_run.specs.Depths.{batch_of}
 use Rattle.shred_run.specs.KeptControllers.{control_access}
@@ -42,8 +42,8 @@ pub record IsTierOf {V X : Type 0} (own : X → List ResourceId → List Resourc
   pub apart : AreApart group_access (tier_plan tier)
 
 -- the depth that is noted of what stands in the entry is at most this
-abbrev pub NotesAtMost : {V S C : Type 0} → ℕ → SystemEntry V (Work S (Nested V S C)) → Type 0
-NotesAtMost most entry = depth_of entry.system ≤ most
+abbrev pub NotesAtMost : {V S C : Type 0} → ℕ → GroupEntry V (Work S (Nested V S C)) → Type 0
+NotesAtMost most entry = depth_of entry.work ≤ most
 
 -- so it is in each entry of the group
 abbrev pub GroupNotesAtMost : {V S C : Type 0} → ℕ → Group V (Work S (Nested V S C)) → Type 0

@@ -6,7 +6,7 @@ use Rattle.shred_model.specs.Runs.{Answer, RunsUpToFault, RunsEach}
 use Rattle.shred_model.specs.States.{listed_states, own_state}
 use Rattle.shred_table.specs.declared.id.Kind.{Kind}
 use Rattle.shred_table.specs.declared.id.ResourceId.{ResourceId}
-use Rattle.shred_run.specs.declared.entry.SystemEntry.{SystemEntry}
+use Rattle.shred_run.specs.declared.entry.GroupEntry.{GroupEntry}
 use Rattle.shred_run.specs.declared.entry.Group.{Group}
 use Rattle.shred_run.specs.declared.entry.StageFault.{StageFault}
 use Rattle.shred_run.specs.declared.entry.StageFault.TheVariants.{System, Memory}
@@ -35,8 +35,8 @@ module _ {V S E : Type 0} (kind : V → Kind) (step : Step V S E) where
   StageTurn stage list answer = StageRun stage list answer ⊎ ((list ≡ []) × (answer ≡ Err Memory))
 
 -- the state of the entry's system
-abbrev pub entry_states : {V S : Type 0} → SystemEntry V S → Agent → Option S
-entry_states entry path = own_state entry.system path
+abbrev pub entry_states : {V S : Type 0} → GroupEntry V S → Agent → Option S
+entry_states entry path = own_state entry.work path
 
 -- the states of a group's systems, by place
 abbrev pub group_states : {V S : Type 0} → Group V S → Agent → Option S

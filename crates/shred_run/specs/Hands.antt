@@ -10,7 +10,7 @@ use Rattle.shred_table.specs.Shown.{Lent}
 use Rattle.shred_table.specs.Slots.{slot_at, among}
 use Rattle.shred_run.specs.OwnSlots.{HasJustSlots, HasOnlySlots}
 use Rattle.shred_run.specs.PlanOf.{group_plan}
-use Rattle.shred_run.specs.declared.entry.SystemEntry.{SystemEntry}
+use Rattle.shred_run.specs.declared.entry.GroupEntry.{GroupEntry}
 use Rattle.shred_run.specs.declared.entry.Group.{Group}
 
 -- the slot of a hand that has the value of a table's slot, where there is one
@@ -68,7 +68,7 @@ module _ {V S : Type 0} where
   IsLeftEmpty old new = IsSameButHand old new × HasEmptyHand new
 
   -- the hand of the entry has an empty slot for each id that the entry writes and the table has a slot for, and no other slot
-  abbrev pub HasEntryRoom : Table V → SystemEntry V S → Type 0
+  abbrev pub HasEntryRoom : Table V → GroupEntry V S → Type 0
   HasEntryRoom table entry = IsRoom table entry.writes.items entry.hand
 
   -- whether the group has one entry
@@ -76,7 +76,7 @@ module _ {V S : Type 0} where
   is_single group = length group.entries.items == 1
 
   -- An entry that is its group's only one runs over a table that has no slots but those that it writes; any other has room in its hand.
-  abbrev pub HasPlace : Bool → Table V → SystemEntry V S → Type 0
+  abbrev pub HasPlace : Bool → Table V → GroupEntry V S → Type 0
   HasPlace true table entry = HasOnlySlots entry.writes.items table
   HasPlace false table entry = HasEntryRoom table entry
 

@@ -8,7 +8,7 @@ use Rattle.shred_run.specs.declared.work.Work.TheVariants.{System, Batch}
 
 -- what holds of what stands in each entry of a tier
 abbrev pub EachWork : {V X : Type 0} → (X → Type 0) → Tier V X → Type 0
-EachWork P tier = All (λ group. All (λ entry. P entry.system) group.entries.items) tier.groups.items
+EachWork P tier = All (λ group. All (λ entry. P entry.work) group.entries.items) tier.groups.items
 
 module _ {V S C : Type 0} where
   -- Batches nest in it to this depth at most: a system has none in it, and in a batch they nest deeper by one than in what stands in its inner plan.

@@ -5,7 +5,7 @@ use Rattle.shred_model.specs.Access.{Access}
 use Rattle.shred_model.specs.Plan as model
 use Rattle.shred_run.specs.Time.{time_count}
 use Rattle.shred_run.specs.declared.entry.SystemId.{SystemId}
-use Rattle.shred_run.specs.declared.entry.SystemEntry.{SystemEntry}
+use Rattle.shred_run.specs.declared.entry.GroupEntry.{GroupEntry}
 use Rattle.shred_run.specs.declared.entry.Group.{Group}
 
 -- the numbers of some ids
@@ -13,11 +13,11 @@ abbrev pub numbers_of : List SystemId → List ℕ
 numbers_of ids = map (λ id. id.0) ids
 
 -- what an entry's system may touch
-abbrev pub access_of : {V S : Type 0} → SystemEntry V S → Access ResourceId
+abbrev pub access_of : {V S : Type 0} → GroupEntry V S → Access ResourceId
 access_of entry = record { reads = entry.reads.items; writes = entry.writes.items }
 
 -- an entry, but for its system
-abbrev pub entry_plan : {V S : Type 0} → SystemEntry V S → model.PlanEntry ResourceId
+abbrev pub entry_plan : {V S : Type 0} → GroupEntry V S → model.PlanEntry ResourceId
 entry_plan entry = record { id = entry.id.0; access = access_of entry; time = time_count entry.time }
 
 -- the numbers of the ids beside a group's entries

@@ -9,7 +9,7 @@ use Rattle.shred_run.specs.Nesting.{IsNoDeeper}
 use Rattle.shred_run.specs.Steps.{Outcome, Step}
 use Rattle.shred_run.specs.WorkSetups.{WorkSetup, WorkDisposal}
 use Rattle.shred_run.specs.declared.entry.Group.{Group}
-use Rattle.shred_run.specs.declared.entry.SystemEntry.{SystemEntry}
+use Rattle.shred_run.specs.declared.entry.GroupEntry.{GroupEntry}
 use Rattle.shred_run.specs.declared.work.Nested.{Nested}
 use Rattle.shred_run.specs.declared.work.Tier.{Tier}
 use Rattle.shred_run.specs.declared.work.Work.{Work}
@@ -41,8 +41,8 @@ abbrev pub RuleDisposal : {V S C E : Type 0} → (S → Held V → Outcome E →
 RuleDisposal {C = C} system at work before outcome after = WorkDisposal C system (rule_depth at work) work before outcome after
 
 -- batches nest no deeper in what stands in the entry than it is followed
-abbrev pub EntryNests : {V S C : Type 0} → Option ℕ → SystemEntry V (Work S (Nested V S C)) → Type 0
-EntryNests at entry = IsNoDeeper (rule_depth at entry.system) entry.system
+abbrev pub EntryNests : {V S C : Type 0} → Option ℕ → GroupEntry V (Work S (Nested V S C)) → Type 0
+EntryNests at entry = IsNoDeeper (rule_depth at entry.work) entry.work
 
 -- so it is in each entry of the group
 abbrev pub GroupNests : {V S C : Type 0} → Option ℕ → Group V (Work S (Nested V S C)) → Type 0

@@ -4,7 +4,7 @@ use Rattle.shred_model.specs.InTurn.{InTurn, AllInTurn}
 use Rattle.shred_model.specs.Runs.{Answer}
 use Rattle.shred_table.specs.declared.id.ResourceId.{ResourceId}
 use Rattle.shred_world.specs.Worked.{Held}
-use Rattle.shred_run.specs.declared.entry.SystemEntry.{SystemEntry}
+use Rattle.shred_run.specs.declared.entry.GroupEntry.{GroupEntry}
 use Rattle.shred_run.specs.declared.entry.Group.{Group}
 use Rattle.shred_run.specs.declared.entry.StageFault.{StageFault}
 use Rattle.shred_run.specs.Entries.{entry_answer}
@@ -15,11 +15,11 @@ use Rattle.shred_run.specs.Steps.{Outcome, Step}
 
 module _ {V S E : Type 0} (sets_up : Step V S E) where
   -- an entry's setup is its system's own, and a fault is told with the entry's id
-  abbrev pub EntrySetup : SystemEntry V S → Held V → Answer (StageFault E) → SystemEntry V S → Held V → Type 0
-  EntrySetup entry before answer new after = (o : Outcome E) × sets_up entry.system before o new.system after × (answer ≡ entry_answer entry.id.0 o)
+  abbrev pub EntrySetup : GroupEntry V S → Held V → Answer (StageFault E) → GroupEntry V S → Held V → Type 0
+  EntrySetup entry before answer new after = (o : Outcome E) × sets_up entry.work before o new.work after × (answer ≡ entry_answer entry.id.0 o)
 
   -- the setups of some entries, in order, up to the first that is not Done
-  abbrev pub EntriesSetup : List (SystemEntry V S) → Held V → Answer (StageFault E) → List (SystemEntry V S) → Held V → Type 0
+  abbrev pub EntriesSetup : List (GroupEntry V S) → Held V → Answer (StageFault E) → List (GroupEntry V S) → Held V → Type 0
   EntriesSetup entries before answer news after = InTurn (λ place. EntrySetup) 0 entries before answer news after
 
   -- a group's setup is that of its entries
@@ -32,8 +32,8 @@ module _ {V S E : Type 0} (sets_up : Step V S E) where
 
 module _ {V S E : Type 0} (disposes : S → Held V → Outcome E → Held V → Type 0) where
   -- an entry's disposal is its system's own, and a fault is told with the entry's id
-  abbrev pub EntryDisposal : SystemEntry V S → Held V → Answer (StageFault E) → Held V → Type 0
-  EntryDisposal entry before answer after = (o : Outcome E) × disposes entry.system before o after × (answer ≡ entry_answer entry.id.0 o)
+  abbrev pub EntryDisposal : GroupEntry V S → Held V → Answer (StageFault E) → Held V → Type 0
+  EntryDisposal entry before answer after = (o : Outcome E) × disposes entry.work before o after × (answer ≡ entry_answer entry.id.0 o)
 
   -- a group's disposal is that of all its entries, in order; the answer is the first that is not Done
   abbrev pub GroupDisposal : Group V S → Held V → Answer (StageFault E) → Held V → Type 0

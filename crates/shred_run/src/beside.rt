@@ -29,9 +29,9 @@ use crate::calls::{Ask, Begin, run_system};
 use crate::control::{KeptController, call_kept};
 use crate::controller::BatchController;
 use crate::depth::depth_by;
-use crate::entry::{Group, StageFault, SystemEntry};
+use crate::entry::{Group, GroupEntry, StageFault};
 use crate::fork::run_lanes;
-use crate::hands::{move_all_back, move_all_out};
+use crate::hands::{move_groups_back, move_groups_out};
 use crate::loan::{Loan, behind};
 use crate::system::{Fault, System};
 use crate::work::{Batch, Nested, Tier, Work, within};
@@ -212,10 +212,10 @@ where
     ensures { TookTierTurn V.kind_of (Owns (lists_of S.reads S.writes C.reads C.writes) less) (WorkStep V.kind_of (relations_of (lists_of S.reads S.writes C.reads C.writes) S.step C.begins C.asks) less) (lent_slot loan.now.shelf.now) tier.old.groups.items own.old result tier.new.groups.items own.new }
 {
     let groups = tier.groups.as_mut_slice();
-    move_all_out(groups, own);
+    move_groups_out(groups, own);
     let nearest = behind(&*own, &*loan.writes, &*loan.shelf);
     let answer = run_groups(rt, Some(less), &nearest, groups, workers);
-    move_all_back(groups, own);
+    move_groups_back(groups, own);
     answer
 }
 
@@ -296,7 +296,7 @@ fn run_entry<
 >(
     rt: &R,
     at: Option<usize>,
-    entry: &mut SystemEntry<V, Work<S, Nested<V, S, C>>>,
+    entry: &mut GroupEntry<V, Work<S, Nested<V, S, C>>>,
     single: bool,
     written: &[ResourceId],
     shelf: &[Shelf<V>; 1],
@@ -310,7 +310,7 @@ where
     requires own_slots { HasOwnSlots entry.old.writes.items (lent_slot shelf.now) own.old }
     requires just_slots { HasJustSlots written.now own.old }
     requires place { HasPlace single own.old entry.old }
-    ensures stepped { IsStepBy V.kind_of (RuleOwns (lists_of S.reads S.writes C.reads C.writes) at) (RuleStep V.kind_of (relations_of (lists_of S.reads S.writes C.reads C.writes) S.step C.begins C.asks) at) entry.old.reads.items entry.old.writes.items (lent_slot shelf.now) entry.old.system own.old result entry.new.system own.new }
+    ensures stepped { IsStepBy V.kind_of (RuleOwns (lists_of S.reads S.writes C.reads C.writes) at) (RuleStep V.kind_of (relations_of (lists_of S.reads S.writes C.reads C.writes) S.step C.begins C.asks) at) entry.old.reads.items entry.old.writes.items (lent_slot shelf.now) entry.old.work own.old result entry.new.work own.new }
     ensures plan { entry_plan entry.new ≡ entry_plan entry.old }
     ensures own_lists { IsEntryOf (RuleOwns (lists_of S.reads S.writes C.reads C.writes) at) entry.new }
     ensures place { HasPlace single own.new entry.new }
@@ -322,7 +322,7 @@ where
             entry.reads.as_slice(),
             entry.writes.as_slice(),
             &*shelf,
-            &mut entry.system,
+            &mut entry.work,
             own,
             workers,
         );
@@ -335,7 +335,7 @@ where
         entry.reads.as_slice(),
         entry.writes.as_slice(),
         &nearest,
-        &mut entry.system,
+        &mut entry.work,
         &mut entry.hand,
         workers,
     );
@@ -365,8 +365,8 @@ where
     requires apart { AreApart group_access (groups_plan groups.old) }
     ensures { TookTurn V.kind_of (OwnStep V.kind_of (relations_of (lists_of S.reads S.writes C.reads C.writes) S.step C.begins C.asks)) (OwnsItself (lists_of S.reads S.writes C.reads C.writes)) groups.old (held V.kind_of table.old) result groups.new (held V.kind_of table.new) }
 {
-    move_all_out(groups, table);
+    move_groups_out(groups, table);
     let answer = run_groups(rt, None, &[Shelf::Last(table)], groups, workers);
-    move_all_back(groups, table);
+    move_groups_back(groups, table);
     answer
 }

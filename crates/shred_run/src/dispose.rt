@@ -8,7 +8,7 @@ ghost use Rattle.shred_run.specs.WorkSetups.{BatchDisposal, TierDisposal, TiersD
 ghost use Rattle.shred_world.specs.Worlds.{world_held};
 
 use crate::depth::depth_by;
-use crate::entry::{Group, StageFault, SystemEntry};
+use crate::entry::{Group, GroupEntry, StageFault};
 use crate::first::first;
 use crate::system::{Fault, System};
 use crate::work::{Batch, Nested, Tier, Work, within};
@@ -106,15 +106,15 @@ fn dispose_of_group<V: ResourceValue + Drop, S: System<V, Error = E> + Drop, C: 
 #[cycle(dispose)]
 fn dispose_of_entry<V: ResourceValue + Drop, S: System<V, Error = E> + Drop, C: Drop, E: Drop>(
     at: Option<usize>,
-    entry: SystemEntry<V, Work<S, Nested<V, S, C>>>,
+    entry: GroupEntry<V, Work<S, Nested<V, S, C>>>,
     world: &mut World<V>,
 ) -> Result<(), StageFault<E>>
     requires { EntryNests at entry }
     ensures { EntryDisposal (RuleDisposal S.disposes at) entry (world_held V.kind_of world.old) result (world_held V.kind_of world.new) }
 {
     let id = entry.id;
-    let depth = depth_by(at, &entry.system);
-    match dispose_of_work(depth, entry.system, world) {
+    let depth = depth_by(at, &entry.work);
+    match dispose_of_work(depth, entry.work, world) {
         Ok(()) => Ok(()),
         Err(fault) => Err(StageFault::System { id, fault }),
     }

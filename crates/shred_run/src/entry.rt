@@ -51,15 +51,15 @@ pub enum Side {
     Writes,
 }
 
-/// A system, with what was kept of it when it was placed, and a slot for each id that it writes, into which the value is
-/// moved while the system runs, where its group has other entries.
+/// A system or a batch, with what was kept of it when it was placed, and a slot for each id that it writes, into which the
+/// value is moved while it runs, where its group has other entries.
 #[derive(Drop)]
-pub struct SystemEntry<V, S> {
+pub struct GroupEntry<V, S> {
     pub id: SystemId,
     pub reads: Vec<ResourceId>,
     pub writes: Vec<ResourceId>,
     pub time: RunningTime,
-    pub system: S,
+    pub work: S,
     pub hand: Table<V>,
 }
 
@@ -68,7 +68,7 @@ pub struct SystemEntry<V, S> {
 #[derive(Drop)]
 pub struct Group<V, S> {
     pub ids: ArrayVec<SystemId, 4>,
-    pub entries: Vec<SystemEntry<V, S>>,
+    pub entries: Vec<GroupEntry<V, S>>,
     pub written: Vec<ResourceId>,
     pub hand: Table<V>,
 }
@@ -91,7 +91,7 @@ fn shares_resource(first: &Vec<ResourceId>, second: &Vec<ResourceId>) -> bool
     check_intersection(first.as_slice(), second.as_slice())
 }
 
-impl<V, S> SystemEntry<V, S> {
+impl<V, S> GroupEntry<V, S> {
     /// One of the two kept lists.
     fn side(&self, side: Side) -> &[ResourceId]
         ensures { result.now ≡ side_of side (access_of self.now) }
@@ -103,7 +103,7 @@ impl<V, S> SystemEntry<V, S> {
     }
 
     /// Whether one entry writes what the other reads or writes.
-    pub fn conflicts(&self, other: &SystemEntry<V, S>) -> bool
+    pub fn conflicts(&self, other: &GroupEntry<V, S>) -> bool
         ensures { result ≡ accesses_conflict same_id (access_of self.now) (access_of other.now) }
     {
         shares_resource(&self.writes, &other.writes)
@@ -114,7 +114,7 @@ impl<V, S> SystemEntry<V, S> {
 
 impl<V, S> Group<V, S> {
     /// Whether an entry of the group conflicts with this one.
-    pub fn conflicts(&self, entry: &SystemEntry<V, S>) -> bool
+    pub fn conflicts(&self, entry: &GroupEntry<V, S>) -> bool
         ensures { result ≡ group_conflicts same_id (access_of entry.now) (group_plan self.now) }
     {
         for member in &self.entries {
@@ -134,7 +134,7 @@ impl<V, S> Group<V, S> {
     }
 
     /// Whether the entry has to come after this group: they conflict, or the group holds an id that is left.
-    pub fn is_touched(&self, left: &[SystemId], entry: &SystemEntry<V, S>) -> bool
+    pub fn is_touched(&self, left: &[SystemId], entry: &GroupEntry<V, S>) -> bool
         requires { HasEntryIds self.now }
         ensures { result ≡ is_touched same_id (numbers_of left.now) (access_of entry.now) (group_plan self.now) }
     {
@@ -155,7 +155,7 @@ impl<V, S> Group<V, S> {
     }
 
     /// A group of one entry.
-    pub fn new(alloc: Global, entry: SystemEntry<V, S>) -> Result<Self, OutOfMemory>
+    pub fn new(alloc: Global, entry: GroupEntry<V, S>) -> Result<Self, OutOfMemory>
     where
         V: Drop,
         S: Drop,
@@ -200,7 +200,7 @@ impl<V, S> Group<V, S> {
     }
 
     /// Puts the entry at the group's end.
-    pub fn push(&mut self, entry: SystemEntry<V, S>) -> Result<(), OutOfMemory>
+    pub fn push(&mut self, entry: GroupEntry<V, S>) -> Result<(), OutOfMemory>
     where
         V: Drop,
         S: Drop,

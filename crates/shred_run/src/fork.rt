@@ -8,7 +8,7 @@ use crate::first::first;
 use std::thread::{Threads, join_mut};
 
 /// Runs every lane, one after the other. The answer is the first that is not Done.
-pub fn run_each<X, E: Drop, F: Fn(&mut X) -> Result<(), E>>(
+pub fn run_lanes_in_order<X, E: Drop, F: Fn(&mut X) -> Result<(), E>>(
     run: &F,
     lanes: &mut [X],
 ) -> Result<(), E>
@@ -39,7 +39,7 @@ pub fn run_lanes<R: Threads + Sync, X: Send, E: Drop + Send, F: Fn(&mut X) -> Re
     ensures { AllWent (Calls F.Fn run.now) lanes.old result lanes.new }
 {
     if workers <= 1 || lanes.len() <= 1 {
-        return run_each(run, lanes);
+        return run_lanes_in_order(run, lanes);
     }
     let middle = lanes.len() / 2;
     let (front, back) = lanes.split_at_mut(middle);

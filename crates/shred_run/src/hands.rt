@@ -31,7 +31,7 @@ impl<V: Drop, S> Group<V, S> {
 }
 
 // Moves what the groups write into their hands; the slots stay, empty.
-pub fn move_all_out<V: Drop, S>(groups: &mut [Group<V, S>], table: &mut Table<V>)
+pub fn move_groups_out<V: Drop, S>(groups: &mut [Group<V, S>], table: &mut Table<V>)
     requires apart { WriteApart groups.old }
     requires empty { All HasEmptyHand groups.old }
     ensures hands { AllZip (IsMovedOut (slot_at table.old)) groups.old groups.new }
@@ -44,7 +44,7 @@ pub fn move_all_out<V: Drop, S>(groups: &mut [Group<V, S>], table: &mut Table<V>
 }
 
 // Moves what is in the groups' hands back into the slots that it left.
-pub fn move_all_back<V: Drop, S>(groups: &mut [Group<V, S>], table: &mut Table<V>)
+pub fn move_groups_back<V: Drop, S>(groups: &mut [Group<V, S>], table: &mut Table<V>)
     requires apart { WriteApart groups.old }
     requires fit { All FitsGroup groups.old }
     ensures hands { AllZip IsLeftEmpty groups.old groups.new }

@@ -28,9 +28,9 @@ use crate::calls::{Ask, Begin, run_system};
 use crate::control::{KeptController, call_kept};
 use crate::controller::BatchController;
 use crate::depth::depth_by;
-use crate::entry::{Group, StageFault, SystemEntry};
-use crate::fork::run_each;
-use crate::hands::{move_all_back, move_all_out};
+use crate::entry::{Group, GroupEntry, StageFault};
+use crate::fork::run_lanes_in_order;
+use crate::hands::{move_groups_back, move_groups_out};
 use crate::loan::{Loan, behind};
 use crate::system::{Fault, System};
 use crate::work::{Batch, Nested, Tier, Work, within};
@@ -178,10 +178,10 @@ fn turn<
     ensures { TookTierTurn V.kind_of (Owns (lists_of S.reads S.writes C.reads C.writes) less) (WorkStep V.kind_of (relations_of (lists_of S.reads S.writes C.reads C.writes) S.step C.begins C.asks) less) (lent_slot loan.now.shelf.now) tier.old.groups.items own.old result tier.new.groups.items own.new }
 {
     let groups = tier.groups.as_mut_slice();
-    move_all_out(groups, own);
+    move_groups_out(groups, own);
     let nearest = behind(&*own, &*loan.writes, &*loan.shelf);
     let answer = run_groups(Some(less), &nearest, groups);
-    move_all_back(groups, own);
+    move_groups_back(groups, own);
     answer
 }
 
@@ -204,7 +204,7 @@ fn run_groups<
         requires { IsReady (RuleOwns (lists_of S.reads S.writes C.reads C.writes) at) (lent_slot shelf.now) group.old }
         ensures { GroupWent V.kind_of (RuleStep V.kind_of (relations_of (lists_of S.reads S.writes C.reads C.writes) S.step C.begins C.asks) at) (RuleOwns (lists_of S.reads S.writes C.reads C.writes) at) (lent_slot shelf.entry.now) group.old result group.new }
     { run_group(at, group, shelf) };
-    run_each(&lane, groups)
+    run_lanes_in_order(&lane, groups)
 }
 
 // A group's run, over its hand and what is lent shared: its entries' steps, in order, up to the first that is not Done.
@@ -248,7 +248,7 @@ fn run_entry<
     E: Drop,
 >(
     at: Option<usize>,
-    entry: &mut SystemEntry<V, Work<S, Nested<V, S, C>>>,
+    entry: &mut GroupEntry<V, Work<S, Nested<V, S, C>>>,
     single: bool,
     written: &[ResourceId],
     shelf: &[Shelf<V>; 1],
@@ -258,7 +258,7 @@ fn run_entry<
     requires own_slots { HasOwnSlots entry.old.writes.items (lent_slot shelf.now) own.old }
     requires just_slots { HasJustSlots written.now own.old }
     requires place { HasPlace single own.old entry.old }
-    ensures stepped { IsStepBy V.kind_of (RuleOwns (lists_of S.reads S.writes C.reads C.writes) at) (RuleStep V.kind_of (relations_of (lists_of S.reads S.writes C.reads C.writes) S.step C.begins C.asks) at) entry.old.reads.items entry.old.writes.items (lent_slot shelf.now) entry.old.system own.old result entry.new.system own.new }
+    ensures stepped { IsStepBy V.kind_of (RuleOwns (lists_of S.reads S.writes C.reads C.writes) at) (RuleStep V.kind_of (relations_of (lists_of S.reads S.writes C.reads C.writes) S.step C.begins C.asks) at) entry.old.reads.items entry.old.writes.items (lent_slot shelf.now) entry.old.work own.old result entry.new.work own.new }
     ensures plan { entry_plan entry.new ≡ entry_plan entry.old }
     ensures own_lists { IsEntryOf (RuleOwns (lists_of S.reads S.writes C.reads C.writes) at) entry.new }
     ensures place { HasPlace single own.new entry.new }
@@ -269,7 +269,7 @@ fn run_entry<
             entry.reads.as_slice(),
             entry.writes.as_slice(),
             &*shelf,
-            &mut entry.system,
+            &mut entry.work,
             own,
         );
     }
@@ -280,7 +280,7 @@ fn run_entry<
         entry.reads.as_slice(),
         entry.writes.as_slice(),
         &nearest,
-        &mut entry.system,
+        &mut entry.work,
         &mut entry.hand,
     );
     move_back(own, entry.writes.as_slice(), &mut entry.hand);
@@ -303,8 +303,8 @@ pub fn turn_in_order<
     requires apart { AreApart group_access (groups_plan groups.old) }
     ensures { TookTurn V.kind_of (OwnStep V.kind_of (relations_of (lists_of S.reads S.writes C.reads C.writes) S.step C.begins C.asks)) (OwnsItself (lists_of S.reads S.writes C.reads C.writes)) groups.old (held V.kind_of table.old) result groups.new (held V.kind_of table.new) }
 {
-    move_all_out(groups, table);
+    move_groups_out(groups, table);
     let answer = run_groups(None, &[Shelf::Last(table)], groups);
-    move_all_back(groups, table);
+    move_groups_back(groups, table);
     answer
 }

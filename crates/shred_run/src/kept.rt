@@ -18,7 +18,7 @@ ghost use Rattle.shred_run.specs.declared.work.Work.TheVariants.{System as ASyst
 use crate::control::KeptController;
 use crate::controller::BatchController;
 use crate::depth::depth_of;
-use crate::entry::{Side, SystemEntry, SystemId};
+use crate::entry::{GroupEntry, Side, SystemId};
 use crate::sorted::sort_without_doubles;
 use crate::system::System;
 use crate::work::{Batch, Nested, Tier, Work};
@@ -98,13 +98,13 @@ fn joined<V, X>(
 }
 
 // The greatest depth that is noted in some entries.
-fn deepest_entry<V, S, C>(entries: &[SystemEntry<V, Work<S, Nested<V, S, C>>>]) -> usize
+fn deepest_entry<V, S, C>(entries: &[GroupEntry<V, Work<S, Nested<V, S, C>>>]) -> usize
     ensures noted { All (NotesAtMost result) entries.now }
     ensures least { (most : ℕ) → All (NotesAtMost most) entries.now → result ≤ most }
 {
     let mut most: usize = 0;
     for entry in entries {
-        most = most.max(depth_of(&entry.system));
+        most = most.max(depth_of(&entry.work));
     }
     most
 }
@@ -159,9 +159,9 @@ pub fn system_entry<V: ResourceValue + Drop, S: System<V> + Drop, C: BatchContro
     alloc: Global,
     id: SystemId,
     system: S,
-) -> Result<SystemEntry<V, Work<S, Nested<V, S, C>>>, OutOfMemory>
+) -> Result<GroupEntry<V, Work<S, Nested<V, S, C>>>, OutOfMemory>
     ensures kept { IfOk result (λ entry. IsKept id.0 (S.reads system) (S.writes system) (S.time system) (entry_plan entry)) }
-    ensures same { IfOk result (λ entry. entry.system ≡ ASystem system) }
+    ensures same { IfOk result (λ entry. entry.work ≡ ASystem system) }
     ensures own_lists { IfOk result (IsEntryOf (OwnsItself (lists_of S.reads S.writes C.reads C.writes))) }
 {
     let time = system.running_time();
@@ -170,12 +170,12 @@ pub fn system_entry<V: ResourceValue + Drop, S: System<V> + Drop, C: BatchContro
     let writes = accessor.writes(alloc)?;
     let hand = empty_hand(alloc, writes.as_slice())?;
     sort_without_doubles(&mut reads);
-    Ok(SystemEntry {
+    Ok(GroupEntry {
         id,
         reads,
         writes,
         time,
-        system: Work::System(system),
+        work: Work::System(system),
         hand,
     })
 }
@@ -188,10 +188,10 @@ pub fn batch_entry<V: ResourceValue + Drop, S: System<V> + Drop, C: BatchControl
     id: SystemId,
     controller: C,
     tiers: Vec<Tier<V, Work<S, Nested<V, S, C>>>>,
-) -> Result<SystemEntry<V, Work<S, Nested<V, S, C>>>, OutOfMemory>
+) -> Result<GroupEntry<V, Work<S, Nested<V, S, C>>>, OutOfMemory>
     requires { All (IsTierOf (OwnsItself (lists_of S.reads S.writes C.reads C.writes))) tiers.items }
     ensures kept { IfOk result (λ entry. IsKeptBatch id.0 (joined_access (record { reads = C.reads controller; writes = C.writes controller }) (tiers_plan tiers.items)) (C.time controller) (entry_plan entry)) }
-    ensures batch { IfOk result (λ entry. IsBatchOf controller (record { reads = C.reads controller; writes = C.writes controller }) tiers.items entry.system) }
+    ensures batch { IfOk result (λ entry. IsBatchOf controller (record { reads = C.reads controller; writes = C.writes controller }) tiers.items entry.work) }
     ensures own_lists { IfOk result (IsEntryOf (OwnsItself (lists_of S.reads S.writes C.reads C.writes))) }
 {
     let Some(depth) = deepest(&tiers).checked_add(1) else {
@@ -210,12 +210,12 @@ pub fn batch_entry<V: ResourceValue + Drop, S: System<V> + Drop, C: BatchControl
         tiers,
         depth,
     };
-    Ok(SystemEntry {
+    Ok(GroupEntry {
         id,
         reads,
         writes,
         time,
-        system: Work::Batch(Nested { batch }),
+        work: Work::Batch(Nested { batch }),
         hand,
     })
 }

@@ -15,7 +15,7 @@ ghost use Rattle.shred_world.specs.Worlds.{world_held};
 
 use crate::controller::BatchController;
 use crate::depth::depth_by;
-use crate::entry::{Group, StageFault, SystemEntry};
+use crate::entry::{Group, GroupEntry, StageFault};
 use crate::system::{Fault, System};
 use crate::work::{Batch, Nested, Tier, Work, within};
 use shred_world::{ResourceValue, World};
@@ -126,7 +126,7 @@ fn set_up_group<V: ResourceValue, S: System<V, Error = E>, C: BatchController<V,
 #[cycle(set_up)]
 fn set_up_entries<V: ResourceValue, S: System<V, Error = E>, C: BatchController<V, Error = E>, E>(
     at: Option<usize>,
-    entries: &mut [SystemEntry<V, Work<S, Nested<V, S, C>>>],
+    entries: &mut [GroupEntry<V, Work<S, Nested<V, S, C>>>],
     world: &mut World<V>,
 ) -> Result<(), StageFault<E>>
     requires { All (IsEntryOf (RuleOwns (lists_of S.reads S.writes C.reads C.writes) at)) entries.old }
@@ -146,7 +146,7 @@ fn set_up_entries<V: ResourceValue, S: System<V, Error = E>, C: BatchController<
 #[cycle(set_up)]
 fn set_up_entry<V: ResourceValue, S: System<V, Error = E>, C: BatchController<V, Error = E>, E>(
     at: Option<usize>,
-    entry: &mut SystemEntry<V, Work<S, Nested<V, S, C>>>,
+    entry: &mut GroupEntry<V, Work<S, Nested<V, S, C>>>,
     world: &mut World<V>,
 ) -> Result<(), StageFault<E>>
     requires { IsEntryOf (RuleOwns (lists_of S.reads S.writes C.reads C.writes) at) entry.old }
@@ -154,8 +154,8 @@ fn set_up_entry<V: ResourceValue, S: System<V, Error = E>, C: BatchController<V,
     ensures plan { entry_plan entry.new ≡ entry_plan entry.old }
     ensures owns { IsEntryOf (RuleOwns (lists_of S.reads S.writes C.reads C.writes) at) entry.new }
 {
-    let depth = depth_by(at, &entry.system);
-    match set_up_work(depth, &mut entry.system, world) {
+    let depth = depth_by(at, &entry.work);
+    match set_up_work(depth, &mut entry.work, world) {
         Ok(()) => Ok(()),
         Err(fault) => Err(StageFault::System {
             id: entry.id,

@@ -6,7 +6,7 @@ use Rattle.shred_model.specs.Record.{Agent}
 use Rattle.shred_model.specs.Runs.{Answer}
 use Rattle.shred_model.specs.States.{listed_states}
 use Rattle.shred_world.specs.Worked.{Held}
-use Rattle.shred_run.specs.declared.entry.SystemEntry.{SystemEntry}
+use Rattle.shred_run.specs.declared.entry.GroupEntry.{GroupEntry}
 use Rattle.shred_run.specs.declared.entry.Group.{Group}
 use Rattle.shred_run.specs.declared.entry.StageFault.{StageFault}
 use Rattle.shred_run.specs.Entries.{entry_answer, entry_states, group_states}
@@ -73,13 +73,13 @@ listed-both f R (x ∷ xs) (y ∷ ys) both (zero ∷ path) = both.0 path
 listed-both f R (x ∷ xs) (y ∷ ys) both (suc n ∷ path) = listed-both f R xs ys both.1 (n ∷ path)
 
 module _ {V S E : Type 0} (staged : Step V S E) (R : S → S → Type 0) (idle : (s : S) (h : Held V) (o : Outcome E) (t : S) (k : Held V) → staged s h o t k → R s t × (o ≡ Ok tt) × (k ≡ h)) where
-  entry-both : (x y : SystemEntry V S) → R x.system y.system → (path : Agent) → AtBoth R (entry_states x path) (entry_states y path)
+  entry-both : (x y : GroupEntry V S) → R x.work y.work → (path : Agent) → AtBoth R (entry_states x path) (entry_states y path)
   entry-both x y both [] = both
   entry-both x y both (m ∷ path) = tt
 
-  entry-idle : (n : ℕ) (x : SystemEntry V S) (h : Held V) (a : Answer (StageFault E)) (y : SystemEntry V S) (k : Held V) → EntrySetup staged x h a y k → (a ≡ Ok tt) × ((path : Agent) → AtBoth R (entry_states x path) (entry_states y path)) × (k ≡ h)
+  entry-idle : (n : ℕ) (x : GroupEntry V S) (h : Held V) (a : Answer (StageFault E)) (y : GroupEntry V S) (k : Held V) → EntrySetup staged x h a y k → (a ≡ Ok tt) × ((path : Agent) → AtBoth R (entry_states x path) (entry_states y path)) × (k ≡ h)
   entry-idle n x h a y k (o, own, is) =
-      let i = idle x.system h o y.system k own in
+      let i = idle x.work h o y.work k own in
       (is ∙ ap (entry_answer x.id.0) i.1, entry-both x y i.0, i.2)
 
   group-idle : (n : ℕ) (x : Group V S) (h : Held V) (a : Answer (StageFault E)) (y : Group V S) (k : Held V) → GroupSetup staged x h a y k → (a ≡ Ok tt) × ((path : Agent) → AtBoth R (group_states x path) (group_states y path)) × (k ≡ h)

@@ -30,7 +30,7 @@ use crate::dispatch::dispatcher::{Dispatcher, new_dispatcher};
 use crate::dispatch::names::SystemNames;
 use crate::now::Now;
 use crate::thread_local::ThreadLocal;
-use shred_run::entry::SystemEntry;
+use shred_run::entry::GroupEntry;
 use shred_run::kept::{batch_entry, system_entry};
 use shred_run::{BatchController, Nested, NoBatch, System, SystemId, Tier, Work};
 use shred_stage::dispatch::inner::tiers_of;
@@ -287,7 +287,7 @@ impl<
     // Gives the entry its place, and enters its name, where it may be added.
     pub(crate) fn accept(
         &mut self,
-        entry: SystemEntry<V, Work<S, Nested<V, S, C>>>,
+        entry: GroupEntry<V, Work<S, Nested<V, S, C>>>,
         name: &str,
         dependencies: &[&str],
     ) -> Result<SystemId, AddError>
@@ -295,7 +295,7 @@ impl<
         requires own_lists { IsEntryOf (OwnsItself (lists_of S.reads S.writes C.reads C.writes)) entry }
         requires id { (entry_plan entry).id ≡ (built self.old).next }
         ensures id { IfOk result (λ id. id.0 ≡ (built self.old).next) }
-        ensures added { OnOk result (IsEntryAdded (entry_plan entry) (built self.old) (built self.new) name.now (texts_of dependencies.now) entry.system) }
+        ensures added { OnOk result (IsEntryAdded (entry_plan entry) (built self.old) (built self.new) name.now (texts_of dependencies.now) entry.work) }
         ensures refused { IfErr result (λ e. e ≡ AddError.OutOfMemory) }
         ensures unchanged { OnErr result (IsSameBuilt (built self.old) (built self.new)) }
     {

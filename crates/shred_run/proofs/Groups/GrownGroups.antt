@@ -6,7 +6,7 @@ use Rattle.shred_model.specs.Plan as model
 use Rattle.shred_table.specs.declared.id.ResourceId.{ResourceId}
 use Rattle.shred_run.specs.Hands.{KeepsRoom, HasEmptyHand}
 use Rattle.shred_run.specs.PlanOf.{entry_plan, group_plan}
-use Rattle.shred_run.specs.declared.entry.SystemEntry.{SystemEntry}
+use Rattle.shred_run.specs.declared.entry.GroupEntry.{GroupEntry}
 use Rattle.shred_run.specs.declared.entry.Group.{Group}
 
 -- a group that is planned as before keeps its room
@@ -17,7 +17,7 @@ room-kept old new plan written hand room = record {
 }
 
 -- a group that has an entry more, with what it writes beside the others
-pub room-grown : {V S : Type 0} (old new : Group V S) (entry : SystemEntry V S) → new.entries.items ≡ old.entries.items ++ entry ∷ [] → new.written.items ≡ old.written.items ++ entry.writes.items → HasEmptyHand new → KeepsRoom old → KeepsRoom new
+pub room-grown : {V S : Type 0} (old new : Group V S) (entry : GroupEntry V S) → new.entries.items ≡ old.entries.items ++ entry ∷ [] → new.written.items ≡ old.written.items ++ entry.writes.items → HasEmptyHand new → KeepsRoom old → KeepsRoom new
 room-grown old new entry entries written empty room =
     let writes = λ (e : model.PlanEntry ResourceId). e.access.writes in
     let plan : group_plan new ≡ group_plan old ++ entry_plan entry ∷ [] = ap (λ es. map entry_plan es) entries ∙ map_push entry_plan old.entries.items entry in

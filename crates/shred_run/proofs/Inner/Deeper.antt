@@ -4,7 +4,7 @@ use Rattle.std.proofs.lemmas.List.Elements.{All-weaker}
 use Rattle.shred_table.specs.declared.id.ResourceId.{ResourceId}
 use Rattle.shred_run.specs.OwnLists.{IsEntryOf, IsGroupOf}
 use Rattle.shred_run.specs.declared.entry.Group.{Group}
-use Rattle.shred_run.specs.declared.entry.SystemEntry.{SystemEntry}
+use Rattle.shred_run.specs.declared.entry.GroupEntry.{GroupEntry}
 use Rattle.shred_run.specs.Depths.{Declared, Owns, batch_of}
 use Rattle.shred_run.specs.Works.{IsBatchWithin, IsTierWithin}
 use Rattle.shred_run.specs.declared.work.Batch.{Batch as OneBatch}
@@ -15,8 +15,8 @@ use Rattle.shred_run.specs.declared.work.Work.TheVariants.{System, Batch}
 
 -- Where each of these lists may be kept also by another rule, so it is of all that is kept by the first.
 module _ {V X : Type 0} (own wider : X → List ResourceId → List ResourceId → Type 0) (weaker : (x : X) (reads writes : List ResourceId) → own x reads writes → wider x reads writes) where
-  pub IsEntryOf-weaker : (entry : SystemEntry V X) → IsEntryOf own entry → IsEntryOf wider entry
-  IsEntryOf-weaker entry one = record { lists = weaker entry.system entry.reads.items entry.writes.items one.lists; hand = one.hand }
+  pub IsEntryOf-weaker : (entry : GroupEntry V X) → IsEntryOf own entry → IsEntryOf wider entry
+  IsEntryOf-weaker entry one = record { lists = weaker entry.work entry.reads.items entry.writes.items one.lists; hand = one.hand }
 
   pub IsGroupOf-weaker : (group : Group V X) → IsGroupOf own group → IsGroupOf wider group
   IsGroupOf-weaker group owns = All-weaker (IsEntryOf own) (IsEntryOf wider) IsEntryOf-weaker group.entries.items owns

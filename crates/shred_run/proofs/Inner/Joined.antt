@@ -14,7 +14,7 @@ use Rattle.shred_run.specs.PlanOf.{groups_plan}
 use Rattle.shred_run.specs.Sides.{group_side, plan_reads, plan_writes, stage_side}
 use Rattle.shred_run.specs.OwnLists.{IsEntryOf, IsGroupOf}
 use Rattle.shred_run.specs.declared.entry.Group.{Group}
-use Rattle.shred_run.specs.declared.entry.SystemEntry.{SystemEntry}
+use Rattle.shred_run.specs.declared.entry.GroupEntry.{GroupEntry}
 use Rattle.shred_run.specs.declared.entry.Side.{Side}
 use Rattle.shred_run.specs.declared.entry.Side.TheVariants.{Reads, Writes}
 use Rattle.shred_run.proofs.Groups.Membership.{Contains-flat_map}
@@ -49,8 +49,8 @@ or-left b c e = rw e refl
 
 module _ {V S C : Type 0} (declared : Declared S C) where
   -- where batches nest no deeper than this, what is kept with its lists at its own depth is kept with them at this one
-  owned-entry : (most : ℕ) (entry : SystemEntry V (Work S (Nested V S C))) → NotesAtMost most entry → IsEntryOf (OwnsItself declared) entry → IsEntryOf (Owns declared most) entry
-  owned-entry most entry nests one = record { lists = owns-deeper declared (depth_of entry.system) most entry.system entry.reads.items entry.writes.items nests one.lists; hand = one.hand }
+  owned-entry : (most : ℕ) (entry : GroupEntry V (Work S (Nested V S C))) → NotesAtMost most entry → IsEntryOf (OwnsItself declared) entry → IsEntryOf (Owns declared most) entry
+  owned-entry most entry nests one = record { lists = owns-deeper declared (depth_of entry.work) most entry.work entry.reads.items entry.writes.items nests one.lists; hand = one.hand }
 
   owned-group : (most : ℕ) (group : Group V (Work S (Nested V S C))) → GroupNotesAtMost most group → IsGroupOf (OwnsItself declared) group → IsGroupOf (Owns declared most) group
   owned-group most group nest owns = λ k d below. owned-entry most (get_or group.entries.items k d) (nest k d below) (owns k d below)

@@ -5,7 +5,7 @@ use Rattle.std.proofs.Math.ListN.{get_or-append}
 use Rattle.std.proofs.lemmas.List.{length-append, take_more}
 use Rattle.std.proofs.lemmas.List.Elements.{All-push, All-weaker}
 use Rattle.shred_run.specs.declared.entry.Group.{Group}
-use Rattle.shred_run.specs.declared.entry.SystemEntry.{SystemEntry}
+use Rattle.shred_run.specs.declared.entry.GroupEntry.{GroupEntry}
 use Rattle.shred_run.specs.declared.work.Nested.{Nested}
 use Rattle.shred_run.specs.declared.work.Tier.{Tier}
 use Rattle.shred_run.specs.declared.work.Work.{Work}
@@ -28,7 +28,7 @@ module _ {X : Type 0} (below : ℕ → X → Type 0) where
 
 module _ {V S C : Type 0} where
   -- what nests no deeper than a number nests no deeper than a greater one
-  pub notes-grows : (a b : ℕ) → a ≤ b → (entry : SystemEntry V (Work S (Nested V S C))) → NotesAtMost a entry → NotesAtMost b entry
+  pub notes-grows : (a b : ℕ) → a ≤ b → (entry : GroupEntry V (Work S (Nested V S C))) → NotesAtMost a entry → NotesAtMost b entry
   notes-grows a b le entry nests = omega (arith, nests)
 
   pub group-grows : (a b : ℕ) → a ≤ b → (group : Group V (Work S (Nested V S C))) → GroupNotesAtMost a group → GroupNotesAtMost b group

@@ -105,7 +105,7 @@ OwnFits {V} {S} {C} own at = (work : Work S (Nested V S C)) (reads writes : List
 module _ {V S C : Type 0} (own : Work S (Nested V S C) → List ResourceId → List ResourceId → Type 0) (at : ℕ) (fits : OwnFits own at) where
   group-fits : (group : Group V (Work S (Nested V S C))) → IsGroupOf own group → EachAt (λ n entry. Fits at (inside_each 0 work_occupants (inside_at (group_states group) n)) entry.access) 0 (group_plan group)
   group-fits group owns = EachAt-listed entry_states entry_plan (λ st entry. Fits at (inside_each 0 work_occupants st) entry.access) group.entries.items
-      (AllByRecursion-weaker (IsEntryOf own) _ (λ entry own. fits entry.system entry.reads.items entry.writes.items own.lists) group.entries.items (recursion_from_All _ group.entries.items owns))
+      (AllByRecursion-weaker (IsEntryOf own) _ (λ entry own. fits entry.work entry.reads.items entry.writes.items own.lists) group.entries.items (recursion_from_All _ group.entries.items owns))
 
   pub groups-fit : (groups : List (Group V (Work S (Nested V S C)))) → All (IsGroupOf own) groups → StageFits (Fits at) (inside_each 2 work_occupants (listed_states group_states groups)) (groups_plan groups)
   groups-fit groups owns = EachAt-listed group_states group_plan (λ st group. EachAt (λ n entry. Fits at (inside_each 0 work_occupants (inside_at st n)) entry.access) 0 group) groups

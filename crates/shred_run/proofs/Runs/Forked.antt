@@ -23,7 +23,7 @@ use Rattle.shred_run.specs.Lanes.{IsReady}
 use Rattle.shred_run.specs.OwnLists.{IsEntryOf, IsGroupOf}
 use Rattle.shred_run.specs.OwnSlots.{lent_held}
 use Rattle.shred_run.specs.PlanOf.{entry_plan, group_plan, groups_plan}
-use Rattle.shred_run.specs.declared.entry.SystemEntry.{SystemEntry}
+use Rattle.shred_run.specs.declared.entry.GroupEntry.{GroupEntry}
 use Rattle.shred_run.specs.declared.entry.Group.{Group}
 use Rattle.shred_run.proofs.Runs.HandSlots.{room-of_empty, carried-held, back-held}
 use Rattle.shred_run.proofs.Groups.Membership.{Contains-head, Contains-tail, Contains-flat_map}
@@ -54,11 +54,11 @@ module _ {V S : Type 0} where
       among-contains x.written.items q (subst (λ (ids : List ResourceId). Contains ids q) (sym room.same_writes)
       (Contains-flat_map (λ e. e.access.writes) (group_plan x) (get_or (group_plan x) k d) q (contains-at (group_plan x) k d below) (among-true (get_or (group_plan x) k d).access.writes q there)))
 
-  pub entry-writes : (x : Group V S) → KeepsRoom x → (k : ℕ) (d : SystemEntry V S) → k < length x.entries.items → (q : ResourceId) → among (get_or x.entries.items k d).writes.items q ≡ true → among x.written.items q ≡ true
+  pub entry-writes : (x : Group V S) → KeepsRoom x → (k : ℕ) (d : GroupEntry V S) → k < length x.entries.items → (q : ResourceId) → among (get_or x.entries.items k d).writes.items q ≡ true → among x.written.items q ≡ true
   entry-writes x room k d below q there =
       written_by_group x room k (entry_plan d) (rw (length-map x.entries.items entry_plan) below) q (rw (get_or-map entry_plan x.entries.items k d (entry_plan d) below) there)
 
-  single_writes : (entries : List (SystemEntry V S)) (k : ℕ) (d : SystemEntry V S) → k < length entries → (length entries == 1) ≡ true → (q : ResourceId)
+  single_writes : (entries : List (GroupEntry V S)) (k : ℕ) (d : GroupEntry V S) → k < length entries → (length entries == 1) ≡ true → (q : ResourceId)
       → among (flat_map (λ (e : model.PlanEntry ResourceId). e.access.writes) (map entry_plan entries)) q ≡ among (get_or entries k d).writes.items q
   single_writes [] k d below one q = absurd (omega arith)
   single_writes (e ∷ []) zero d below one q = ap (λ ids. among ids q) (append-nil e.writes.items)
@@ -66,7 +66,7 @@ module _ {V S : Type 0} where
   single_writes (e ∷ f ∷ rest) k d below one q = absurd (grind (arith, nat_tests))
 
   -- what the only entry of a group writes is what the group writes
-  pub single-writes : (x : Group V S) → KeepsRoom x → (k : ℕ) (d : SystemEntry V S) → k < length x.entries.items → is_single x ≡ true → (q : ResourceId) → among (get_or x.entries.items k d).writes.items q ≡ among x.written.items q
+  pub single-writes : (x : Group V S) → KeepsRoom x → (k : ℕ) (d : GroupEntry V S) → k < length x.entries.items → is_single x ≡ true → (q : ResourceId) → among (get_or x.entries.items k d).writes.items q ≡ among x.written.items q
   single-writes x room k d below one q = sym (ap (λ ids. among ids q) room.same_writes ∙ single_writes x.entries.items k d below one q)
 
   -- what a group writes, its access writes
@@ -104,15 +104,15 @@ module _ {V : Type 0} (before after : Lent V) (taken : ResourceId → Bool) (lef
   pub is-ready : {S : Type 0} (own : S → List ResourceId → List ResourceId → Type 0) (x y : Group V S) → KeepsRoom x → IsGroupOf own x → IsMovedOut before x y → IsReady own after y
   is-ready {S} own x y room owns moved = record {
     just_slots = λ q. ap is_some (moved.1 q) ∙ carried-there (among y.written.items q) (before q);
-    places = subst (λ (items : List (SystemEntry V S)). All (HasPlace (length items == 1) y.hand) items) (ap (λ entries. entries.items) (sym moved.0.entries)) (λ k d below. at k d below (is_single x) refl);
-    own_lists = subst (λ (items : List (SystemEntry V S)). All (IsEntryOf own) items) (ap (λ entries. entries.items) (sym moved.0.entries)) owns;
+    places = subst (λ (items : List (GroupEntry V S)). All (HasPlace (length items == 1) y.hand) items) (ap (λ entries. entries.items) (sym moved.0.entries)) (λ k d below. at k d below (is_single x) refl);
+    own_lists = subst (λ (items : List (GroupEntry V S)). All (IsEntryOf own) items) (ap (λ entries. entries.items) (sym moved.0.entries)) owns;
     own_slots = subst (λ plan. All (λ e. HasOwnSlots e.access.writes after y.hand) plan) (sym (same-plan x y moved.0)) (λ k d below q there none.
         absurd (let e = sym (there_is q (same-written x y moved.0 q ∙ written_by_group x room k d below q there)) ∙ ap is_some none in cc));
   } where
     there_is : (q : ResourceId) → among y.written.items q ≡ true → is_some (slot_at y.hand q) ≡ true
     there_is q there = ap is_some (moved.1 q) ∙ ap (λ (b : Bool). is_some (cond b (carried (before q)) None)) there
 
-    at : (k : ℕ) (d : SystemEntry V S) → k < length x.entries.items → (single : Bool) → is_single x ≡ single → HasPlace single y.hand (get_or x.entries.items k d)
+    at : (k : ℕ) (d : GroupEntry V S) → k < length x.entries.items → (single : Bool) → is_single x ≡ single → HasPlace single y.hand (get_or x.entries.items k d)
     at k d below true one = λ q out.
         moved.1 q ∙ ap (λ (b : Bool). cond b (carried (before q)) None) (same-written x y moved.0 q ∙ sym (single-writes x room k d below one q) ∙ out)
     at k d below false several = λ q.

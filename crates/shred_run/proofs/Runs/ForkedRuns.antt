@@ -22,7 +22,7 @@ use Rattle.shred_table.specs.Shown.{Lent, shown}
 use Rattle.shred_table.specs.Slots.{slot_held, among}
 use Rattle.shred_table.proofs.Tables.Ids.{tell_ids}
 use Rattle.shred_table.proofs.Parted.Pairs.{zip-length}
-use Rattle.shred_run.specs.declared.entry.SystemEntry.{SystemEntry}
+use Rattle.shred_run.specs.declared.entry.GroupEntry.{GroupEntry}
 use Rattle.shred_run.specs.declared.entry.Group.{Group}
 use Rattle.shred_run.specs.declared.entry.StageFault.{StageFault}
 use Rattle.shred_run.specs.Entries.{GroupRun, StageRun, group_states}
@@ -67,7 +67,7 @@ module _ {V S : Type 0} where
   left-states xs ys zip = zip-states xs ys (zip-both IsLeftEmpty (λ x. ⊤) (λ x y. (p : Agent) → group_states y p ≡ group_states x p) (λ x y s any. states-left x y s.0) xs ys zip (λ k d below. tt))
 
   pub own-left : (own : S → List ResourceId → List ResourceId → Type 0) (x y : Group V S) → IsLeftEmpty x y → IsGroupOf own x → IsGroupOf own y
-  own-left own x y s owns = subst (λ (items : List (SystemEntry V S)). All (IsEntryOf own) items) (ap (λ entries. entries.items) (sym s.0.entries)) owns
+  own-left own x y s owns = subst (λ (items : List (GroupEntry V S)). All (IsEntryOf own) items) (ap (λ entries. entries.items) (sym s.0.entries)) owns
 
   pub room-left : (x y : Group V S) → IsLeftEmpty x y → x.written.items ≡ (group_access (group_plan x)).writes → KeepsRoom y
   room-left x y s says = record { same_writes = ap (λ written. written.items) s.0.written ∙ says ∙ ap (λ g. (group_access g).writes) (sym (same-plan x y s.0)); empty = s.1 }

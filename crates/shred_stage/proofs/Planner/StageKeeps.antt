@@ -15,7 +15,7 @@ use Rattle.shred_run.specs.OwnLists.{IsGroupOf}
 use Rattle.shred_run.specs.PlanOf.{access_of, entry_plan, group_plan, groups_plan, HasEntryIds}
 use Rattle.shred_stage.specs.Search.{OthersDoNotConflict}
 use Rattle.shred_stage.specs.Soundness.{IsSmallGroup}
-use Rattle.shred_run.specs.declared.entry.SystemEntry.{SystemEntry}
+use Rattle.shred_run.specs.declared.entry.GroupEntry.{GroupEntry}
 use Rattle.shred_run.specs.declared.entry.Group.{Group}
 use Rattle.shred_stage.proofs.Planner.Apart.{AreApart-push, AreApart-set}
 
@@ -26,7 +26,7 @@ IsKeptBy keeps groups = record { some_group : 0 < length groups; small_groups : 
 single_is_small : {I : Type 0} (entry : model.PlanEntry I) (group : model.Group I) → group ≡ entry ∷ [] → IsSmallGroup group
 single_is_small entry group e = rw e (omega arith, omega arith)
 
-pub kept_after_group : {V S : Type 0} (keeps : S → List ResourceId → List ResourceId → Type 0) (groups : List (Group V S)) (new : Group V S) (entry : SystemEntry V S) → IsKeptBy keeps groups → group_plan new ≡ entry_plan entry ∷ [] → HasEntryIds new → KeepsRoom new → IsGroupOf keeps new
+pub kept_after_group : {V S : Type 0} (keeps : S → List ResourceId → List ResourceId → Type 0) (groups : List (Group V S)) (new : Group V S) (entry : GroupEntry V S) → IsKeptBy keeps groups → group_plan new ≡ entry_plan entry ∷ [] → HasEntryIds new → KeepsRoom new → IsGroupOf keeps new
     → All (λ group. Conflicts (group_access group) (access_of entry) → ⊥) (groups_plan groups) → IsKeptBy keeps (groups ++ new ∷ [])
 kept_after_group {S} keeps groups new entry kept single ids room own free =
     let plan : groups_plan (groups ++ new ∷ []) ≡ groups_plan groups ++ group_plan new ∷ [] = map_push group_plan groups new in
@@ -39,7 +39,7 @@ kept_after_group {S} keeps groups new entry kept single ids room own free =
       own_lists = All-push (IsGroupOf keeps) groups new kept.own_lists own;
     }
 
-pub kept_alone : {V S : Type 0} (keeps : S → List ResourceId → List ResourceId → Type 0) (group : Group V S) (entry : SystemEntry V S) (groups : List (Group V S)) → groups ≡ group ∷ [] → group_plan group ≡ entry_plan entry ∷ [] → HasEntryIds group → KeepsRoom group
+pub kept_alone : {V S : Type 0} (keeps : S → List ResourceId → List ResourceId → Type 0) (group : Group V S) (entry : GroupEntry V S) (groups : List (Group V S)) → groups ≡ group ∷ [] → group_plan group ≡ entry_plan entry ∷ [] → HasEntryIds group → KeepsRoom group
     → IsGroupOf keeps group → IsKeptBy keeps groups
 kept_alone keeps group entry groups e single ids room own = rw e (record {
   some_group = omega arith;
@@ -79,7 +79,7 @@ apart_after result stage g entry after pushed within apart free =
     (λ e. rw e (rw set-get_or apart))
     (pushed_cases result (get_or stage g []) after entry pushed)
 
-pub kept_after_entry : {V S E : Type 0} (keeps : S → List ResourceId → List ResourceId → Type 0) (result : Result (Unit {0}) E) (groups : List (Group V S)) (g : ℕ) (new : Group V S) (entry : SystemEntry V S) → IsKeptBy keeps groups → g < length (groups_plan groups)
+pub kept_after_entry : {V S E : Type 0} (keeps : S → List ResourceId → List ResourceId → Type 0) (result : Result (Unit {0}) E) (groups : List (Group V S)) (g : ℕ) (new : Group V S) (entry : GroupEntry V S) → IsKeptBy keeps groups → g < length (groups_plan groups)
     → length (get_or (groups_plan groups) g []) < 4 → OthersDoNotConflict (groups_plan groups) g (access_of entry) → IsPushed result (get_or (groups_plan groups) g []) (entry_plan entry) (group_plan new) → HasEntryIds new → KeepsRoom new → IsGroupOf keeps new
     → IsKeptBy keeps (set groups g new)
 kept_after_entry keeps result groups g new entry kept within few free pushed ids room own = record {

@@ -20,7 +20,7 @@ ghost use Rattle.shred_run.specs.OwnFacts.{owns_itself-is_fact};
 ghost use Rattle.std.specs.Coded.{Coded-set};
 
 use shred_run::dispose::dispose_of_groups;
-use shred_run::entry::{Group, Side, SystemEntry};
+use shred_run::entry::{Group, GroupEntry, Side};
 use shred_run::setup::set_up_groups;
 use shred_run::{
     BatchController, Nested, NoBatch, StageFault, System, SystemId, Tier, Work, beside, in_order,
@@ -70,7 +70,7 @@ impl<V: ResourceValue, S: System<V>, C: BatchController<V>> Stage<V, S, C> {
     /// A stage with this entry alone.
     pub(crate) fn new(
         alloc: Global,
-        entry: SystemEntry<V, Work<S, Nested<V, S, C>>>,
+        entry: GroupEntry<V, Work<S, Nested<V, S, C>>>,
     ) -> Result<Self, OutOfMemory>
     where
         V: Drop,
@@ -113,7 +113,7 @@ impl<V: ResourceValue, S: System<V>, C: BatchController<V>> Stage<V, S, C> {
     pub(crate) fn spot_for(
         &self,
         left: &[SystemId],
-        entry: &SystemEntry<V, Work<S, Nested<V, S, C>>>,
+        entry: &GroupEntry<V, Work<S, Nested<V, S, C>>>,
     ) -> Option<Spot>
         ensures { SpotIs (numbers_of left.now) (entry_plan entry.now) (stage_plan self.now) result }
     {
@@ -127,11 +127,7 @@ impl<V: ResourceValue, S: System<V>, C: BatchController<V>> Stage<V, S, C> {
     }
 
     /// Which groups the entry has to come after.
-    fn touched(
-        &self,
-        left: &[SystemId],
-        entry: &SystemEntry<V, Work<S, Nested<V, S, C>>>,
-    ) -> Touched
+    fn touched(&self, left: &[SystemId], entry: &GroupEntry<V, Work<S, Nested<V, S, C>>>) -> Touched
         ensures { TouchedIs (is_touched same_id (numbers_of left.now) (access_of entry.now)) (stage_plan self.now) result }
     {
         let mut touched = Touched::Nothing;
@@ -150,7 +146,7 @@ impl<V: ResourceValue, S: System<V>, C: BatchController<V>> Stage<V, S, C> {
     fn may_end(
         &self,
         left: &[SystemId],
-        entry: &SystemEntry<V, Work<S, Nested<V, S, C>>>,
+        entry: &GroupEntry<V, Work<S, Nested<V, S, C>>>,
         group: usize,
     ) -> bool
         requires { group < length (stage_plan self.now) }
@@ -199,7 +195,7 @@ impl<V: ResourceValue, S: System<V>, C: BatchController<V>> Stage<V, S, C> {
     /// Gives the entry a new last group.
     pub(crate) fn push_group(
         &mut self,
-        entry: SystemEntry<V, Work<S, Nested<V, S, C>>>,
+        entry: GroupEntry<V, Work<S, Nested<V, S, C>>>,
     ) -> Result<(), OutOfMemory>
     where
         V: Drop,
@@ -226,7 +222,7 @@ impl<V: ResourceValue, S: System<V>, C: BatchController<V>> Stage<V, S, C> {
     pub(crate) fn push_entry(
         &mut self,
         group: usize,
-        entry: SystemEntry<V, Work<S, Nested<V, S, C>>>,
+        entry: GroupEntry<V, Work<S, Nested<V, S, C>>>,
     ) -> Result<(), OutOfMemory>
     where
         V: Drop,

@@ -23,7 +23,7 @@ ghost use Rattle.shred_stage.specs.StagePlan.{plan_of};
 use crate::dispatch::printing::{PrintError, print};
 use crate::dispatch::sink::PlanSink;
 use crate::dispatch::stage::{Spot, Stage};
-use shred_run::entry::{Side, SystemEntry, push_or_drop};
+use shred_run::entry::{GroupEntry, Side, push_or_drop};
 use shred_run::kept::system_entry;
 use shred_run::sorted::sort_without_doubles;
 use shred_run::{BatchController, Nested, NoBatch, System, SystemId, Work};
@@ -155,7 +155,7 @@ impl<V: ResourceValue, S: System<V>, C: BatchController<V>> StagesBuilder<V, S, 
         &mut self,
         start: usize,
         dependencies: &[SystemId],
-        entry: SystemEntry<V, Work<S, Nested<V, S, C>>>,
+        entry: GroupEntry<V, Work<S, Nested<V, S, C>>>,
     ) -> Result<(), OutOfMemory>
     where
         V: Drop,
@@ -185,7 +185,7 @@ impl<V: ResourceValue, S: System<V>, C: BatchController<V>> StagesBuilder<V, S, 
     fn push_group(
         &mut self,
         stage: usize,
-        entry: SystemEntry<V, Work<S, Nested<V, S, C>>>,
+        entry: GroupEntry<V, Work<S, Nested<V, S, C>>>,
     ) -> Result<(), OutOfMemory>
     where
         V: Drop,
@@ -208,7 +208,7 @@ impl<V: ResourceValue, S: System<V>, C: BatchController<V>> StagesBuilder<V, S, 
         &mut self,
         stage: usize,
         group: usize,
-        entry: SystemEntry<V, Work<S, Nested<V, S, C>>>,
+        entry: GroupEntry<V, Work<S, Nested<V, S, C>>>,
     ) -> Result<(), OutOfMemory>
     where
         V: Drop,
@@ -232,7 +232,7 @@ impl<V: ResourceValue, S: System<V>, C: BatchController<V>> StagesBuilder<V, S, 
     /// Gives the entry a new last stage.
     fn push_stage(
         &mut self,
-        entry: SystemEntry<V, Work<S, Nested<V, S, C>>>,
+        entry: GroupEntry<V, Work<S, Nested<V, S, C>>>,
     ) -> Result<(), OutOfMemory>
     where
         V: Drop,
@@ -257,7 +257,7 @@ impl<V: ResourceValue, S: System<V>, C: BatchController<V>> StagesBuilder<V, S, 
         &self,
         start: usize,
         mut left: SmallVec<SystemId, 4>,
-        entry: &SystemEntry<V, Work<S, Nested<V, S, C>>>,
+        entry: &GroupEntry<V, Work<S, Nested<V, S, C>>>,
     ) -> Option<(usize, Spot)>
         requires { barrier_of self.now ≤ start }
         ensures { PlaceIs (planned self.now) (barrier_of self.now) start (numbers_of left.items) (entry_plan entry.now) result }
@@ -289,10 +289,10 @@ impl<V: ResourceValue + Drop, S: System<V> + Drop, C: BatchController<V> + Drop>
     pub fn insert_entry(
         &mut self,
         dependencies: &[SystemId],
-        entry: SystemEntry<V, Work<S, Nested<V, S, C>>>,
+        entry: GroupEntry<V, Work<S, Nested<V, S, C>>>,
     ) -> Result<(), OutOfMemory>
         requires own_lists { IsEntryOf (OwnsItself (lists_of S.reads S.writes C.reads C.writes)) entry }
-        ensures inserted { OnOk result (IsInserted (planned self.old) (planned self.new) (builder_states self.old) (builder_states self.new) (barrier_of self.old) (numbers_of dependencies.now) (entry_plan entry) entry.system) }
+        ensures inserted { OnOk result (IsInserted (planned self.old) (planned self.new) (builder_states self.old) (builder_states self.new) (barrier_of self.old) (numbers_of dependencies.now) (entry_plan entry) entry.work) }
         ensures err { OnErr result (planned self.new ≡ planned self.old) }
         ensures states { OnErr result ((path : Agent) → builder_states self.new path ≡ builder_states self.old path) }
         ensures barrier { barrier_of self.new ≡ barrier_of self.old }

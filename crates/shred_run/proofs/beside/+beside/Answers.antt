@@ -99,26 +99,26 @@ pub run_tiers-turn-requires : goal.run_tiers-turn-requires
 run_tiers-turn-requires g t c κs within =
     ((let down = c.decreases in omega (arith, down)), bounded_beside within (search rules, (search rules, (search rules, (search rules, (search rules, (search rules, (search rules, (search rules, (has-still c.args.loan.now c.args.own.now c.loop-tier.own c.loop-tier.invariant.kept.keeps.slots c.requires.has, c.loop-tier.invariant.kept.within c.loop-tier.tier-index c.tier-item.result (omega arith)))))))))))
 
-pub turn-move_all_out-requires-clause-apart : goal.turn-move_all_out-requires-clause-apart
-turn-move_all_out-requires-clause-apart g t c = tier-writes_apart c.args.loan.now c.requires.within c.as_mut_slice-groups.ensures.value
+pub turn-move_groups_out-requires-clause-apart : goal.turn-move_groups_out-requires-clause-apart
+turn-move_groups_out-requires-clause-apart g t c = tier-writes_apart c.args.loan.now c.requires.within c.as_mut_slice-groups.ensures.value
 
-pub turn-move_all_out-requires-clause-empty : goal.turn-move_all_out-requires-clause-empty
-turn-move_all_out-requires-clause-empty g t c = λ k d below. (tier-empty c.args.loan.now c.requires.within c.as_mut_slice-groups.ensures.value k d below).empty
+pub turn-move_groups_out-requires-clause-empty : goal.turn-move_groups_out-requires-clause-empty
+turn-move_groups_out-requires-clause-empty g t c = λ k d below. (tier-empty c.args.loan.now c.requires.within c.as_mut_slice-groups.ensures.value k d below).empty
 
 pub turn-run_groups-answer-requires : goal.turn-run_groups-answer-requires
 turn-run_groups-answer-requires g t c κs within =
-    ((let down = c.decreases in omega (arith, down)), bounded_beside within (search rules, (search rules, (search rules, (search rules, (search rules, (search rules, (search rules, (search rules, (omega arith, tier-ready c.args.loan.now c.requires.within c.move_all_out.new.table c.move_all_out.new.groups c.requires.has c.as_mut_slice-groups.ensures.value c.move_all_out.ensures.hands c.move_all_out.ensures.left c.behind-nearest.ensures))))))))))
+    ((let down = c.decreases in omega (arith, down)), bounded_beside within (search rules, (search rules, (search rules, (search rules, (search rules, (search rules, (search rules, (search rules, (omega arith, tier-ready c.args.loan.now c.requires.within c.move_groups_out.new.table c.move_groups_out.new.groups c.requires.has c.as_mut_slice-groups.ensures.value c.move_groups_out.ensures.hands c.move_groups_out.ensures.left c.behind-nearest.ensures))))))))))
 
-pub turn-move_all_back-requires-clause-apart : goal.turn-move_all_back-requires-clause-apart
-turn-move_all_back-requires-clause-apart g t c = tier-apart c.args.loan.now c.requires.within c.move_all_out.new.table c.move_all_out.new.groups c.requires.has c.as_mut_slice-groups.ensures.value c.move_all_out.ensures.hands c.move_all_out.ensures.left c.behind-nearest.ensures _ _ c.run_groups-answer.result c.run_groups-answer.new.groups c.run_groups-answer.ensures
+pub turn-move_groups_back-requires-clause-apart : goal.turn-move_groups_back-requires-clause-apart
+turn-move_groups_back-requires-clause-apart g t c = tier-apart c.args.loan.now c.requires.within c.move_groups_out.new.table c.move_groups_out.new.groups c.requires.has c.as_mut_slice-groups.ensures.value c.move_groups_out.ensures.hands c.move_groups_out.ensures.left c.behind-nearest.ensures _ _ c.run_groups-answer.result c.run_groups-answer.new.groups c.run_groups-answer.ensures
 
-pub turn-move_all_back-requires-clause-fit : goal.turn-move_all_back-requires-clause-fit
-turn-move_all_back-requires-clause-fit g t c = tier-fits c.args.loan.now c.requires.within c.move_all_out.new.table c.move_all_out.new.groups c.requires.has c.as_mut_slice-groups.ensures.value c.move_all_out.ensures.hands c.move_all_out.ensures.left c.behind-nearest.ensures _ _ c.run_groups-answer.result c.run_groups-answer.new.groups c.run_groups-answer.ensures
+pub turn-move_groups_back-requires-clause-fit : goal.turn-move_groups_back-requires-clause-fit
+turn-move_groups_back-requires-clause-fit g t c = tier-fits c.args.loan.now c.requires.within c.move_groups_out.new.table c.move_groups_out.new.groups c.requires.has c.as_mut_slice-groups.ensures.value c.move_groups_out.ensures.hands c.move_groups_out.ensures.left c.behind-nearest.ensures _ _ c.run_groups-answer.result c.run_groups-answer.new.groups c.run_groups-answer.ensures
 
 pub turn-returns : goal.turn-returns
 turn-returns g t c =
-    let same : length c.move_all_back.new.groups ≡ c.args.tier.now.groups.len = search rules in
-    tier-took c.args.loan.now c.requires.within c.move_all_out.new.table c.move_all_out.new.groups c.requires.has c.as_mut_slice-groups.ensures.value c.move_all_out.ensures.hands c.move_all_out.ensures.left c.behind-nearest.ensures _ _ c.run_groups-answer.result c.run_groups-answer.new.groups c.run_groups-answer.ensures c.move_all_back.new.table c.move_all_back.new.groups _ c.move_all_back.ensures.back c.move_all_back.ensures.others c.move_all_back.ensures.hands (with_items_is c.args.tier.now.groups c.move_all_back.new.groups same)
+    let same : length c.move_groups_back.new.groups ≡ c.args.tier.now.groups.len = search rules in
+    tier-took c.args.loan.now c.requires.within c.move_groups_out.new.table c.move_groups_out.new.groups c.requires.has c.as_mut_slice-groups.ensures.value c.move_groups_out.ensures.hands c.move_groups_out.ensures.left c.behind-nearest.ensures _ _ c.run_groups-answer.result c.run_groups-answer.new.groups c.run_groups-answer.ensures c.move_groups_back.new.table c.move_groups_back.new.groups _ c.move_groups_back.ensures.back c.move_groups_back.ensures.others c.move_groups_back.ensures.hands (with_items_is c.args.tier.now.groups c.move_groups_back.new.groups same)
 
 pub run_groups-returns : goal.run_groups-returns
 run_groups-returns g t c =

@@ -44,19 +44,19 @@ dispose_of_batch-returns g c = λ x. (x.dispose_of_tiers.result, x.dispose_of_ti
 pub dispose_of_entry-dispose_of_work-requires : goal.dispose_of_entry-dispose_of_work-requires
 dispose_of_entry-dispose_of_work-requires g c = λ x κs within.
     let depth = x.depth_by-depth in
-    let below : depth.result ≤ bound_of x.args.at = rule-below x.args.at x.args.entry.system depth.result depth.ensures (omega arith) in
-    (omega (arith, below), (within.0, (within.1.0, (within.1.1.0, (within.1.1.1.0, (within.1.1.1.1, subst (λ (n : ℕ). IsNoDeeper n x.args.entry.system) (sym depth.ensures) x.requires))))))
+    let below : depth.result ≤ bound_of x.args.at = rule-below x.args.at x.args.entry.work depth.result depth.ensures (omega arith) in
+    (omega (arith, below), (within.0, (within.1.0, (within.1.1.0, (within.1.1.1.0, (within.1.1.1.1, subst (λ (n : ℕ). IsNoDeeper n x.args.entry.work) (sym depth.ensures) x.requires))))))
 
 pub dispose_of_entry-returns-in-Ok : goal.dispose_of_entry-returns-in-Ok
 dispose_of_entry-returns-in-Ok g c = λ x.
     let entry = x.args.entry in
-    let went = subst (λ (n : ℕ). WorkDisposal g.row.C.Denot g.S.System.disposes n entry.system (world_held g.V.ResourceValue.kind_of x.args.world.now) (Ok tt) (world_held g.V.ResourceValue.kind_of x.dispose_of_work.new.world)) x.depth_by-depth.ensures (subst (λ o. WorkDisposal g.row.C.Denot g.S.System.disposes x.depth_by-depth.result entry.system (world_held g.V.ResourceValue.kind_of x.args.world.now) o (world_held g.V.ResourceValue.kind_of x.dispose_of_work.new.world)) x.in-Ok.is x.dispose_of_work.ensures) in
+    let went = subst (λ (n : ℕ). WorkDisposal g.row.C.Denot g.S.System.disposes n entry.work (world_held g.V.ResourceValue.kind_of x.args.world.now) (Ok tt) (world_held g.V.ResourceValue.kind_of x.dispose_of_work.new.world)) x.depth_by-depth.ensures (subst (λ o. WorkDisposal g.row.C.Denot g.S.System.disposes x.depth_by-depth.result entry.work (world_held g.V.ResourceValue.kind_of x.args.world.now) o (world_held g.V.ResourceValue.kind_of x.dispose_of_work.new.world)) x.in-Ok.is x.dispose_of_work.ensures) in
     ((Ok tt), went, refl)
 
 pub dispose_of_entry-returns : goal.dispose_of_entry-returns
 dispose_of_entry-returns g c = λ x.
     let entry = x.args.entry in
-    let went = subst (λ (n : ℕ). WorkDisposal g.row.C.Denot g.S.System.disposes n entry.system (world_held g.V.ResourceValue.kind_of x.args.world.now) (Err x.in-Err.fault) (world_held g.V.ResourceValue.kind_of x.dispose_of_work.new.world)) x.depth_by-depth.ensures (subst (λ o. WorkDisposal g.row.C.Denot g.S.System.disposes x.depth_by-depth.result entry.system (world_held g.V.ResourceValue.kind_of x.args.world.now) o (world_held g.V.ResourceValue.kind_of x.dispose_of_work.new.world)) x.in-Err.is x.dispose_of_work.ensures) in
+    let went = subst (λ (n : ℕ). WorkDisposal g.row.C.Denot g.S.System.disposes n entry.work (world_held g.V.ResourceValue.kind_of x.args.world.now) (Err x.in-Err.fault) (world_held g.V.ResourceValue.kind_of x.dispose_of_work.new.world)) x.depth_by-depth.ensures (subst (λ o. WorkDisposal g.row.C.Denot g.S.System.disposes x.depth_by-depth.result entry.work (world_held g.V.ResourceValue.kind_of x.args.world.now) o (world_held g.V.ResourceValue.kind_of x.dispose_of_work.new.world)) x.in-Err.is x.dispose_of_work.ensures) in
     ((Err x.in-Err.fault), went, refl)
 
 pub dispose_of_tiers-dispose_of_groups-requires : goal.dispose_of_tiers-dispose_of_groups-requires

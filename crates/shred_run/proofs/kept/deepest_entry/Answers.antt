@@ -13,7 +13,7 @@ loop-entry-preserved g c =
     let is : c.entry-item.result ≡ get_or c.args.entries.now at.entry-index c.entry-item.result = search rules in
     record {
       noted = most-more NotesAtMost notes-grows c.args.entries.now at.entry-index c.entry-item.result below at.most c.depth_of.result c.max-most.result (omega (arith, max)) (omega (arith, max)) at.invariant.noted
-          (subst (λ entry. depth_of entry.system ≤ c.depth_of.result) is (let same = c.depth_of.ensures in omega (arith, same)));
+          (subst (λ entry. depth_of entry.work ≤ c.depth_of.result) is (let same = c.depth_of.ensures in omega (arith, same)));
       least = least-more NotesAtMost c.args.entries.now at.entry-index c.entry-item.result below at.most c.depth_of.result c.max-most.result (λ n up over. omega (arith, max, up, over)) at.invariant.least
           (λ n one. let same = c.depth_of.ensures in let there = subst (NotesAtMost n) (sym is) one in omega (arith, same, there));
     }

@@ -232,8 +232,8 @@ pub set_up_entry-set_up_work-requires : goal.set_up_entry-set_up_work-requires
 set_up_entry-set_up_work-requires g c = λ x κs within.
     let depth = x.depth_by-depth in
     let was = x.args.entry.now in
-    let below : depth.result ≤ bound_of x.args.at = rule-below x.args.at was.system depth.result depth.ensures (omega arith) in
-    (omega (arith, below), (within.0, (within.1.0, (within.1.1.0, (within.1.1.1.0, (within.1.1.1.1.0, (within.1.1.1.1.1, record { reads = was.reads.items; writes = was.writes.items; owns = subst (λ (n : ℕ). Owns (lists_of g.S.System.reads g.S.System.writes g.C.BatchController.reads g.C.BatchController.writes) n was.system was.reads.items was.writes.items) (sym depth.ensures) x.requires.lists })))))))
+    let below : depth.result ≤ bound_of x.args.at = rule-below x.args.at was.work depth.result depth.ensures (omega arith) in
+    (omega (arith, below), (within.0, (within.1.0, (within.1.1.0, (within.1.1.1.0, (within.1.1.1.1.0, (within.1.1.1.1.1, record { reads = was.reads.items; writes = was.writes.items; owns = subst (λ (n : ℕ). Owns (lists_of g.S.System.reads g.S.System.writes g.C.BatchController.reads g.C.BatchController.writes) n was.work was.reads.items was.writes.items) (sym depth.ensures) x.requires.lists })))))))
 
 pub set_up_work-returns-in-System-clause-noted : goal.set_up_work-returns-in-System-clause-noted
 set_up_work-returns-in-System-clause-noted g c = λ x. sym (ap depth_of x.in-System.is)

@@ -1,5 +1,5 @@
 use Rattle.std.proofs.Common.{rules}
-use Rattle.shred_run.proofs.entry.SystemEntry.conflicts.Goals as goal
+use Rattle.shred_run.proofs.entry.GroupEntry.conflicts.Goals as goal
 
 pub returns-then-shares_resource-2 : goal.returns-then-shares_resource-2
 returns-then-shares_resource-2 g c = search rules

@@ -18,7 +18,7 @@ returns-in-Ok-clause-added g c =
     on_ok_weaker c.accept.result (λ entry_added inner plan states. record {
       entry = entry_plan entry;
       kept = subst (λ plan. IsKeptBatch c.args.self.now.next (joined_access declared plan) (g.C.BatchController.time controller) (entry_plan entry)) plan c.in-Ok.ensures.kept;
-      batch = entry.system;
+      batch = entry.work;
       is_batch = record {
         nested = is.nested;
         is_batch = is.is_batch;

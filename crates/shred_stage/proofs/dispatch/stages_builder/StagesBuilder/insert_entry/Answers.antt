@@ -14,7 +14,7 @@ returns-clause-inserted g c =
     let placed_stages = c.place.new.self.stages.items in
     OnOk-both c.place.result
     (λ placed is.
-    let added = added_with stages placed_stages c.args.entry c.args.entry.system refl is in
+    let added = added_with stages placed_stages c.args.entry c.args.entry.work refl is in
     let standing = stands-after (plan_of stages) (plan_of placed_stages) c.args.self.now.barrier (numbers_of c.args.dependencies.now) (entry_plan c.args.entry) added.place (omega (arith, length-map stages stage_plan, c.args.self.now.barrier_within)) placed added.entry_is_new in
     record { placed = placed; added = added; from_barrier = standing.0; after = standing.1 })
     c.place.ensures.placed c.place.ensures.added

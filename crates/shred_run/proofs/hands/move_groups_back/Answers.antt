@@ -8,7 +8,7 @@ use Rattle.shred_table.proofs.Parted.Pairs.{zip-at, zip-more, zip-end}
 use Rattle.shred_run.specs.Hands.{FitsGroup, IsLeftEmpty, some_writes}
 use Rattle.shred_run.specs.declared.entry.Group.{Group}
 use Rattle.shred_run.proofs.Runs.Sweeps.{Untouched, untouched-start, untouched-length, joined-more, joined-rest, joined-all}
-use Rattle.shred_run.proofs.hands.move_all_back.Goals as goal
+use Rattle.shred_run.proofs.hands.move_groups_back.Goals as goal
 
 pub loop-group-init : goal.loop-group-init
 loop-group-init g c = record { hands = untouched-start FitsGroup IsLeftEmpty c.args.groups.now c.requires.fit; table = λ q. refl }

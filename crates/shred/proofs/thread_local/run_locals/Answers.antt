@@ -2,7 +2,7 @@ use Rattle.std.proofs.Common.{refl, ◌∙◌, arith}
 use Rattle.shred_model.proofs.Joined.InTurn.{Turns-start, Turns-more, Turns-fault, Turns-end}
 use Rattle.shred_world.specs.Worlds.{local_held}
 use Rattle.shred.specs.LocalRuns.{LocalRun}
-use Rattle.shred.proofs.thread_local.run_each.Goals as goal
+use Rattle.shred.proofs.thread_local.run_locals.Goals as goal
 
 pub loop-index-init : goal.loop-index-init
 loop-index-init g c = record { turns = Turns-start (LocalRun g.V.ResourceValue.kind_of g.L.RunNow.runs) _ _; kinds = λ id. refl }

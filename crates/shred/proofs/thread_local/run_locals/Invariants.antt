@@ -2,7 +2,7 @@ use Rattle.shred_model.proofs.Joined.InTurn.{TurnsSoFar}
 use Rattle.shred_world.specs.Worlds.{local_held}
 use Rattle.shred_run.specs.Alone.{KeepsKinds}
 use Rattle.shred.specs.LocalRuns.{LocalRun}
-use Rattle.shred.proofs.thread_local.run_each.Given as goal
+use Rattle.shred.proofs.thread_local.run_locals.Given as goal
 
 abbrev pub invariant-loop-index : goal.invariant-loop-index
 invariant-loop-index g l = record {

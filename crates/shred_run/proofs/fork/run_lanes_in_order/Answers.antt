@@ -3,8 +3,8 @@ use Rattle.shred_model.specs.Runs.{first_fault}
 use Rattle.shred_model.proofs.Joined.FirstFault.{first_fault-Ok}
 use Rattle.shred_model.proofs.Joined.AllWent.{WentTo, WentTo-start, WentTo-length, WentTo-at, WentTo-more, WentTo-end}
 use Rattle.shred_run.specs.Calls.{Accepts, Calls}
-use Rattle.shred_run.proofs.fork.run_each.Goals as goal
-use Rattle.shred_run.proofs.fork.run_each.Goals.{in-Ok, in-Err}
+use Rattle.shred_run.proofs.fork.run_lanes_in_order.Goals as goal
+use Rattle.shred_run.proofs.fork.run_lanes_in_order.Goals.{in-Ok, in-Err}
 
 pub loop-lane-init : goal.loop-lane-init
 loop-lane-init g c = WentTo-start (Calls g.F.Fn c.args.run.now) c.args.lanes.now

@@ -9,7 +9,7 @@ use Rattle.shred_table.proofs.Parted.Pairs.{zip-at, zip-more, zip-end, left-or}
 use Rattle.shred_run.specs.Hands.{HasEmptyHand, IsMovedOut, some_writes}
 use Rattle.shred_run.specs.declared.entry.Group.{Group}
 use Rattle.shred_run.proofs.Runs.Sweeps.{carried-now, Untouched, untouched-start, untouched-length, written-before}
-use Rattle.shred_run.proofs.hands.move_all_out.Goals as goal
+use Rattle.shred_run.proofs.hands.move_groups_out.Goals as goal
 
 pub loop-group-init : goal.loop-group-init
 loop-group-init g c = record { hands = untouched-start HasEmptyHand (IsMovedOut (slot_at c.args.table.now)) c.args.groups.now c.requires.empty; left = λ q. ap (λ s. listed_at s q) c.rewind.ensures.slots }

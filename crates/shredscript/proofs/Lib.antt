@@ -2,7 +2,6 @@ pub mod Changed
 pub mod Declares
 pub mod InOrder
 pub mod Lines
-pub mod NotRun
 pub mod Printed
 pub mod Runs
 pub mod Rounds

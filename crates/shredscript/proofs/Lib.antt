@@ -3,7 +3,6 @@ pub mod Declares
 pub mod InOrder
 pub mod Overlaid
 pub mod Lines
-pub mod NotRun
 pub mod Printed
 pub mod Runs
 pub mod Rounds

@@ -1,5 +1,5 @@
 -- Runs of scripts.
-use Rattle.std.specs.Prelude.{◌≡◌, ℕ, zero, suc, ◌≤◌, Bool, true, None, List, [], ◌++◌, length, map, Option, Some, Result, Ok, Err, OnOk, IfErr, MatchResult}
+use Rattle.std.specs.Prelude.{◌≡◌, ◌⊎◌, ℕ, zero, suc, ◌≤◌, Bool, true, None, List, [], ◌++◌, length, map, Option, Some, Result, Ok, Err, OnOk, IfErr, MatchResult}
 use Rattle.std.specs.Io.KnownBytes.{Appends, Consumes, IsAtEnd, Keeps}
 use Rattle.indexmap.specs.IndexMap.{values}
 use Rattle.shred_model.specs.Plan.{plan_ids}
@@ -131,6 +131,18 @@ pub record AreLinesRun (lines : List PlanLine) (prints : Bool) (manner : Manner)
   pub planned : IsPlanPart prints names built.plan begins
   pub dispatch : IsDispatch (program_of built first) manner.times resources begins outcome text
 
+-- What lines print before they are run: with the number of workers that is asked for they make a plan, and this is its part of the text.
+pub record AreLinesPlanned (lines : List PlanLine) (prints : Bool) (manner : Manner) (text : List ℕ) : Type 0 where
+  pub built : ScriptBuilt
+  pub made : IsMadeOf lines manner.workers built
+  pub names : List NamedId
+  pub known : AreNames names built.known
+  pub planned : IsPlanPart prints names built.plan text
+
+-- what a script prints before it is run: what its lines do
+abbrev pub IsPlanOf : Script → List ℕ → Type 0
+IsPlanOf script = AreLinesPlanned script.plan.items script.prints_plan script.manner
+
 -- a script is run: its lines are, from the first values of its resources on
 abbrev pub IsRunOf : Script → Outcome → List ℕ → Type 0
 IsRunOf script = AreLinesRun script.plan.items script.prints_plan script.manner (first_held (values script.resources)) (resource_names script.resources)
@@ -181,15 +193,26 @@ IsReadFor (Err TooLong) old new = IsLongerThan MOST_BYTES old
 IsReadFor (Err InputFailed) old new = Unit {0}
 IsReadFor (Err OutOfMemory) old new = Unit {0}
 
+-- what standard output holds after an end: of an outcome its text was added; where output failed, a beginning of the text before the run, or of some outcome's; of any other error nothing, and this is why
+abbrev pub IsPrinted : (List ℕ → Type 0) → (Outcome → List ℕ → Type 0) → (ScriptError → Type 0) → Result Outcome ScriptError → Option (List ℕ) → Option (List ℕ) → Type 0
+IsPrinted Planned Ran Why (Ok outcome) old new = (text : List ℕ) × Ran outcome text × Appends old new text
+IsPrinted Planned Ran Why (Err OutputFailed) old new = (text : List ℕ) × (Planned text ⊎ ((outcome : Outcome) × Ran outcome text)) × AppendsBeginning old new text
+IsPrinted Planned Ran Why (Err OutOfMemory) old new = Why OutOfMemory × Keeps old new
+IsPrinted Planned Ran Why (Err TooLong) old new = Why TooLong × Keeps old new
+IsPrinted Planned Ran Why (Err InputFailed) old new = Why InputFailed × Keeps old new
+IsPrinted Planned Ran Why (Err (Line number fault)) old new = Why (Line number fault) × Keeps old new
+IsPrinted Planned Ran Why (Err (Refused number refusal)) old new = Why (Refused number refusal) × Keeps old new
+IsPrinted Planned Ran Why (Err (Unnamed id)) old new = Why (Unnamed id) × Keeps old new
+
 -- the text of an outcome's run was added, of the script that was read
 abbrev pub IsTold : Outcome → Option (List ℕ) → Option (List ℕ) → Option (List ℕ) → Option (List ℕ) → Type 0
 IsTold outcome read left old new = (script : Script) × (text : List ℕ) × IsReadAs script read left × IsRunOf script outcome text × Appends old new text
 
--- a beginning of the text of some outcome's run was added, of the script that was read
+-- a beginning was added of what the script that was read prints before it is run, or of the text of some outcome's run of it
 abbrev pub IsBegun : Option (List ℕ) → Option (List ℕ) → Option (List ℕ) → Option (List ℕ) → Type 0
-IsBegun read left old new = (script : Script) × (outcome : Outcome) × (text : List ℕ) × IsReadAs script read left × IsRunOf script outcome text × AppendsBeginning old new text
+IsBegun read left old new = (script : Script) × (text : List ℕ) × IsReadAs script read left × (IsPlanOf script text ⊎ ((outcome : Outcome) × IsRunOf script outcome text)) × AppendsBeginning old new text
 
--- what standard output holds after a run that ended so: of an outcome its text was added, of failed output a beginning of it, and of any other error nothing
+-- what standard output holds after a run that ended so: of an outcome its text was added, of failed output a beginning of it or of what comes before the run, and of any other error nothing
 abbrev pub IsReported : Result Outcome ScriptError → Option (List ℕ) → Option (List ℕ) → Option (List ℕ) → Option (List ℕ) → Type 0
 IsReported (Ok outcome) read left old new = IsTold outcome read left old new
 IsReported (Err OutputFailed) read left old new = IsBegun read left old new

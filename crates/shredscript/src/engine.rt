@@ -1,8 +1,4 @@
 //! From a script's bytes to its outcome's.
-ghost use Rattle.std.specs.Prelude.{◌≡◌, IfErr, IfOk};
-ghost use Rattle.std.specs.Io.KnownBytes.{Appends};
-ghost use Rattle.shred_stage.specs.Sinks.{AppendsBeginning};
-ghost use Rattle.shredscript_text.specs.declared.error.ScriptError.TheVariants.{OutputFailed};
 ghost use Rattle.shredscript.specs.Runs.{HasEnded, IsReadFor, IsReported};
 
 use crate::run_plan::run_plan;
@@ -10,7 +6,6 @@ use shredscript_text::error::ScriptError;
 use shredscript_text::error_line::tell;
 use shredscript_text::input::read_text;
 use shredscript_text::outcome::Outcome;
-use shredscript_text::output::print;
 use shredscript_text::script::Script;
 use std::alloc::Global;
 use std::io::{Read, Write};
@@ -54,23 +49,5 @@ fn run_script<T: Threads + Sync, R: Read, O: Write>(
         Ok(script) => script,
         Err(error) => return Err(error),
     };
-    match run_plan(rt, alloc, script) {
-        Ok((outcome, report)) => print_report(out, outcome, report.as_slice()),
-        Err(error) => Err(error),
-    }
-}
-
-// Prints the report of a run that ended so.
-fn print_report<O: Write>(
-    out: &mut O,
-    outcome: Outcome,
-    report: &[u8],
-) -> Result<Outcome, ScriptError>
-    ensures whole { IfOk result (λ told. (told ≡ outcome) × Appends (O.contents out.old) (O.contents out.new) report.now) }
-    ensures beginning { IfErr result (λ error. (error ≡ OutputFailed) × AppendsBeginning (O.contents out.old) (O.contents out.new) report.now) }
-{
-    match print(out, report) {
-        Ok(()) => Ok(outcome),
-        Err(_) => Err(ScriptError::OutputFailed),
-    }
+    run_plan(rt, alloc, script, out)
 }

@@ -1,14 +1,17 @@
 //! A script, looked through, run over a world.
-ghost use Rattle.std.specs.Prelude.{◌≡◌, IfOk, IfErr};
+ghost use Rattle.std.specs.Prelude.{◌≡◌, IfOk, IfErr, OnErr, OnOk, []};
+ghost use Rattle.std.specs.Io.KnownBytes.{Appends};
 ghost use Rattle.shred_model.specs.Record.{Agent};
+ghost use Rattle.shred_stage.specs.Sinks.{AppendsBeginning};
 ghost use Rattle.shred.specs.Builders.{built, builder_pairs};
 ghost use Rattle.shred.specs.Dispatchers.{dispatcher_locals, dispatcher_plan, dispatcher_states, dispatcher_workers};
 ghost use Rattle.indexmap.specs.IndexMap.{values};
 ghost use Rattle.shred.specs.FullRuns.{whole_over, whole_with};
 ghost use Rattle.shredscript_text.specs.declared.error.ScriptError.TheVariants.{OutOfMemory};
-ghost use Rattle.shredscript_text.specs.Report.{first_held, resource_names};
+ghost use Rattle.shred_world.specs.Worlds.{world_held};
+ghost use Rattle.shredscript_text.specs.Report.{first_held, report, resource_names};
 ghost use Rattle.shredscript.specs.PlanTexts.{IsNotPlanned, IsPlanPart};
-ghost use Rattle.shredscript.specs.Runs.{AreDispatched, AreLinesNotRun, AreLinesRun, AreSetUpAndDispatched, IsDispatch, IsNotRun, IsOnce, IsRunOf};
+ghost use Rattle.shredscript.specs.Runs.{AreDispatched, AreLinesNotRun, AreLinesPlanned, AreLinesRun, AreSetUpAndDispatched, IsDispatch, IsNotRun, IsOnce, IsPlanOf, IsPrinted, IsRunOf};
 ghost use Rattle.shredscript_text.specs.Value.{kind_of};
 
 use crate::batch::ScriptBatch;
@@ -20,25 +23,28 @@ use shred::{DispatchError, Dispatcher, World};
 use shredscript_text::error::ScriptError;
 use shredscript_text::first_values::world_of;
 use shredscript_text::outcome::{Outcome, Refusal, write_threads};
+use shredscript_text::output::print;
 use shredscript_text::report::{most_bytes, write_report};
 use shredscript_text::script::{Manner, Mode, PlanLine, Script};
 use shredscript_text::step::Resources;
 use shredscript_text::value::Value;
 use std::alloc::Global;
+use std::io;
+use std::io::Write;
 use std::thread::Threads;
 
 /// A dispatcher of a script's systems and batches.
 type ScriptDispatcher = Dispatcher<Value, ScriptSystem, ScriptBatch, ScriptLocal>;
 
-/// Runs the systems over the resources: how the run ended, and the report of what it left. All memory but that of the
-/// stages is taken before the dispatch.
-pub(crate) fn run_plan<T: Threads + Sync>(
+/// Runs the systems over the resources, prints what that left, and says how it ended. All memory but that of the stages is
+/// taken before anything is printed, and the plan, where it is asked for, is printed before the dispatch.
+pub(crate) fn run_plan<T: Threads + Sync, O: Write>(
     rt: &T,
     alloc: Global,
     script: Script<'_>,
-) -> Result<(Outcome, Vec<u8>), ScriptError>
-    ensures run { IfOk result (λ ran. IsRunOf script.entry ran.0 ran.1.items) }
-    ensures not_run { IfErr result (IsNotRun script.entry) }
+    out: &mut O,
+) -> Result<Outcome, ScriptError>
+    ensures { IsPrinted (IsPlanOf script.entry) (IsRunOf script.entry) (IsNotRun script.entry) result (O.contents out.old) (O.contents out.new) }
 {
     let Script {
         resources,
@@ -47,61 +53,111 @@ pub(crate) fn run_plan<T: Threads + Sync>(
         manner,
         ..
     } = script;
-    run_lines(rt, alloc, plan, prints_plan, manner, &resources)
+    run_lines(rt, alloc, plan, prints_plan, manner, &resources, out)
 }
 
-/// Runs the systems of these lines over the resources: how the run ended, and the report of what it left.
-fn run_lines<T: Threads + Sync>(
+/// Runs the systems of these lines over the resources, prints what that left, and says how it ended.
+fn run_lines<T: Threads + Sync, O: Write>(
     rt: &T,
     alloc: Global,
     lines: Vec<PlanLine<'_>>,
     prints_plan: bool,
     manner: Manner,
     resources: &Resources<'_>,
-) -> Result<(Outcome, Vec<u8>), ScriptError>
-    ensures run { IfOk result (λ ran. AreLinesRun lines.entry.items prints_plan manner (first_held (values resources.now)) (resource_names resources.now) ran.0 ran.1.items) }
-    ensures not_run { IfErr result (AreLinesNotRun lines.entry.items prints_plan manner) }
+    out: &mut O,
+) -> Result<Outcome, ScriptError>
+    ensures { IsPrinted (AreLinesPlanned lines.entry.items prints_plan manner) (AreLinesRun lines.entry.items prints_plan manner (first_held (values resources.now)) (resource_names resources.now)) (AreLinesNotRun lines.entry.items prints_plan manner) result (O.contents out.old) (O.contents out.new) }
 {
     let builder = builder_with(alloc, lines, manner.workers)?;
     let (dispatcher, text) = planned(alloc, builder, prints_plan)?;
-    dispatch_from_first(rt, alloc, dispatcher, manner, resources, text)
+    dispatch_from_first(rt, alloc, dispatcher, manner, resources, text, out)
 }
 
-/// Sets the systems up and dispatches them over a world of the first values: how that ended, and the text with the report of
-/// what it left.
-fn dispatch_from_first<T: Threads + Sync>(
+/// Prints the text, sets the systems up, dispatches them over a world of the first values, and prints what that left.
+fn dispatch_from_first<T: Threads + Sync, O: Write>(
     rt: &T,
     alloc: Global,
     dispatcher: ScriptDispatcher,
     manner: Manner,
     resources: &Resources<'_>,
     text: Vec<u8>,
-) -> Result<(Outcome, Vec<u8>), ScriptError>
-    ensures dispatch { IfOk result (λ ran. IsDispatch (whole_with dispatcher (first_held (values resources.now))) manner.times (resource_names resources.now) text.items ran.0 ran.1.items) }
-    ensures err { IfErr result (λ error. error ≡ OutOfMemory) }
+    out: &mut O,
+) -> Result<Outcome, ScriptError>
+    ensures { IsPrinted (λ begins. begins ≡ text.items) (IsDispatch (whole_with dispatcher (first_held (values resources.now))) manner.times (resource_names resources.now) text.items) (λ error. error ≡ OutOfMemory) result (O.contents out.old) (O.contents out.new) }
 {
     let world = world_of(alloc, resources)?;
-    dispatch(rt, dispatcher, world, manner, resources, text)
+    print_and_dispatch(rt, dispatcher, world, manner, resources, text, out)
 }
 
-/// Sets the systems up and dispatches them over the world: how that ended, and the text with the report of what it left.
-fn dispatch<T: Threads + Sync>(
+/// Prints the text, once there is room for the report, sets the systems up, dispatches them over the world, and prints what
+/// that left.
+fn print_and_dispatch<T: Threads + Sync, O: Write>(
+    rt: &T,
+    dispatcher: ScriptDispatcher,
+    world: World<Value>,
+    manner: Manner,
+    resources: &Resources<'_>,
+    mut text: Vec<u8>,
+    out: &mut O,
+) -> Result<Outcome, ScriptError>
+    ensures { IsPrinted (λ begins. begins ≡ text.items) (IsDispatch (whole_over kind_of dispatcher world) manner.times (resource_names resources.now) text.items) (λ error. error ≡ OutOfMemory) result (O.contents out.old) (O.contents out.new) }
+{
+    text.reserve(most_bytes(resources))?;
+    match print_plan(out, text.as_slice()) {
+        Ok(()) => dispatch(rt, dispatcher, world, manner, resources, text, out),
+        Err(_) => Err(ScriptError::OutputFailed),
+    }
+}
+
+/// Prints what is printed before the run, where there is something.
+fn print_plan<O: Write>(out: &mut O, text: &[u8]) -> io::Result<()>
+    ensures whole { OnOk result (Appends (O.contents out.old) (O.contents out.new) text.now) }
+    ensures beginning { OnErr result (AppendsBeginning (O.contents out.old) (O.contents out.new) text.now) }
+{
+    if text.is_empty() {
+        Ok(())
+    } else {
+        print(out, text)
+    }
+}
+
+/// Sets the systems up, dispatches them over the world, and prints what that left. What is in `room` goes, and the report is
+/// made there.
+fn dispatch<T: Threads + Sync, O: Write>(
     rt: &T,
     mut dispatcher: ScriptDispatcher,
     mut world: World<Value>,
     manner: Manner,
     resources: &Resources<'_>,
-    mut text: Vec<u8>,
-) -> Result<(Outcome, Vec<u8>), ScriptError>
-    ensures dispatch { IfOk result (λ ran. IsDispatch (whole_over kind_of dispatcher world) manner.times (resource_names resources.now) text.items ran.0 ran.1.items) }
-    ensures err { IfErr result (λ error. error ≡ OutOfMemory) }
+    mut room: Vec<u8>,
+    out: &mut O,
+) -> Result<Outcome, ScriptError>
+    ensures { IsPrinted (λ begins. ⊥) (IsDispatch (whole_over kind_of dispatcher world) manner.times (resource_names resources.now) []) (λ error. ⊥) result (O.contents out.old) (O.contents out.new) }
 {
-    text.reserve(most_bytes(resources))?;
+    room.clear();
     let outcome = Outcome::of(set_up_and_dispatch(rt, &mut dispatcher, &mut world, manner));
-    match write_report(&mut text, resources, &world, outcome) {
-        Ok(()) => Ok((outcome, text)),
-        Err(_) => Err(ScriptError::OutOfMemory),
+    match print_report(out, room, resources, &world, outcome) {
+        Ok(()) => Ok(outcome),
+        Err(_) => Err(ScriptError::OutputFailed),
     }
+}
+
+/// Makes the report in this room, which is empty, and prints it.
+fn print_report<O: Write>(
+    out: &mut O,
+    mut room: Vec<u8>,
+    resources: &Resources<'_>,
+    world: &World<Value>,
+    outcome: Outcome,
+) -> io::Result<()>
+    requires { room.items ≡ [] }
+    ensures whole { OnOk result (Appends (O.contents out.old) (O.contents out.new) (report (resource_names resources.now) (world_held kind_of world.now) outcome)) }
+    ensures beginning { OnErr result (AppendsBeginning (O.contents out.old) (O.contents out.new) (report (resource_names resources.now) (world_held kind_of world.now) outcome)) }
+{
+    if let Err(error) = write_report(&mut room, resources, world, outcome) {
+        return Err(error);
+    }
+    print(out, room.as_slice())
 }
 
 /// Sets the systems up, and dispatches them as often as asked, up to the first dispatch that is not Done.

@@ -1,12 +1,15 @@
 //! The builder of dispatchers: names, refusals and the printed plan.
 
 use crate::builder_rows::{Add, FIVE, FIVE_PRINTED, ROWS, Row};
-use crate::calls::{built_with_names, expect_add, print_built};
+use crate::calls::{built_with_names, expect_add, print_built, text_of};
 use crate::planned_system::{OnlyPlanned, PLAIN, system_of};
 use crate::stopping::{Stop, StoppingWriter};
-use shred::{AddError, Dispatcher, DispatcherBuilder, PrintError, SystemId, SystemNames, ToWriter};
+use shred::{
+    AddError, DispatchError, Dispatcher, DispatcherBuilder, Fault, PrintError, SystemId,
+    SystemNames, ToWriter, Told,
+};
 use shredtest::values::Value;
-use std::alloc::Global;
+use std::alloc::{AllocError, Global};
 use std::process::Abort;
 use std::test::Fail;
 
@@ -90,6 +93,35 @@ fn a_dispatcher_has_the_names_of_its_builder(rt: HostRuntime) -> Result<(), Fail
     let (_, names) = built_with_names(built(&rt, rt.alloc(), FIVE)?);
     assert_eq!(rt; names.id_of("c"), Some(SystemId(2)));
     assert_eq!(rt; names.name_of(SystemId(0)), Some("a"));
+    Ok(())
+}
+
+/// The text of the error, by these names.
+fn told(
+    alloc: Global,
+    names: &SystemNames,
+    error: &DispatchError<u8>,
+) -> Result<String, AllocError> {
+    text_of(alloc, &Told { names, error })
+}
+
+#[test]
+fn an_error_is_told_by_the_name_of_its_system(rt: HostRuntime) -> Result<(), Fail> {
+    let (_, names) = built_with_names(built(&rt, rt.alloc(), FIVE)?);
+    let refused = |id: usize, code: u8| DispatchError::System {
+        id: SystemId(id),
+        fault: Fault::Refused(code),
+    };
+    let text = told(rt.alloc(), &names, &refused(2, 7))?;
+    assert_eq!(rt; text.as_str(), "system \"c\" refused: 7");
+    let text = told(rt.alloc(), &names, &refused(5, 7))?;
+    assert_eq!(rt; text.as_str(), "system 5 refused: 7");
+    let local = DispatchError::ThreadLocal {
+        index: 1,
+        fault: Fault::OutOfMemory,
+    };
+    let text = told(rt.alloc(), &names, &local)?;
+    assert_eq!(rt; text.as_str(), "thread-local system 1: out of memory");
     Ok(())
 }
 

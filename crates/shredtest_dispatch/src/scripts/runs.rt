@@ -81,6 +81,10 @@ const FIVE_PLANNED: &str =
 const FIVE_PRINTED: &str =
     "seq![\n\tpar![\n\t\tseq![\n\t\t\ta,\n\t\t],\n\t\tseq![\n\t\t\td,\n\t\t],\n\t],\n\tpar![\n\t\tseq![\n\t\t\tb,\n\t\t],\n\t\tseq![\n\t\t\tc,\n\t\t],\n\t],\n\tpar![\n\t\tseq![\n\t\t\te,\n\t\t],\n\t],\n]\n\nthreads 2\nRes=0\nok\n";
 
+/// What of it is printed before the run.
+const FIVE_PLAN: &str =
+    "seq![\n\tpar![\n\t\tseq![\n\t\t\ta,\n\t\t],\n\t\tseq![\n\t\t\td,\n\t\t],\n\t],\n\tpar![\n\t\tseq![\n\t\t\tb,\n\t\t],\n\t\tseq![\n\t\t\tc,\n\t\t],\n\t],\n\tpar![\n\t\tseq![\n\t\t\te,\n\t\t],\n\t],\n]\n\nthreads 2\n";
+
 #[test]
 fn reads_in_pieces_of_any_length_and_on_after_an_interruption(rt: HostRuntime) {
     for most in 1..SCRIPT.len() {
@@ -111,20 +115,23 @@ fn tells_a_failed_read_wherever_it_comes_and_before_a_fault(rt: HostRuntime) {
     );
 }
 
-/// A script, and what its run prints.
+/// A script, what its run prints, and what of that is written where nothing can be flushed: all, or the plan.
 struct Run {
     script: &'static str,
     printed: &'static str,
+    unflushed: &'static str,
 }
 
 const RUNS: &[Run] = &[
     Run {
         script: SCRIPT,
         printed: PRINTED,
+        unflushed: PRINTED,
     },
     Run {
         script: FIVE_PLANNED,
         printed: FIVE_PRINTED,
+        unflushed: FIVE_PLAN,
     },
 ];
 
@@ -140,7 +147,7 @@ fn tells_a_failed_write_wherever_it_comes(rt: HostRuntime) {
             expect_output_failed(&rt, run.script, full, beginning);
         }
         let unflushed = StoppingWriter::at_flush(rt.alloc());
-        expect_output_failed(&rt, run.script, unflushed, printed);
+        expect_output_failed(&rt, run.script, unflushed, run.unflushed.as_bytes());
     }
 }
 

@@ -11,7 +11,7 @@ use Rattle.shred_world.specs.Worked.{Held}
 use Rattle.shred_run.specs.declared.entry.StageFault.{StageFault}
 use Rattle.shred_run.specs.declared.entry.StageFault.TheVariants.{System, Memory}
 use Rattle.shred_run.specs.Depths.{Related}
-use Rattle.shred_run.specs.Dispatched.{IsRunOf}
+use Rattle.shred_run.specs.Dispatched.{IsPlanRun}
 use Rattle.shred_run.specs.Entries.{entry_answer}
 use Rattle.shred_run.specs.NestedRecords.{IsNestedStep, NestedRecord, done as is_done}
 use Rattle.shred_run.specs.NestedRuns.{NestedBatchRun, NestedEntryRun, NestedGroupRun, NestedRun, NestedStageTurn, OccupantRun}
@@ -118,5 +118,5 @@ module _ {V S C E : Type 0} (kind : V → Kind) (related : Related V S C E) wher
       turn_done occupants n stage list (Err Memory, run, is) = absurd (cc)
 
     -- the records of a run that is Done are a Done step of each entry's system, in order
-    pub plan_done : (plan : Plan ResourceId) (occupants : Occupants) (list : List (NestedRecord V S C E)) → IsRunOf kind related dispatch_answer plan occupants list (Ok tt) → AllZip IsDoneStep (entries_of_plan plan) list
+    pub plan_done : (plan : Plan ResourceId) (occupants : Occupants) (list : List (NestedRecord V S C E)) → IsPlanRun kind related dispatch_answer plan occupants list (Ok tt) → AllZip IsDoneStep (entries_of_plan plan) list
     plan_done plan occupants list (depth, run) = up_to_fault_done IsDoneStep inside (PlacedTurn depth occupants) entries_of_stage (turn_done depth occupants) 0 plan list run

@@ -4,6 +4,7 @@ pub mod OfKinds
 pub mod OneStep
 pub mod OneRun
 pub mod Done
+pub mod DoneSteps
 pub mod OwnRecords
 pub mod OwnWorks
 pub mod OneEnd

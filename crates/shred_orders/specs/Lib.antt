@@ -1,2 +1,3 @@
+pub mod EntryPaths
 pub mod Interleavings
 pub mod OneEnd

@@ -38,13 +38,13 @@ module _ {V S C : Type 0} where
 
 module _ {V S C E F : Type 0} (kind : V → Kind) (related : Related V S C E) (answers : ℕ → Answer (StageFault E) → Answer F) where
   -- the list is a run of the plan with this answer, each batch opened into the records of what is in it, to a depth that is enough for every batch that ran; `answers` says what the plan answers for what the stage at a place does
-  abbrev pub IsRunOf : model.Plan ResourceId → Occupants → List (NestedRecord V S C E) → Answer F → Type 0
-  IsRunOf plan occupants list answer = (depth : ℕ) × NestedPlanRun true (NestedRun true kind related depth) answers occupants plan list answer
+  abbrev pub IsPlanRun : model.Plan ResourceId → Occupants → List (NestedRecord V S C E) → Answer F → Type 0
+  IsPlanRun plan occupants list answer = (depth : ℕ) × NestedPlanRun true (NestedRun true kind related depth) answers occupants plan list answer
 
   -- There is a list of records, each one step of one system or one call of one controller, that is a run of the plan with this answer. It leads from what was before to what is after, and so does each conflict-equivalent order of it. Its records of parallel groups are independent, and each touches no more than every entry that its agent is inside of. The plan stays, and so do what stands at each path, the ids that are held, and the kinds of their values.
   pub record Dispatched (before : Situation V S C) (answer : Answer F) (after : Situation V S C) : Type 0 where
     pub list : List (NestedRecord V S C E)
-    pub run : IsRunOf before.plan (occupants_of before) list answer
+    pub run : IsPlanRun before.plan (occupants_of before) list answer
     pub replays : Replays (configuration_in before) list (configuration_in after)
     pub any_order : (moved : List (NestedRecord V S C E)) (from : ℕ → ℕ) → IsConflictEquivalent list moved from → Replays (configuration_in before) moved (configuration_in after)
     pub parallel : (j k : ℕ) (r q : NestedRecord V S C E) → slice_get list j ≡ Some r → slice_get list k ≡ Some q → AreParallel r.agent q.agent → Independent r q

@@ -18,7 +18,7 @@ entry_answer id (Ok done) = Ok tt
 entry_answer id (Err fault) = Err (System (record { 0 = id }) fault)
 
 module _ {V S E : Type 0} (kind : V → Kind) (step : Step V S E) where
-  -- an entry's run is one step of its system, under the lists that were kept of it
+  -- an entry's run is one step of its work, under the lists that were kept of it
   abbrev pub EntryRun : ℕ → model.PlanEntry ResourceId → List (Written V S E) → Answer (StageFault E) → Type 0
   EntryRun place entry list answer = (r : Written V S E) × (list ≡ r ∷ []) × (r.agent ≡ []) × IsStep kind step entry.access r × (answer ≡ entry_answer entry.id r.outcome)
 
@@ -34,10 +34,10 @@ module _ {V S E : Type 0} (kind : V → Kind) (step : Step V S E) where
   abbrev pub StageTurn : model.Stage ResourceId → List (Written V S E) → Answer (StageFault E) → Type 0
   StageTurn stage list answer = StageRun stage list answer ⊎ ((list ≡ []) × (answer ≡ Err Memory))
 
--- the state of the entry's system
+-- the state of the entry's work
 abbrev pub entry_states : {V S : Type 0} → GroupEntry V S → Agent → Option S
 entry_states entry path = own_state entry.work path
 
--- the states of a group's systems, by place
+-- the states of a group's works, by place
 abbrev pub group_states : {V S : Type 0} → Group V S → Agent → Option S
 group_states group path = listed_states entry_states group.entries.items path

@@ -15,14 +15,14 @@ use Rattle.shred_run.specs.OwnSlots.{HasGroupSlots}
 use Rattle.shred_run.specs.PlanOf.{group_plan}
 use Rattle.shred_run.specs.Steps.{Step}
 
--- The group's kept lists are what its systems may touch, its table has the slots that it writes and no others, and its entries have their places.
+-- The group's kept lists are what its works may touch, its table has the slots that it writes and no others, and its entries have their places.
 pub record IsReady {V S : Type 0} (own : S → List ResourceId → List ResourceId → Type 0) (lent : Lent V) (group : Group V S) : Type 0 where
   pub own_lists : IsGroupOf own group
   pub own_slots : HasGroupSlots lent group.hand (group_plan group)
   pub just_slots : FitsGroup group
   pub places : HasPlaces group.hand group
 
--- The group ran over what its table shows; all beside its systems and the values in its table stayed.
+-- The group ran over what its table shows; all beside its works and the values in its table stayed.
 pub record GroupWent {V S E : Type 0} (kind : V → Kind) (step : Step V S E) (own : S → List ResourceId → List ResourceId → Type 0) (lent : Lent V) (old : Group V S) (answer : Answer (StageFault E)) (new : Group V S) : Type 0 where
   pub ran : Ran (GroupRun kind step 0 (group_plan old)) (configuration_of (group_states old) (shown kind lent old.hand)) answer (configuration_of (group_states new) (shown kind lent new.hand))
   pub plan : group_plan new ≡ group_plan old

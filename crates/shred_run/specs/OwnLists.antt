@@ -7,7 +7,7 @@ use Rattle.shred_run.specs.declared.entry.GroupEntry.{GroupEntry}
 use Rattle.shred_run.specs.declared.entry.Group.{Group}
 
 module _ {V S : Type 0} (own : S → List ResourceId → List ResourceId → Type 0) where
-  -- The kept lists are what the entry's system may touch, and the entry's hand has an empty slot for each written id, and no other slot.
+  -- The kept lists are what the entry's work may touch, and the entry's hand has an empty slot for each written id, and no other slot.
   pub record IsEntryOf (entry : GroupEntry V S) : Type 0 where
     pub lists : own entry.work entry.reads.items entry.writes.items
     pub hand : IsEmptyHand entry.writes.items entry.hand
@@ -19,11 +19,3 @@ module _ {V S : Type 0} (own : S → List ResourceId → List ResourceId → Typ
 -- a system may touch what it declares
 abbrev pub declared_lists : {S : Type 0} → (S → List ResourceId) → (S → List ResourceId) → S → List ResourceId → List ResourceId → Type 0
 declared_lists reads writes system kept_reads kept_writes = AreOwnLists (reads system) (writes system) kept_reads kept_writes
-
--- the kept lists are those of the entry's system
-abbrev pub IsOwnEntry : {V S : Type 0} → (S → List ResourceId) → (S → List ResourceId) → GroupEntry V S → Type 0
-IsOwnEntry reads writes = IsEntryOf (declared_lists reads writes)
-
--- so it is of each entry
-abbrev pub IsOwnGroup : {V S : Type 0} → (S → List ResourceId) → (S → List ResourceId) → Group V S → Type 0
-IsOwnGroup reads writes = IsGroupOf (declared_lists reads writes)

@@ -12,11 +12,11 @@ use Rattle.shred_run.specs.declared.entry.Group.{Group}
 abbrev pub numbers_of : List SystemId → List ℕ
 numbers_of ids = map (λ id. id.0) ids
 
--- what an entry's system may touch
+-- what the work in an entry may touch
 abbrev pub access_of : {V S : Type 0} → GroupEntry V S → Access ResourceId
 access_of entry = record { reads = entry.reads.items; writes = entry.writes.items }
 
--- an entry, but for its system
+-- an entry, but for the work in it
 abbrev pub entry_plan : {V S : Type 0} → GroupEntry V S → model.PlanEntry ResourceId
 entry_plan entry = record { id = entry.id.0; access = access_of entry; time = time_count entry.time }
 

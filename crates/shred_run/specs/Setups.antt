@@ -14,7 +14,7 @@ use Rattle.shred_run.specs.PlanOf.{group_numbers, groups_plan}
 use Rattle.shred_run.specs.Steps.{Outcome, Step}
 
 module _ {V S E : Type 0} (sets_up : Step V S E) where
-  -- an entry's setup is its system's own, and a fault is told with the entry's id
+  -- an entry's setup is its work's own, and a fault is told with the entry's id
   abbrev pub EntrySetup : GroupEntry V S → Held V → Answer (StageFault E) → GroupEntry V S → Held V → Type 0
   EntrySetup entry before answer new after = (o : Outcome E) × sets_up entry.work before o new.work after × (answer ≡ entry_answer entry.id.0 o)
 
@@ -31,7 +31,7 @@ module _ {V S E : Type 0} (sets_up : Step V S E) where
   GroupsSetup groups before answer news after = InTurn (λ place. GroupSetup) 0 groups before answer news after
 
 module _ {V S E : Type 0} (disposes : S → Held V → Outcome E → Held V → Type 0) where
-  -- an entry's disposal is its system's own, and a fault is told with the entry's id
+  -- an entry's disposal is its work's own, and a fault is told with the entry's id
   abbrev pub EntryDisposal : GroupEntry V S → Held V → Answer (StageFault E) → Held V → Type 0
   EntryDisposal entry before answer after = (o : Outcome E) × disposes entry.work before o after × (answer ≡ entry_answer entry.id.0 o)
 

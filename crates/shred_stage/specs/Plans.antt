@@ -7,7 +7,7 @@ use Rattle.shred_run.specs.declared.work.Work.{Work}
 use Rattle.shred_stage.specs.declared.dispatch.stage.Stage.{Stage}
 use Rattle.shred_run.specs.Entries.{group_states}
 
--- the states of a stage's systems, by group and place
+-- the states of a stage's works, by group and place
 abbrev pub stage_states : {V S C N A M B : Type 0} {vd : _} {sd : _} {ad : _} {cd : _} {bd : _} → Stage V S C N A M B vd sd ad cd bd → Agent → Option (Work S (Nested V S C))
 stage_states stage path = listed_states group_states stage.groups.items path
 

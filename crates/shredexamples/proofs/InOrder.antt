@@ -30,9 +30,11 @@ use Rattle.shred_stage.specs.Placement.{IsPlaced}
 use Rattle.shred_stage.proofs.Planner.Earlier.{new_place-only}
 use Rattle.shred_orders.specs.OneEnd.{own_access}
 use Rattle.shredexamples.specs.Numbers.{kind_of, number_id, number_value}
-use Rattle.shredexamples.specs.TwoSystems.{AreLeftAtTwo, HasInOrder, HasListsOf, entries_with_paths, five_and_zero}
+use Rattle.shredexamples.specs.TwoSystems.{AreLeftAtTwo, HasInOrder, HasListsOf, five_and_zero}
+use Rattle.shred_orders.specs.EntryPaths.{entries_with_paths}
 use Rattle.shredexamples.proofs.Placed.{alone, behind, first_path}
-use Rattle.shredexamples.proofs.Done.{Found, HaveThreeNumbers, HoldSystems, IsDoneAt, plan-done, stands-there, state-there, three-numbers}
+use Rattle.shred_orders.proofs.DoneSteps.{Found, IsDoneAt, RunAlone, plan-done, system-alone}
+use Rattle.shredexamples.proofs.Standing.{HaveThreeNumbers, stands-there, state-there, three-numbers}
 
 -- what is seen of a declared id
 shown : {V : Type 0} (access : Access ResourceId) (values : Held V) (id : ResourceId) → Declares access id → declared_of access values id ≡ values id
@@ -139,8 +141,8 @@ module _ {S C : Type 0} (related : Related (Only ℤ) S C DataError) (step : Ste
   long : HaveThreeNumbers (found ∷ its_found ∷ [])
   long = subst HaveThreeNumbers ordered.order (three-numbers before.plan)
 
-  systems : HoldSystems (occupants_of before) (entries_with_paths before.plan)
-  systems = subst (HoldSystems (occupants_of before)) (sym ordered.order) (stands-there before.works first ordered.path long.0 ordered.stands, (stands-there before.works second ordered.its_path long.1.0 ordered.its_stands, tt))
+  systems : RunAlone kind_of related (occupants_of before) (entries_with_paths before.plan)
+  systems = subst (RunAlone kind_of related (occupants_of before)) (sym ordered.order) (system-alone kind_of related _ (stands-there before.works first ordered.path long.0 ordered.stands), (system-alone kind_of related _ (stands-there before.works second ordered.its_path long.1.0 ordered.its_stands), tt))
 
   two-steps : (list : List (NestedRecord (Only ℤ) S C DataError)) → AllZip (IsDoneAt kind_of related.steps) (found ∷ its_found ∷ []) list → Replays (configuration_in before) list (configuration_in after) → AreLeftAtTwo step reads writes first second number
   two-steps [] done goes = absurd done

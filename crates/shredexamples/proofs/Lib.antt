@@ -4,7 +4,7 @@ pub mod Counted
 pub mod Doubled
 pub mod Adds
 pub mod Placed
-pub mod Done
+pub mod Standing
 pub mod InOrder
 pub mod Copied
 pub mod Answered

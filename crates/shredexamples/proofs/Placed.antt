@@ -5,7 +5,7 @@ use Rattle.shred_model.specs.Plan.{PlanEntry, Stage, Plan, entry_at}
 use Rattle.shred_model.specs.Record.{Agent}
 use Rattle.shred_table.specs.declared.id.ResourceId.{ResourceId}
 use Rattle.shred_stage.specs.Placement.{IsPlaced, in_new_group, at_end_of_group, in_new_stage}
-use Rattle.shredexamples.specs.TwoSystems.{entries_with_paths}
+use Rattle.shred_orders.specs.EntryPaths.{entries_with_paths}
 
 -- a first entry stands alone
 pub alone : (barrier start : ℕ) (dependencies : List ℕ) (entry : PlanEntry ResourceId) (placed : Plan ResourceId) → IsPlaced [] barrier start dependencies entry placed → placed ≡ ((entry ∷ []) ∷ []) ∷ []

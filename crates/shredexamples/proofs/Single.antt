@@ -20,8 +20,9 @@ use Rattle.shred_stage.specs.Inserted.{IsInserted}
 use Rattle.shred_stage.specs.Placement.{IsPlaced}
 use Rattle.shred_stage.specs.Situations.{dispatch_answer}
 use Rattle.shred_stage.proofs.Planner.Earlier.{new_place-only}
-use Rattle.shredexamples.specs.TwoSystems.{entries_with_paths}
-use Rattle.shredexamples.proofs.Done.{Found, HoldSystems, IsDoneAt, plan-done, stands-there}
+use Rattle.shred_orders.specs.EntryPaths.{entries_with_paths}
+use Rattle.shred_orders.proofs.DoneSteps.{Found, IsDoneAt, RunAlone, plan-done, system-alone}
+use Rattle.shredexamples.proofs.Standing.{stands-there}
 use Rattle.shredexamples.proofs.Placed.{alone, first_path}
 
 module _ {V S C E : Type 0} (kind : V → Kind) (related : Related V S C E) (id : ResourceId) (left : Option V) (leaves : (before : S) (seen : Held V) (after : S) (values : Held V) → related.steps before seen (Ok tt) after values → values id ≡ left) where
@@ -40,7 +41,7 @@ module _ {V S C E : Type 0} (kind : V → Kind) (related : Related V S C E) (id 
       let place : inserted.added.place ≡ first_path = new_place-only inserted.added.place first_path (entry_at empty) (entry_at placed) entry entry inserted.added.entry_is_new (ap (λ (p : Plan ResourceId). entry_at p first_path) nothing) (ap (λ (p : Plan ResourceId). entry_at p first_path) shape) in
       let stands : before.works first_path ≡ Some (System system) = same_work ∙ ap works (sym place) ∙ inserted.added.system_is_new.stands in
       let order : entries_with_paths before.plan ≡ (first_path, entry) ∷ [] = ap entries_with_paths (same_plan ∙ shape) in
-      let held : HoldSystems (occupants_of before) (entries_with_paths before.plan) = subst (HoldSystems (occupants_of before)) (sym order) (stands-there before.works system first_path refl stands, tt) in
+      let held : RunAlone kind related (occupants_of before) (entries_with_paths before.plan) = subst (RunAlone kind related (occupants_of before)) (sym order) (system-alone kind related _ (stands-there before.works system first_path refl stands), tt) in
       let (depth, run) = ran.run in
       one_step entry ran.list (configuration_in before) (configuration_in after) writes (subst (λ (es : List Found). AllZip (IsDoneAt kind related.steps) es ran.list) order (plan-done kind related depth (occupants_of before) before.plan ran.list run held)) ran.replays
 

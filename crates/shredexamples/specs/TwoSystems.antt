@@ -11,21 +11,13 @@ use Rattle.shred_run.specs.Alone.{IsStepOver}
 use Rattle.shred_run.specs.Steps.{Step}
 use Rattle.shred_run.specs.declared.work.Work.{Work}
 use Rattle.shred_run.specs.declared.work.Work.TheVariants.{System}
+use Rattle.shred_orders.specs.EntryPaths.{entries_with_paths}
 use Rattle.shred_orders.specs.OneEnd.{own_access}
 use Rattle.shredexamples.specs.Numbers.{kind_of, number_id, number_value}
 
 -- what the world holds at first: 5 at place 1, 0 at place 2 and nothing else
 abbrev pub five_and_zero : Held (Only ℤ)
 five_and_zero = with_at (with_at (λ id. None) (number_id 1) (Some (number_value (pos 5)))) (number_id 2) (Some (number_value (pos 0)))
-
--- what each element has, one after the other, each under a path that begins with the element's place, counted from n
-abbrev pub located : {X Y : Type 0} → (X → List (Agent × Y)) → ℕ → List X → List (Agent × Y)
-located inside n [] = []
-located inside n (x ∷ xs) = map (λ found. (n ∷ found.0, found.1)) (inside x) ++ located inside (suc n) xs
-
--- the entries of a plan in order, each with its path
-abbrev pub entries_with_paths : Plan ResourceId → List (Agent × PlanEntry ResourceId)
-entries_with_paths plan = located (located (located (λ entry. ([], entry) ∷ []) 0) 0) 0 plan
 
 -- The entry writes the ids that the system declares, in its order, and reads those that it declares, in any.
 pub record HasListsOf {S : Type 0} (reads writes : S → List ResourceId) (system : S) (entry : PlanEntry ResourceId) : Type 0 where

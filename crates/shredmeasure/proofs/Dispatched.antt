@@ -29,7 +29,9 @@ use Rattle.shredmeasure.specs.Adds.{adds_one, IsOneMore}
 use Rattle.shredmeasure.specs.Counts.{kind_of, count_id, count_value, number_of}
 use Rattle.shredmeasure.specs.Measured.{IsCountedOnce}
 use Rattle.shredmeasure.proofs.Counted.{counted as stepped, steps_on}
-use Rattle.shredmeasure.proofs.Done.{IsDoneStep, plan_done}
+use Rattle.shred_orders.proofs.DoneSteps.{any-alone, plan-done}
+use Rattle.shred_orders.specs.EntryPaths.{entries_with_paths}
+use Rattle.shredmeasure.proofs.Done.{IsDoneStep, each-of, plan-steps}
 use Rattle.shredmeasure.proofs.Inserted.{placed_one}
 use Rattle.shredmeasure.proofs.Wraps.{one_more_time, other_number}
 
@@ -78,9 +80,9 @@ Added = NestedRecord (Only ℤ) (Plain AddOne) (NoBatch DataError) DataError
 record Made (number : ℕ) (r : Added) : Type 0 where
   pub entry : PlanEntry ResourceId
   pub writes : entry.access.writes ≡ count_id number ∷ []
-  pub step : IsDoneStep kind_of related entry r
+  pub step : IsDoneStep kind_of related.steps entry r
 
-all_made : (ns : List ℕ) (entries : List (PlanEntry ResourceId)) (rs : List Added) → AllZip (λ number entry. entry.access.writes ≡ count_id number ∷ []) ns entries → AllZip (IsDoneStep kind_of related) entries rs → AllZip Made ns rs
+all_made : (ns : List ℕ) (entries : List (PlanEntry ResourceId)) (rs : List Added) → AllZip (λ number entry. entry.access.writes ≡ count_id number ∷ []) ns entries → AllZip (IsDoneStep kind_of related.steps) entries rs → AllZip Made ns rs
 all_made [] [] [] writes made = tt
 all_made [] [] (r ∷ rs) writes made = absurd made
 all_made [] (e ∷ es) rs writes made = absurd writes
@@ -98,34 +100,34 @@ only id q (suc k, below, is) = absurd (omega arith)
 
 -- a written id is that of the number
 written : (number : ℕ) (r : Added) (id : ResourceId) → Made number r → Contains r.access.writes id → count_id number ≡ id
-written number r id made has = only (count_id number) id (subst (λ (ids : List ResourceId). Contains ids id) ((λ i. (made.step.declared i).writes) ∙ made.writes) has)
+written number r id made has = only (count_id number) id (subst (λ (ids : List ResourceId). Contains ids id) ((λ i. (made.step.1.declared i).writes) ∙ made.writes) has)
 
 -- the id of the count of the system's own number
 abbrev own_id : (number : ℕ) (r : Added) → Made number r → ResourceId
-own_id number r made = count_id made.step.old.0.number
+own_id number r made = count_id made.step.1.lies.0.0.number
 
 one_of : (number : ℕ) (r : Added) (made : Made number r) → IsOneMore (r.seen (own_id number r made)) (r.left (own_id number r made))
-one_of number r made = made.step.lies.0.1
+one_of number r made = made.step.1.lies.1.1.1.1.0.1
 
 -- where the step is Done, the system's own number is that of its count
-own_number : (number : ℕ) (r : Added) (made : Made number r) → number ≡ made.step.old.0.number
+own_number : (number : ℕ) (r : Added) (made : Made number r) → number ≡ made.step.1.lies.0.0.number
 own_number number r made =
     let one = one_of number r made in
     let own = own_id number r made in
     elim (is_contained tell_ids r.access.writes own) [
       | inl has ↦ ap (λ (id : ResourceId). id.dynamic_id) (written number r own made has)
-      | inr out ↦ absurd (other_number one.0 (ap number_of (sym one.2 ∙ made.step.frame own out ∙ one.1)))
+      | inr out ↦ absurd (other_number one.0 (ap number_of (sym one.2 ∙ made.step.1.frame own out ∙ one.1)))
     ]
 
 hit : (k : ℕ) (r : Added) → Made k r → Declares r.access (count_id k) × ((v : Only ℤ) → r.seen (count_id k) ≡ Some v → r.left (count_id k) ≡ Some (more v))
 hit k r made =
     let there : IsOneMore (r.seen (count_id k)) (r.left (count_id k)) = subst (λ (n : ℕ). IsOneMore (r.seen (count_id n)) (r.left (count_id n))) (sym (own_number k r made)) (one_of k r made) in (
-      inr (subst (λ (ids : List ResourceId). Contains ids (count_id k)) (sym ((λ i. (made.step.declared i).writes) ∙ made.writes)) (0, omega arith, refl)),
+      inr (subst (λ (ids : List ResourceId). Contains ids (count_id k)) (sym ((λ i. (made.step.1.declared i).writes) ∙ made.writes)) (0, omega arith, refl)),
       λ v seen. there.2 ∙ (let same : count_value there.0 ≡ v = (let before = there.1 in cc) in ap (λ w. Some (more w)) same),
     )
 
 miss : (k n : ℕ) (r : Added) → n ≢ k → Made n r → Declares r.access (count_id k) → r.left (count_id k) ≡ r.seen (count_id k)
-miss k n r other made declared = made.step.frame (count_id k) (λ has. other (ap (λ (id : ResourceId). id.dynamic_id) (written n r (count_id k) made has)))
+miss k n r other made declared = made.step.1.frame (count_id k) (λ has. other (ap (λ (id : ResourceId). id.dynamic_id) (written n r (count_id k) made has)))
 
 -- a plan of these systems, with them, and the counts of a world
 abbrev Adding : Type 0
@@ -138,8 +140,10 @@ never_begins most said refused says = absurd (let same : Err OutOfMemory ≡ Ok 
 dispatched_one_more : (most : ℕ) (before after : Adding) (k : ℕ) (number : ℤ) → HasOneForEach most before.plan → 0 < k → k ≤ most
     → Dispatched kind_of related dispatch_answer before (Ok tt) after → before.values (count_id k) ≡ Some (count_value number) → after.values (count_id k) ≡ Some (count_value (int_wrapping_add w64 number (pos 1)))
 dispatched_one_more most before after k number have above below ran here =
+    let alone = each-of (λ found. any-alone kind_of related (λ c d seen left most begins. never_begins most (Ok most) begins.0.refused refl) (occupants_of before found.0)) (entries_with_paths before.plan) in
+    let done = plan-done kind_of related ran.run.0 (occupants_of before) before.plan ran.list ran.run.1 alone in
     stepped Made more (count_id k) k (hit k) (miss k) (λ r. is_declared tell_ids r.access (count_id k)) have.numbers ran.list (configuration_in before) (configuration_in after) (count_value number)
-    (all_made have.numbers (entries_of_plan before.plan) ran.list have.entries (plan_done kind_of related (λ c d seen left most begins. never_begins most (Ok most) begins.0.refused refl) before.plan (occupants_of before) ran.list ran.run)) ran.replays here
+    (all_made have.numbers (entries_of_plan before.plan) ran.list have.entries (plan-steps kind_of related.steps before.plan ran.list done)) ran.replays here
     ∙ (let once : occurrences k have.numbers ≡ 1 = have.once k ∙ grind (arith, nat_tests) in ap (λ m. Some (steps_on more m (count_value number))) once)
 
 -- what is said of an answer that is no error

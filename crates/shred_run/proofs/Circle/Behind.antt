@@ -11,14 +11,11 @@ use Rattle.shred_table.specs.Shown.{Lent, HasOwnSlots, IsSameSlots}
 use Rattle.shred_table.specs.Slots.{slot_at, among, or_slot}
 use Rattle.shred_run.specs.declared.entry.Group.{Group}
 use Rattle.shred_run.specs.Hands.{IsMovedOut, IsBack, carried, some_writes}
-use Rattle.shred_run.specs.OwnSlots.{lent_before, HasOnlySlots}
-use Rattle.shred_world.specs.Views.{lent_slot}
-use Rattle.shred_run.specs.Steppers.{HasLoanSlots}
-use Rattle.shred_run.specs.declared.loan.Loan.{Loan}
+use Rattle.shred_run.specs.OwnSlots.{lent_before}
 use Rattle.shred_run.proofs.Runs.Forked.{same-written}
 use Rattle.shred_run.proofs.Runs.Zips.{zip-both}
 use Rattle.shred_run.proofs.Groups.Membership.{list_any_decides}
-use Rattle.shred_run.proofs.Inner.Turns.Before.{emptied-is, given-first, own-first, has-after}
+use Rattle.shred_run.proofs.Inner.Turns.Before.{emptied-is, given-first, own-first}
 
 module _ {V : Type 0} where
   -- a slot that is given a value is a slot still
@@ -43,13 +40,6 @@ module _ {V : Type 0} (lent : Lent V) (writes : List ResourceId) where
         told x y m inside q true e = ap carried (own-first (slot_at own q) (lent q) (has q (inside q (sym (same-written x y m.0 q) ∙ e))))
         told x y m inside q false e = refl
 
-  -- it has no other slot still
-  pub only-after : (own after : Table V) → HasOnlySlots writes own → (taken : ResourceId → Bool) → ((q : ResourceId) → slot_at after q ≡ cond (taken q) (emptied (slot_at own q)) (slot_at own q)) → HasOnlySlots writes after
-  only-after own after only taken left q out = left q ∙ told (taken q) (only q out) where
-    told : (b : Bool) → slot_at own q ≡ None → cond b (emptied (slot_at own q)) (slot_at own q) ≡ None
-    told true e = ap emptied e
-    told false e = e
-
   -- what is put back into the table is put back into what it shows before all that is lent
   pub back-before : {S : Type 0} (after end : Table V) → HasOwnSlots writes lent after → (ran : List (Group V S)) → Within ran → All (IsBack (slot_at after) (slot_at end)) ran → All (IsBack (lent_before after lent) (lent_before end lent)) ran
   back-before after end has ran within back k d below q there =
@@ -68,10 +58,3 @@ module _ {V : Type 0} (lent : Lent V) (writes : List ResourceId) where
         where
           put : (k : ℕ) (d : Group V S) → k < length ran → among (get_or ran k d).written.items q ≡ true → is_some (slot_at end q) ≡ is_some (slot_at after q)
           put k d below there = ap is_some (back k d below q there) ∙ given-is (slot_value (slot_at (get_or ran k d).hand q)) (slot_at after q)
-
--- a table that lost the values of groups has the slots of the loan still
-pub has-left : {V : Type 0} (loan : Loan V) (own after : Table V) → HasLoanSlots loan own → (taken : ResourceId → Bool) → ((q : ResourceId) → slot_at after q ≡ cond (taken q) (emptied (slot_at own q)) (slot_at own q)) → HasLoanSlots loan after
-has-left loan own after has taken left = record {
-  own_slots = has-after (lent_slot loan.shelf.now) loan.writes.now own after has.own_slots taken left;
-  only_own = only-after (lent_slot loan.shelf.now) loan.writes.now own after has.only_own taken left;
-}

@@ -8,15 +8,11 @@ use Rattle.shred_model.specs.States.{configuration_of, listed_states}
 use Rattle.shred_model.proofs.Joined.Ran.{Ran-as}
 use Rattle.shred_table.specs.declared.id.Kind.{Kind}
 use Rattle.shred_table.specs.declared.id.ResourceId.{ResourceId}
-use Rattle.shred_table.specs.declared.table.Table.{Table}
-use Rattle.shred_table.specs.Shown.{Lent, shown}
 use Rattle.shred_world.specs.Worked.{Held}
 use Rattle.shred_run.specs.declared.entry.StageFault.{StageFault}
 use Rattle.shred_run.specs.Entries.{EntryRun, GroupRun, StageRun, StageTurn}
 use Rattle.shred_run.specs.Steps.{Outcome, Step, Written, IsStep}
 use Rattle.shred_run.specs.Controls.{Control}
-use Rattle.shred_run.proofs.Inner.Deeper.{IsBatchWithin-weaker}
-use Rattle.shred_run.specs.BatchRuns.{RanAsBatch}
 use Rattle.shred_run.specs.Depths.{BatchStep}
 use Rattle.shred_run.specs.KeptControllers.{control_access}
 use Rattle.shred_run.specs.Rounds.{Rounds, BatchRun}
@@ -89,19 +85,4 @@ module _ {V X E : Type 0} (kind : V → Kind) (step wider : Step V X E) (weaker 
     same_plan = one.same_plan;
     same_ids = one.same_ids;
     same_depth = one.same_depth;
-  }
-
-  -- and where the lists may be kept also by another rule, so it is of a batch's run over a table
-  pub RanAsBatch-weaker : {C : Type 0} (own wider_own : X → List ResourceId → List ResourceId → Type 0) (keeps : (x : X) (reads writes : List ResourceId) → own x reads writes → wider_own x reads writes)
-      (control_reads control_writes : C → List ResourceId) (begins : Control V C ℕ E) (asks : Control V C Bool E) (reads writes : List ResourceId) (lent : Lent V) (old : OneBatch V C X) (before : Table V) (outcome : Outcome E) (new : OneBatch V C X) (after : Table V)
-      → RanAsBatch kind own step control_reads control_writes begins asks reads writes lent old before outcome new after → RanAsBatch kind wider_own wider control_reads control_writes begins asks reads writes lent old before outcome new after
-  RanAsBatch-weaker own wider_own keeps control_reads control_writes begins asks reads writes lent old before outcome new after one = record {
-    run = BatchRun-weaker kind asks (control_access old.control) (InnerRun kind step) (InnerRun kind wider) InnerRun-weaker begins old.control.controller old.tiers.items (shown kind lent before) outcome new.control.controller new.tiers.items (shown kind lent after) one.run;
-    same_access = one.same_access;
-    same_plan = one.same_plan;
-    same_depth = one.same_depth;
-    kinds = one.kinds;
-    slots = one.slots;
-    frame = one.frame;
-    within = IsBatchWithin-weaker own wider_own keeps reads writes control_reads control_writes new one.within;
   }

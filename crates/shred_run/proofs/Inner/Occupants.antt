@@ -1,10 +1,8 @@
 -- What stands in an entry of a plan with batches, to the depth that is noted of it.
-use Rattle.std.proofs.Common.{◌≡◌, ℕ, zero, suc, List, None, refl}
+use Rattle.std.proofs.Common.{ℕ, zero, suc, List, None}
 use Rattle.std.specs.List.{All}
 use Rattle.shred_table.specs.declared.id.ResourceId.{ResourceId}
-use Rattle.shred_world.specs.Worked.{Held}
 use Rattle.shred_run.specs.OwnLists.{declared_lists, IsGroupOf}
-use Rattle.shred_run.specs.Steps.{Outcome, Step}
 use Rattle.shred_run.specs.Depths.{Declared, Owns}
 use Rattle.shred_run.specs.Works.{IsTierWithin}
 use Rattle.shred_run.specs.declared.work.Nested.{Nested}
@@ -12,10 +10,9 @@ use Rattle.shred_run.specs.declared.work.Tier.{Tier}
 use Rattle.shred_run.specs.declared.work.Work.{Work}
 use Rattle.shred_run.specs.declared.work.Work.TheVariants.{System, Batch}
 use Rattle.shred_run.specs.Nesting.{EachWork, IsNoDeeper}
-use Rattle.shred_run.specs.OwnDepth.{OwnsItself, depth_of}
+use Rattle.shred_run.specs.OwnDepth.{OwnsItself}
 use Rattle.shred_run.specs.Rules.{GroupNests}
 use Rattle.shred_run.specs.declared.entry.Group.{Group}
-use Rattle.shred_run.specs.WorkSetups.{WorkSetup}
 
 -- a system may be kept with what it declares
 pub system-owns : {S C : Type 0} (V : Type 0) (declared : Declared S C) (system : S) (reads writes : List ResourceId) → declared_lists declared.reads declared.writes system reads writes → OwnsItself {V = V} declared (System system) reads writes
@@ -38,14 +35,3 @@ module _ {V S C : Type 0} (declared : Declared S C) where
   -- so it is in groups whose entries are followed to the depth that is noted of them
   pub groups-nest : (groups : List (Group V (Work S (Nested V S C)))) → All (IsGroupOf (OwnsItself declared)) groups → All (GroupNests None) groups
   groups-nest groups owned = λ k group below. λ n entry under. no-deeper _ _ _ _ (owned k group below n entry under).lists
-
-module _ {V S C E : Type 0} (system : Step V S E) (control : Step V C E) where
-  -- what was set up has the depth that it had
-  pub setup-depth : (depth : ℕ) (old : Work S (Nested V S C)) (before : Held V) (outcome : Outcome E) (new : Work S (Nested V S C)) (after : Held V) → WorkSetup system control depth old before outcome new after → depth_of new ≡ depth_of old
-  unfolding WorkSetup
-  setup-depth depth (System s) before outcome (System t) after lies = refl
-  setup-depth depth (System s) before outcome (Batch t) after lies = absurd lies
-  setup-depth zero (Batch s) before outcome (System t) after lies = absurd lies
-  setup-depth (suc less) (Batch s) before outcome (System t) after lies = absurd lies
-  setup-depth zero (Batch s) before outcome (Batch t) after lies = absurd lies
-  setup-depth (suc less) (Batch s) before outcome (Batch t) after lies = lies.same_depth

@@ -28,7 +28,6 @@ use Rattle.shred_run.specs.declared.work.Work.{Work}
 use Rattle.shred_run.specs.declared.work.Work.TheVariants.{System, Batch}
 use Rattle.shred_run.proofs.Inner.Deeper.{deep}
 use Rattle.shred_run.proofs.Inner.Turns.Tiers.{same-written_plan}
-use Rattle.shred_run.specs.OwnDepth.{depth_of}
 use Rattle.shred_run.specs.Owned.{HasOwnGroups, IsOwned, StaysOwned, StayTiers}
 use Rattle.shred_run.specs.WorkSetups.{BatchSetup, WorkSetup}
 
@@ -113,10 +112,6 @@ module _ {V S C E : Type 0} (system : Step V S E) (control : Step V C E) where
       subst (λ (w : Work S (Nested V S C)). WorkSetup system control depth w before outcome (Batch left) after) (sym is_batch)
       (subst (λ (n : ℕ). WorkSetup system control n (Batch nested) before outcome (Batch left) after) (sym deeper)
       (subst (λ (b : OneBatch V C (Work S (Nested V S C))). BatchSetup (WorkSetup system control less) control (batch_of nested) before outcome b after) (sym is) one))
-
-  -- what was set up has the depth that it had
-  pub depth-after_setup : (depth : ℕ) (old : Work S (Nested V S C)) (left : Nested V S C) (ended : OneBatch V C (Work S (Nested V S C))) (nested : Nested V S C) → old ≡ Batch nested → batch_of left ≡ ended → ended.depth ≡ (batch_of nested).depth → depth_of {V = V} {S = S} {C = C} (Batch left) ≡ depth_of old
-  depth-after_setup depth old left ended nested is same stays = ap (λ (b : OneBatch V C (Work S (Nested V S C))). b.depth) same ∙ stays ∙ sym (ap depth_of is)
 
 module _ {V X E : Type 0} (own : X → List ResourceId → List ResourceId → Type 0) (setup : Step V X E) where
   -- a tier's groups were set up

@@ -20,7 +20,7 @@ use Rattle.shred_run.specs.NestedRecords.{NestedRecord}
 use Rattle.shred_run.specs.NestedRuns.{NestedBatchRun, NestedEntryRun, NestedGroupRun, NestedPlanRun, NestedRun, NestedStageTurn, OccupantRun}
 use Rattle.shred_run.specs.Occupants.{Occupant, Occupants, a_batch, a_system, inside_at}
 use Rattle.shred_run.specs.WithinEntries.{IsNoMore, IsWithinEntries}
-use Rattle.shred_run.specs.Dispatched.{IsRunOf}
+use Rattle.shred_run.specs.Dispatched.{IsPlanRun}
 use Rattle.shred_run.proofs.Paths.Fits.{EntryFits, Fits, GroupFits, OccupantFits, PlanFits, PlanFitsThroughout, StageFits}
 use Rattle.shred_run.proofs.Paths.Opened.Runs.{EachAt, With, Each-with, RunsEach-each, RunsUpToFault-each, UpToFault-with}
 use Rattle.shred_run.proofs.Paths.Within.{batch-all, entry_within, nested_within, group_within}
@@ -183,7 +183,7 @@ module _ {V S C E : Type 0} (kind : V → Kind) (related : Related V S C E) wher
   run-inside depth answers all plan list answer fits run = plan-inside (NestedRun true kind related depth) (Fits depth) (nested_within kind related depth) (Inside depth) (nested-inside depth) answers all plan list answer fits run
 
   -- Each record of a plan's run, of what fits its entries, declares no id, and writes none, that an entry that its agent is inside of does not.
-  pub within-entries : {F : Type 0} (answers : ℕ → Answer (StageFault E) → Answer F) (plan : model.Plan ResourceId) (occupants : Occupants) (list : List (NestedRecord V S C E)) (answer : Answer F) → PlanFitsThroughout occupants plan → IsRunOf kind related answers plan occupants list answer
+  pub within-entries : {F : Type 0} (answers : ℕ → Answer (StageFault E) → Answer F) (plan : model.Plan ResourceId) (occupants : Occupants) (list : List (NestedRecord V S C E)) (answer : Answer F) → PlanFitsThroughout occupants plan → IsPlanRun kind related answers plan occupants list answer
       → AllByRecursion (λ r. IsWithinEntries occupants plan r.agent r.access) list
   within-entries answers plan occupants list answer fits (depth, run) = AllByRecursion-weaker (λ r. InPlan (Inside depth) occupants plan r.agent r.access) (λ r. IsWithinEntries occupants plan r.agent r.access)
       (λ r h. entries-within depth occupants plan r.agent r.access h) list (run-inside depth answers occupants plan list answer (fits depth) run)

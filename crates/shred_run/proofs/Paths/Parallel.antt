@@ -15,7 +15,7 @@ use Rattle.shred_run.specs.NestedRecords.{NestedRecord}
 use Rattle.shred_run.specs.Occupants.{Occupant, Occupants, a_batch, a_system}
 use Rattle.shred_run.specs.Parallel.{AreParallel}
 use Rattle.shred_run.specs.WithinEntries.{IsNoMore}
-use Rattle.shred_run.specs.Dispatched.{IsRunOf}
+use Rattle.shred_run.specs.Dispatched.{IsPlanRun}
 use Rattle.shred_run.proofs.Paths.Entries.{InOccupant, InPlan, Inside, run-inside}
 use Rattle.shred_run.proofs.Paths.Fits.{PlanFitsThroughout}
 
@@ -82,7 +82,7 @@ inside-apart (suc less) all = occupant-apart (InPlan (Inside less) all) (λ plan
 module _ {V S C E : Type 0} (kind : V → Kind) (related : Related V S C E) where
   -- Any two records of a plan's run, of agents inside different groups of one stage, are independent, where the groups of each stage of the plan do not conflict.
   pub parallel-independent : {F : Type 0} (answers : ℕ → Answer (StageFault E) → Answer F) (plan : model.Plan ResourceId) (occupants : Occupants) (list : List (NestedRecord V S C E)) (answer : Answer F) → All (AreApart model.group_access) plan → PlanFitsThroughout occupants plan
-      → IsRunOf kind related answers plan occupants list answer → (j k : ℕ) (r q : NestedRecord V S C E) → slice_get list j ≡ Some r → slice_get list k ≡ Some q → AreParallel r.agent q.agent → Independent r q
+      → IsPlanRun kind related answers plan occupants list answer → (j k : ℕ) (r q : NestedRecord V S C E) → slice_get list j ≡ Some r → slice_get list k ≡ Some q → AreParallel r.agent q.agent → Independent r q
   parallel-independent answers plan occupants list answer apart fits (depth, run) j k r q at_j at_k parallel =
       let within = run-inside kind related depth answers occupants plan list answer (fits depth) run in
       let In = λ (p : NestedRecord V S C E). InPlan (Inside depth) occupants plan p.agent p.access in

@@ -7,10 +7,10 @@ use Rattle.shred_table.specs.declared.id.ResourceId.{ResourceId}
 use Rattle.shred_table.specs.declared.table.Slot.{Slot}
 use Rattle.shred_table.specs.declared.table.Table.{Table}
 use Rattle.shred_table.specs.Parting.{emptied, given, slot_value, IsEmptyHand}
-use Rattle.shred_table.specs.Shown.{Lent, shown, IsSameSlots, HasOwnSlots}
+use Rattle.shred_table.specs.Shown.{Lent, shown, IsSameSlots}
 use Rattle.shred_table.specs.Slots.{slot_at, slot_held, among, or_slot}
 use Rattle.shred_run.specs.Hands.{carried}
-use Rattle.shred_run.specs.OwnSlots.{lent_held, HasOnlySlots}
+use Rattle.shred_run.specs.OwnSlots.{lent_held}
 use Rattle.shred_run.proofs.Runs.HandSlots.{moved-in}
 use Rattle.shred_run.proofs.Runs.Forked.{hand-shows, hand-puts}
 
@@ -28,12 +28,6 @@ module _ {V : Type 0} (before after : Lent V) (writes : List ResourceId) (room h
 
   some_is : (q : ResourceId) → is_some (slot_at hand q) ≡ among writes q
   some_is q = ap is_some (moved q) ∙ there (among writes q) (before q)
-
-  pub own-slots : HasOwnSlots writes after hand
-  own-slots q is none = absurd (let e = sym (some_is q ∙ is) ∙ ap is_some none in cc)
-
-  pub only-slots : HasOnlySlots writes hand
-  only-slots q out = moved q ∙ ap (λ (b : Bool). cond b (carried (before q)) None) out
 
   -- the hand, before what is left, shows what was held
   pub shows-held : (kind : V → Kind) (q : ResourceId) → shown kind after hand q ≡ lent_held kind before q

@@ -42,15 +42,6 @@ module _ {V : Type 0} where
   room-of_empty true h None there empty = absurd (let e = there refl in cc)
   room-of_empty false h s there empty = empty
 
-  -- a hand that had room, was filled, kept its slots and was emptied is as it was
-  pub empty-again : (b : Bool) (h s filled ran left : Option (Slot V)) → h ≡ cond b (Some (record { value = None })) None → h ≡ cond b (emptied s) None → filled ≡ cond b s None → is_some ran ≡ is_some filled → left ≡ emptied ran
-      → left ≡ cond b (Some (record { value = None })) None
-  empty-again true h None filled ran left empty room was same is = absurd (cc)
-  empty-again true h (Some s) filled (Some r) left empty room was same is = is
-  empty-again true h (Some s) filled None left empty room was same is = absurd (let e = same ∙ ap is_some was in cc)
-  empty-again false h s filled (Some r) left empty room was same is = absurd (let e = same ∙ ap is_some was in cc)
-  empty-again false h s filled None left empty room was same is = is
-
   module _ (kind : V → Kind) (q : ResourceId) where
     -- a hand's slot holds what the table's held
     pub carried-held : (s : Option (Slot V)) → slot_held kind q s ≡ slot_held kind q (carried s)

@@ -1,4 +1,4 @@
--- The step of an entry's system, as a record.
+-- The step of an entry's work, as a record.
 use Rattle.std.proofs.Common.{◌≡◌, Bool, true, false, cond, ◌||◌, [], Option, None, inl, inr, refl, ap}
 use Rattle.std.specs.Option.{option_map}
 use Rattle.shred_model.specs.Access.{Access, Declares}

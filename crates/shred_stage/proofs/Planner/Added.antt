@@ -16,10 +16,6 @@ own_is_new {X} x = ([], record { was_free = refl; stands = refl; others = others
   others (n ∷ path) ne = refl
 
 module _ {Y X : Type 0} (at : Y → Agent → Option X) where
-  pub listed_states-none : (path : Agent) → listed_states at [] path ≡ None
-  listed_states-none [] = refl
-  listed_states-none (n ∷ path) = refl
-
   free_past : (ys : List Y) (path : Agent) → listed_states at ys (length ys ∷ path) ≡ None
   free_past [] path = refl
   free_past (y ∷ ys) path = free_past ys path

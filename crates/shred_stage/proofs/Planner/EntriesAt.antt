@@ -45,7 +45,7 @@ plan_states-of =
     listed_states-of group_entries group_states (λ e. e.work) (λ group.
     listed_states-of own_state entry_states (λ e. e.work) (own_mapped (λ e. e.work)) group.entries.items) stage.groups.items)
 
--- where an entry is new, what is planned of it and its system are
+-- where an entry is new, what is planned of it and its work are
 pub added_with : {V S C N A M B : Type 0} {vd : _} {sd : _} {ad : _} {cd : _} {bd : _} (old new : List (Stage V S C N A M B vd sd ad cd bd)) (entry : GroupEntry V (Work S (Nested V S C))) (system : Work S (Nested V S C)) → entry.work ≡ system → IsNew (plan_entries old) (plan_entries new) entry
     → IsAdded (plan_of old) (plan_of new) (plan_states old) (plan_states new) (entry_plan entry) system
 added_with old new entry system same is = record {

@@ -107,7 +107,7 @@ abbrev own_id : (number : ℕ) (r : Added) → Made number r → ResourceId
 own_id number r made = count_id made.step.1.lies.0.0.number
 
 one_of : (number : ℕ) (r : Added) (made : Made number r) → IsOneMore (r.seen (own_id number r made)) (r.left (own_id number r made))
-one_of number r made = made.step.1.lies.1.1.1.1.0.1
+one_of number r made = made.step.1.lies.4.0.1
 
 -- where the step is Done, the system's own number is that of its count
 own_number : (number : ℕ) (r : Added) (made : Made number r) → number ≡ made.step.1.lies.0.0.number

@@ -105,16 +105,20 @@ fn told(
     text_of(alloc, &Told { names, error })
 }
 
+/// A refusal of the system of this id.
+fn refused(id: usize) -> DispatchError<u8> {
+    DispatchError::System {
+        id: SystemId(id),
+        fault: Fault::Refused(7),
+    }
+}
+
 #[test]
 fn an_error_is_told_by_the_name_of_its_system(rt: HostRuntime) -> Result<(), Fail> {
     let (_, names) = built_with_names(built(&rt, rt.alloc(), FIVE)?);
-    let refused = |id: usize, code: u8| DispatchError::System {
-        id: SystemId(id),
-        fault: Fault::Refused(code),
-    };
-    let text = told(rt.alloc(), &names, &refused(2, 7))?;
+    let text = told(rt.alloc(), &names, &refused(2))?;
     assert_eq!(rt; text.as_str(), "system \"c\" refused: 7");
-    let text = told(rt.alloc(), &names, &refused(5, 7))?;
+    let text = told(rt.alloc(), &names, &refused(5))?;
     assert_eq!(rt; text.as_str(), "system 5 refused: 7");
     let local = DispatchError::ThreadLocal {
         index: 1,

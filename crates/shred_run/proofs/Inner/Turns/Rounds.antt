@@ -1,6 +1,6 @@
--- Rounds of a batch: what a call of the controller, and a run of the inner plan, make of the rounds that are left.
+-- What a batch's rounds keep, and what a call of its controller and a run of its inner plan do.
 use Rattle.std.specs.Prelude.{List, Result}
-use Rattle.std.proofs.Common.{◌≡◌, ℕ, zero, suc, Bool, true, false, Ok, Err, refl, sym, ◌∙◌, ap, subst}
+use Rattle.std.proofs.Common.{◌≡◌, ℕ, zero, suc, Bool, true, false, Ok, Err, refl, sym, ◌∙◌, ap}
 use Rattle.shred_model.specs.Access.{Access}
 use Rattle.shred_model.specs.Runs.{Answer}
 use Rattle.shred_table.specs.declared.id.Kind.{Kind}
@@ -21,30 +21,7 @@ use Rattle.shred_run.specs.declared.control.KeptController.{KeptController}
 use Rattle.shred_run.specs.declared.loan.Loan.{Loan}
 use Rattle.shred_run.specs.declared.work.Tier.{Tier}
 use Rattle.shred_run.proofs.Inner.Turns.Tiers.{keeps-more}
-use Rattle.shred_run.specs.Rounds.{IsControlOver, Rounds, BatchRun, fault_within}
-
-module _ {V C P E : Type 0} (kind : V → Kind) (asks : Control V C Bool E) (access : Access ResourceId) (Inner : P → Held V → Answer (StageFault E) → P → Held V → Type 0) where
-  -- where none is left, the batch is Done
-  pub none-left : (left : ℕ) → left ≡ 0 → (c : C) (p : P) (m : Held V) → Rounds kind asks access Inner left c p m (Ok tt) c p m
-  none-left left is c p m = subst (λ n. Rounds kind asks access Inner n c p m (Ok tt) c p m) (sym is) (refl, refl, refl, refl)
-
-  module _ (left more : ℕ) (is : left ≡ suc more) (c e : C) (p : P) (m k : Held V) where
-    -- on no it is Done
-    pub on-no : IsControlOver kind asks access c m (Ok false) e k → Rounds kind asks access Inner left c p m (Ok tt) e p k
-    on-no one = subst (λ n. Rounds kind asks access Inner n c p m (Ok tt) e p k) (sym is) (Ok false, e, k, one, (refl, refl, refl, refl))
-
-    -- a fault of the controller ends it
-    pub on-fault : (fault : Fault E) → IsControlOver kind asks access c m (Err fault) e k → Rounds kind asks access Inner left c p m (Err fault) e p k
-    on-fault fault one = subst (λ n. Rounds kind asks access Inner n c p m (Err fault) e p k) (sym is) (Err fault, e, k, one, (refl, refl, refl, refl))
-
-    module _ (one : IsControlOver kind asks access c m (Ok true) e k) (r : P) (l : Held V) where
-      -- a fault of the inner plan ends it
-      pub on-inner_fault : (fault : StageFault E) → Inner p k (Err fault) r l → Rounds kind asks access Inner left c p m (Err (fault_within fault)) e r l
-      on-inner_fault fault inner = subst (λ n. Rounds kind asks access Inner n c p m (Err (fault_within fault)) e r l) (sym is) (Ok true, e, k, one, (Err fault, r, l, inner, (refl, refl, refl, refl)))
-
-      -- a round that is Done is followed by those that are left
-      pub on-yes : Inner p k (Ok tt) r l → (o : Outcome E) (d : C) (q : P) (n : Held V) → Rounds kind asks access Inner more e r l o d q n → Rounds kind asks access Inner left c p m o d q n
-      on-yes inner o d q n rest = subst (λ s. Rounds kind asks access Inner s c p m o d q n) (sym is) (Ok true, e, k, one, (Ok tt, r, l, inner, rest))
+use Rattle.shred_run.specs.Rounds.{IsControlOver, Rounds, BatchRun}
 
 module _ {V C P E : Type 0} (kind : V → Kind) (asks : Control V C Bool E) (access : Access ResourceId) (Inner : P → Held V → Answer (StageFault E) → P → Held V → Type 0)
     {K : Type 0} (view : P → K) (kept : (p : P) (m : Held V) (a : Answer (StageFault E)) (r : P) (l : Held V) → Inner p m a r l → view r ≡ view p) where

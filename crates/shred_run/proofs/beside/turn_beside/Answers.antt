@@ -1,11 +1,9 @@
 use Rattle.std.proofs.Common.{arith}
 use Rattle.shred_table.specs.Slots.{slot_at}
-use Rattle.shred_run.specs.OwnDepth.{OwnStep, OwnsItself}
 use Rattle.shred_run.proofs.Runs.Forked.{write-apart}
 use Rattle.shred_run.proofs.Runs.ForkedRuns.{ready-all, forked-apart, forked-fits}
 use Rattle.shred_run.proofs.Runs.TakenTurns.{turn-taken}
 use Rattle.shred_run.proofs.beside.turn_beside.Goals as goal
-use Rattle.shred_run.specs.Depths.{relations_of, lists_of}
 
 pub move_groups_out-requires-clause-apart : goal.move_groups_out-requires-clause-apart
 move_groups_out-requires-clause-apart g c = write-apart c.args.groups.now c.requires.room c.requires.apart
@@ -14,21 +12,14 @@ pub move_groups_out-requires-clause-empty : goal.move_groups_out-requires-clause
 move_groups_out-requires-clause-empty g c = λ k d below. (c.requires.room k d below).empty
 
 pub run_groups-answer-requires-clause-ready : goal.run_groups-answer-requires-clause-ready
-run_groups-answer-requires-clause-ready g c = λ κs bounds.
-    (omega arith, (ready-all (OwnsItself (lists_of g.S.System.reads g.S.System.writes g.C.BatchController.reads g.C.BatchController.writes)) (slot_at c.args.table.now) (slot_at c.move_groups_out.new.table) c.args.groups.now c.move_groups_out.new.groups c.requires.room c.requires.own_lists c.move_groups_out.ensures.hands c.move_groups_out.ensures.left))
+run_groups-answer-requires-clause-ready g c = λ κs bounds. (omega arith, ready-all _ (slot_at c.args.table.now) (slot_at c.move_groups_out.new.table) c.args.groups.now c.move_groups_out.new.groups c.requires.room c.requires.own_lists c.move_groups_out.ensures.hands c.move_groups_out.ensures.left)
 
 pub move_groups_back-requires-clause-apart : goal.move_groups_back-requires-clause-apart
-move_groups_back-requires-clause-apart g c =
-    forked-apart g.V.ResourceValue.kind_of (OwnStep g.V.ResourceValue.kind_of (relations_of (lists_of g.S.System.reads g.S.System.writes g.C.BatchController.reads g.C.BatchController.writes) g.S.System.step g.C.BatchController.begins g.C.BatchController.asks)) (OwnsItself (lists_of g.S.System.reads g.S.System.writes g.C.BatchController.reads g.C.BatchController.writes)) (slot_at c.args.table.now) (slot_at c.move_groups_out.new.table) c.args.groups.now c.move_groups_out.new.groups c.run_groups-answer.new.groups c.run_groups-answer.result
-    c.requires.apart c.requires.room c.move_groups_out.ensures.hands c.move_groups_out.ensures.left c.run_groups-answer.ensures
+move_groups_back-requires-clause-apart g c = forked-apart _ _ _ (slot_at c.args.table.now) (slot_at c.move_groups_out.new.table) c.args.groups.now c.move_groups_out.new.groups c.run_groups-answer.new.groups c.run_groups-answer.result c.requires.apart c.requires.room c.move_groups_out.ensures.hands c.move_groups_out.ensures.left c.run_groups-answer.ensures
 
 pub move_groups_back-requires-clause-fit : goal.move_groups_back-requires-clause-fit
-move_groups_back-requires-clause-fit g c =
-    forked-fits g.V.ResourceValue.kind_of (OwnStep g.V.ResourceValue.kind_of (relations_of (lists_of g.S.System.reads g.S.System.writes g.C.BatchController.reads g.C.BatchController.writes) g.S.System.step g.C.BatchController.begins g.C.BatchController.asks)) (OwnsItself (lists_of g.S.System.reads g.S.System.writes g.C.BatchController.reads g.C.BatchController.writes)) (slot_at c.args.table.now) (slot_at c.move_groups_out.new.table) c.args.groups.now c.move_groups_out.new.groups c.run_groups-answer.new.groups c.run_groups-answer.result
-    c.requires.apart c.requires.room c.move_groups_out.ensures.hands c.move_groups_out.ensures.left c.run_groups-answer.ensures
+move_groups_back-requires-clause-fit g c = forked-fits _ _ _ (slot_at c.args.table.now) (slot_at c.move_groups_out.new.table) c.args.groups.now c.move_groups_out.new.groups c.run_groups-answer.new.groups c.run_groups-answer.result c.requires.apart c.requires.room c.move_groups_out.ensures.hands c.move_groups_out.ensures.left c.run_groups-answer.ensures
 
 pub returns : goal.returns
-returns g c =
-    turn-taken g.V.ResourceValue.kind_of (OwnStep g.V.ResourceValue.kind_of (relations_of (lists_of g.S.System.reads g.S.System.writes g.C.BatchController.reads g.C.BatchController.writes) g.S.System.step g.C.BatchController.begins g.C.BatchController.asks)) (OwnsItself (lists_of g.S.System.reads g.S.System.writes g.C.BatchController.reads g.C.BatchController.writes)) (slot_at c.args.table.now) (slot_at c.move_groups_out.new.table) c.args.groups.now c.move_groups_out.new.groups c.run_groups-answer.new.groups c.run_groups-answer.result
-    c.requires.apart c.requires.room c.move_groups_out.ensures.hands c.move_groups_out.ensures.left c.run_groups-answer.ensures
+returns g c = turn-taken _ _ _ (slot_at c.args.table.now) (slot_at c.move_groups_out.new.table) c.args.groups.now c.move_groups_out.new.groups c.run_groups-answer.new.groups c.run_groups-answer.result c.requires.apart c.requires.room c.move_groups_out.ensures.hands c.move_groups_out.ensures.left c.run_groups-answer.ensures
     (slot_at c.move_groups_back.new.table) c.move_groups_back.new.groups c.move_groups_back.ensures.back c.move_groups_back.ensures.others c.move_groups_back.ensures.hands

@@ -40,6 +40,7 @@ use shred_world::{ResourceId, ResourceValue, Shelf, Table};
 use std::thread::Threads;
 
 // One step of what stands in an entry, a system or a batch, over a table that has what may be written and nothing else.
+#[inline(always)]
 #[cycle(beside)]
 fn run_work<
     's,

@@ -95,6 +95,7 @@ pub(crate) fn call_over<V: ResourceValue, C, A, E, K: Call<V, C, A, E>>(
 }
 
 // One step of a system, over a table that has what it writes and nothing else.
+#[inline(always)]
 pub(crate) fn run_system<V: ResourceValue, S: System<V>>(
     loan: &Loan<V>,
     system: &mut S,

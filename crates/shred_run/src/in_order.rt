@@ -38,6 +38,7 @@ use shred_world::parting::{move_back, move_out};
 use shred_world::{ResourceId, ResourceValue, Shelf, Table};
 
 // One step of what stands in an entry, a system or a batch, over a table that has what may be written and nothing else.
+#[inline(always)]
 #[cycle(in_order)]
 fn run_work<
     's,

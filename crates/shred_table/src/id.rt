@@ -86,6 +86,11 @@ impl ResourceId {
         self.dynamic_id
     }
 
+    // The place that it has in a list of ids whose kinds and numbers count on without gaps.
+    pub(crate) fn likely_place(self) -> usize {
+        (self.kind.0 as usize).wrapping_add(self.dynamic_id as usize)
+    }
+
     /// A list of this id alone.
     pub fn listed(self, alloc: Global) -> Result<Vec<ResourceId>, OutOfMemory>
         ensures { IfOk result (λ ids. ids.items ≡ self ∷ []) }

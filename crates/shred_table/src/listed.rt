@@ -56,13 +56,17 @@ impl<V> Listed<V> {
         Err(low)
     }
 
-    // The same, where a place is looked at first.
+    // The same, where a place is looked at first, and then the one that the id has where ids are numbered without gaps.
     fn place_near(&self, id: ResourceId, near: usize) -> Result<usize, usize>
         ensures found { IfOk result (IsPlaceOf id self.now.slots.items) }
         ensures gap { IfErr result (IsGapFor id self.now.slots.items) }
     {
         if near < self.slots.len() && self.slots[near].0 == id {
             return Ok(near);
+        }
+        let likely = id.likely_place();
+        if likely < self.slots.len() && self.slots[likely].0 == id {
+            return Ok(likely);
         }
         self.place(id)
     }
@@ -79,7 +83,14 @@ impl<V> Listed<V> {
     pub(crate) fn get(&self, id: ResourceId) -> Option<&Slot<V>>
         ensures { option_copied result ≡ listed_at self.now id }
     {
-        match self.place(id) {
+        self.get_near(id, 0)
+    }
+
+    // The same, where a place is looked at first.
+    pub(crate) fn get_near(&self, id: ResourceId, near: usize) -> Option<&Slot<V>>
+        ensures { option_copied result ≡ listed_at self.now id }
+    {
+        match self.place_near(id, near) {
             Ok(place) => Some(&self.slots[place].1),
             Err(_) => None,
         }

@@ -131,6 +131,13 @@ impl<V> Table<V> {
         self.slots.get(id)
     }
 
+    /// The same, where a place is looked at first.
+    pub fn slot_near(&self, id: ResourceId, near: usize) -> Option<&Slot<V>>
+        ensures { option_copied result ≡ slot_at self.now id }
+    {
+        self.slots.get_near(id, near)
+    }
+
     /// The value that is held under an id.
     pub fn get(&self, id: ResourceId) -> Option<&V>
     where
@@ -203,7 +210,7 @@ impl<V> Table<V> {
     }
 
     // The slot of an id, to write. A place is looked at first.
-    pub(crate) fn slot_near(&mut self, id: ResourceId, near: usize) -> Option<&mut Slot<V>>
+    pub(crate) fn slot_mut_near(&mut self, id: ResourceId, near: usize) -> Option<&mut Slot<V>>
         ensures shown { option_copied_mut result ≡ slot_at self.old id }
         ensures* written { sem 𝓛 (LendsSlot V.row self.entry id result) }
     {
@@ -284,7 +291,7 @@ pub(crate) fn take_near<V>(table: &mut Table<V>, id: ResourceId, near: usize) ->
     ensures slots { (q : ResourceId) → slot_at table.new q ≡ with_at (slot_at table.old) id (emptied (slot_at table.old id)) q }
     ensures noted { (q : ResourceId) → noted_in table.new q ≡ noted_in table.old q }
 {
-    match table.slot_near(id, near) {
+    match table.slot_mut_near(id, near) {
         Some(slot) => slot.value.take(),
         None => None,
     }
@@ -303,7 +310,7 @@ pub(crate) fn fill_near<V: Drop>(table: &mut Table<V>, id: ResourceId, near: usi
     ensures slots { (q : ResourceId) → slot_at table.new q ≡ with_at (slot_at table.old) id (filled value (slot_at table.old id)) q }
     ensures noted { (q : ResourceId) → noted_in table.new q ≡ noted_in table.old q }
 {
-    if let Some(slot) = table.slot_near(id, near) {
+    if let Some(slot) = table.slot_mut_near(id, near) {
         slot.value = Some(value);
     }
 }
@@ -343,7 +350,20 @@ pub fn resource_mut<V: ResourceValue, R: Resource<V>>(
     ensures missing { R.KIND ≡ id_kind id → IfNone result (held V.kind_of table.old id ≡ None) }
     ensures* written { sem 𝓛 (LendsHeld V.row R.row R.wrapped table.entry id result) }
 {
-    let slot = table.slot_mut(id)?;
+    resource_mut_near(table, id, 0)
+}
+
+/// The same, where a place is looked at first.
+pub fn resource_mut_near<V: ResourceValue, R: Resource<V>>(
+    table: &mut Table<V>,
+    id: ResourceId,
+    near: usize,
+) -> Option<&mut R>
+    ensures shown { IfSome result (λ r. slot_at table.old id ≡ Some (record { value = Some (R.wrapped r.now) })) }
+    ensures missing { R.KIND ≡ id_kind id → IfNone result (held V.kind_of table.old id ≡ None) }
+    ensures* written { sem 𝓛 (LendsHeld V.row R.row R.wrapped table.entry id result) }
+{
+    let slot = table.slot_mut_near(id, near)?;
     slot.resource_mut()
 }
 

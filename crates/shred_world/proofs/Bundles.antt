@@ -3,3 +3,4 @@ pub mod Grants
 pub mod Parts
 pub mod Both
 pub mod Worked
+pub mod Kept

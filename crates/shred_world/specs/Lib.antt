@@ -4,6 +4,7 @@ pub mod Views
 pub mod Worlds
 pub mod Beside
 pub mod OwnViews
+pub mod KeptViews
 pub mod Worked
 pub mod Entries
 pub mod Grants

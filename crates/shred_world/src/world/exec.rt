@@ -1,7 +1,9 @@
-//! Bundles of a world: their setup, and calls with them.
-ghost use Rattle.std.specs.Prelude.{◌≡◌, Option, Ok};
+//! Bundles of worlds and views: their setup, and calls with them.
+ghost use Rattle.std.specs.Prelude.{◌≡◌, List, Option, Ok};
 ghost use Rattle.shred_world.specs.Executed.{IsCalled, IsHeldAfter, IsExecuted, MayCall, KeepsIds};
 ghost use Rattle.shred_world.specs.Grants.{grant_of, map_grant};
+ghost use Rattle.shred_world.specs.KeptViews.{KeepsView};
+ghost use Rattle.shred_world.specs.OwnViews.{IsLent};
 ghost use Rattle.shred_table.specs.Slots.{held};
 ghost use Rattle.shred_world.specs.Views.{table_of, IsSameLoan};
 ghost use Rattle.shred_world.specs.Worlds.{world_held};
@@ -56,27 +58,32 @@ where
     ensures { IsHeldAfter F.FnOnce run D.shows D.moved D.parts (held V.kind_of own.old) result (held V.kind_of own.new) }
 {
     let mut view = View::whole(own);
-    call_on(&mut view, run)
+    view.exec(run)
 }
 
-// One call with a bundle of what a view shows.
-fn call_on<'s, V: ResourceValue + 's, D: SystemData<'s, V>, A, F: FnOnce(&mut D) -> A>(
-    view: &mut View<'s, '_, V>,
-    run: F,
-) -> Result<A, DataError>
-where
-    F: Drop,
-    requires callable { MayCall F.FnOnce run D.shows D.moved (grant_of V.kind_of view.old) D.parts }
-    requires kept { KeepsIds F.FnOnce run D.shows D.moved (grant_of V.kind_of view.old) D.parts }
-    ensures called { IsCalled F.FnOnce run D.shows D.moved D.parts (grant_of V.kind_of view.old) result (grant_of V.kind_of view.new) }
-    ensures table { table_of view.new ≡ table_of view.old }
-    ensures loan { IsSameLoan view.old view.new }
-{
-    let mut bundle = match view.system_data::<D>() {
-        Ok(bundle) => bundle,
-        Err(error) => return Err(error),
-    };
-    let answer = run(&mut bundle);
-    view.give_back(bundle);
-    Ok(answer)
+impl<'s, 'a, V: ResourceValue + 's> View<'s, 'a, V> {
+    /// Takes the bundle of the view, calls the closure once with it, and gives it back; it is called only where no part is
+    /// refused. It leaves in the bundle the ids that the bundle was taken with, whatever the values. Of a system's view all
+    /// stays but the values of the ids that it writes.
+    pub fn exec<D: SystemData<'s, V>, A, F: FnOnce(&mut D) -> A>(
+        &mut self,
+        run: F,
+    ) -> Result<A, DataError>
+    where
+        F: Drop,
+        requires callable { MayCall F.FnOnce run D.shows D.moved (grant_of V.kind_of self.old) D.parts }
+        requires kept { KeepsIds F.FnOnce run D.shows D.moved (grant_of V.kind_of self.old) D.parts }
+        ensures called { IsCalled F.FnOnce run D.shows D.moved D.parts (grant_of V.kind_of self.old) result (grant_of V.kind_of self.new) }
+        ensures of_a_system { (reads : List ResourceId) → (writes : List ResourceId) → IsLent self.old reads writes → KeepsView V.kind_of self.old self.new }
+        ensures table { table_of self.new ≡ table_of self.old }
+        ensures loan { IsSameLoan self.old self.new }
+    {
+        let mut bundle = match self.system_data::<D>() {
+            Ok(bundle) => bundle,
+            Err(error) => return Err(error),
+        };
+        let answer = run(&mut bundle);
+        self.give_back(bundle);
+        Ok(answer)
+    }
 }

@@ -4,11 +4,12 @@ ghost use Rattle.std.specs.Borrow.{sem};
 ghost use Rattle.shred_table.specs.declared.id.ResourceId.{ResourceId};
 ghost use Rattle.shred_world.specs.Lending.{IsNarrowed};
 ghost use Rattle.shred_world.specs.Lent.{LendsWritten, LendsNarrow};
-ghost use Rattle.std.specs.Option.{option_copied};
+ghost use Rattle.std.specs.Option.{option_copied, option_map};
 ghost use Rattle.std.specs.Result.{result_err};
 ghost use Rattle.shred_world.specs.Grants.{grant_of, map_grant, table_grant};
 ghost use Rattle.shred_table.specs.Slots.{among, slots_of, slot_at, held};
 ghost use Rattle.shred_world.specs.Views.{shelf_slot, lent_slot, view_slot, view_held, is_whole, is_own, may_read, may_write, is_out, refusal};
+ghost use Rattle.shred_table.specs.Id.{id_kind};
 ghost use Rattle.shred_table.specs.Slots.{is_vacant};
 
 use shred_table::id::{Kind, ResourceId};
@@ -94,14 +95,28 @@ impl<'s, 'a, V: ResourceValue> View<'s, 'a, V> {
         }
     }
 
-    // The slot that the view shows for an id.
-    fn slot(&self, id: ResourceId) -> Option<&Slot<V>>
+    // Where the id is listed as the view's own.
+    fn place(&self, id: ResourceId) -> Option<usize>
+        ensures { is_some result ≡ among self.now.owned.now id }
+    {
+        let owned = self.owned;
+        for place in 0..owned.len() {
+            if owned[place] == id {
+                return Some(place);
+            }
+        }
+        None
+    }
+
+    // The slot that the view shows for an id, which is listed at this place.
+    fn slot(&self, id: ResourceId, place: Option<usize>) -> Option<&Slot<V>>
+        requires { is_some place ≡ among self.now.owned.now id }
         ensures { option_copied result ≡ view_slot self.now id }
     {
-        if self.is_own(id) {
-            self.own.slot(id)
-        } else {
-            self.lent_slot(id)
+        match place {
+            Some(near) => self.own.slot_near(id, near),
+            None if self.shelf.is_empty() => self.own.slot(id),
+            None => self.lent_slot(id),
         }
     }
 
@@ -118,23 +133,41 @@ impl<'s, 'a, V: ResourceValue> View<'s, 'a, V> {
         self.whole && self.shelf.is_empty()
     }
 
+    // Whether an id may be written that is listed at this place.
+    #[inline(always)]
+    fn may_write_at(&self, id: ResourceId, place: Option<usize>) -> bool
+        requires { is_some place ≡ among self.now.owned.now id }
+        ensures { result ≡ may_write self.now id }
+    {
+        self.is_whole() || (self.writes.contains(&id) && place.is_some())
+    }
+
+    // Whether an id may be read that is listed at this place.
+    fn may_read_at(&self, id: ResourceId, place: Option<usize>) -> bool
+        requires { is_some place ≡ among self.now.owned.now id }
+        ensures { result ≡ may_read self.now id }
+    {
+        self.may_write_at(id, place) || self.reads.contains(&id)
+    }
+
     pub(crate) fn may_write(&self, id: ResourceId) -> bool
         ensures { result ≡ may_write self.now id }
     {
-        self.is_whole() || (self.writes.contains(&id) && self.owned.contains(&id))
+        self.may_write_at(id, self.place(id))
     }
 
     pub(crate) fn may_read(&self, id: ResourceId) -> bool
         ensures { result ≡ may_read self.now id }
     {
-        self.reads.contains(&id) || self.may_write(id)
+        self.may_read_at(id, self.place(id))
     }
 
-    // The value that the view shows under an id.
-    fn get(&self, id: ResourceId) -> Option<&V>
+    // The value that the view shows under an id, which is listed at this place.
+    fn get(&self, id: ResourceId, place: Option<usize>) -> Option<&V>
+        requires { is_some place ≡ among self.now.owned.now id }
         ensures { option_copied result ≡ view_held V.kind_of self.now id }
     {
-        match self.slot(id) {
+        match self.slot(id, place) {
             Some(slot) => slot.held(id),
             None => None,
         }
@@ -157,6 +190,7 @@ impl<'s, 'a, V: ResourceValue> View<'s, 'a, V> {
     }
 
     // The tests of a part that come before the look whether a value is held.
+    #[inline(always)]
     pub(crate) fn test<R: Resource<V>>(
         &self,
         id: ResourceId,
@@ -179,22 +213,40 @@ impl<'s, 'a, V: ResourceValue> View<'s, 'a, V> {
         Ok(())
     }
 
+    // Why the id's value is not handed out, where none is held under it or a test that comes before fails.
+    #[cold]
+    fn refusal<R: Resource<V>>(&self, id: ResourceId, declared: bool) -> DataError
+        ensures { Some result ≡ refusal R.KIND id declared (is_out self.now id) false }
+    {
+        match self.test::<R>(id, declared) {
+            Ok(()) => DataError::Missing(id),
+            Err(error) => error,
+        }
+    }
+
+    // The resource that the view shows under an id of its kind, which is listed at this place.
+    fn resource<R: Resource<V>>(&self, id: ResourceId, place: Option<usize>) -> Option<&R>
+        requires place { is_some place ≡ among self.now.owned.now id }
+        requires kind { R.KIND ≡ id_kind id }
+        ensures { option_map (λ r. R.wrapped r.now) result ≡ view_held V.kind_of self.now id }
+    {
+        R::view(self.get(id, place)?)
+    }
+
     /// The resource that is held under an id which is declared to be read or written. The first that fits of `WrongKind`,
     /// `Undeclared`, `Taken`, `Missing`.
     pub fn read<R: Resource<V>>(&self, id: ResourceId) -> Result<&R, DataError>
         ensures refused { result_err result ≡ refusal R.KIND id (may_read self.now id) (is_out self.now id) (is_some (view_held V.kind_of self.now id)) }
         ensures shown { IfOk result (λ r. view_held V.kind_of self.now id ≡ Some (R.wrapped r.now)) }
     {
-        if let Err(error) = self.test::<R>(id, self.may_read(id)) {
-            return Err(error);
+        let place = self.place(id);
+        let declared = self.may_read_at(id, place);
+        if declared && R::KIND == id.kind() {
+            if let Some(resource) = self.resource(id, place) {
+                return Ok(resource);
+            }
         }
-        let Some(value) = self.get(id) else {
-            return Err(DataError::Missing(id));
-        };
-        match R::view(value) {
-            Some(resource) => Ok(resource),
-            None => Err(DataError::Missing(id)),
-        }
+        Err(self.refusal::<R>(id, declared))
     }
 
     /// The resource that is held under an id which is declared to be written, to write. The tests
@@ -204,10 +256,12 @@ impl<'s, 'a, V: ResourceValue> View<'s, 'a, V> {
         ensures shown { IfOk result (λ r. view_held V.kind_of self.old id ≡ Some (R.wrapped r.now)) }
         ensures* written { sem 𝓛 (LendsWritten V.row R.row V.kind_of R.wrapped self.entry id result) }
     {
-        if let Err(error) = self.test::<R>(id, self.may_write(id)) {
+        let place = self.place(id);
+        if let Err(error) = self.test::<R>(id, self.may_write_at(id, place)) {
             return Err(error);
         }
-        let Some(resource) = table::resource_mut::<V, R>(self.own, id) else {
+        let near = place.unwrap_or(0);
+        let Some(resource) = table::resource_mut_near::<V, R>(self.own, id, near) else {
             return Err(DataError::Missing(id));
         };
         Ok(resource)

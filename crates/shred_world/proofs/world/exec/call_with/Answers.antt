@@ -5,8 +5,8 @@ use Rattle.shred_table.specs.Slots.{held}
 use Rattle.shred_world.proofs.Views.Refusals.{whole-held}
 use Rattle.shred_world.proofs.world.exec.call_with.Goals as goal
 
-pub call_on-requires : goal.call_on-requires
-call_on-requires g c κs =
+pub exec-requires : goal.exec-requires
+exec-requires g c κs =
     let D = g.D.SystemData in
     let same = sym c.whole-view.ensures.grant in (
       (refl, tt),
@@ -19,9 +19,9 @@ call_on-requires g c κs =
 pub returns : goal.returns
 returns g c =
     let kind = g.V.ResourceValue.kind_of in
-    let view = c.call_on.new.view in
+    let view = c.exec.new.self in
     let D = g.D.SystemData in (
       grant_of kind view,
-      subst (λ (h : Grant g.row.V.Denot). IsCalled g.F.FnOnce c.args.run D.shows D.moved D.parts h c.call_on.result (grant_of kind view)) c.whole-view.ensures.grant c.call_on.ensures.called,
-      ap (held kind) (c.own-1.given.1 (sym (c.call_on.ensures.table ∙ c.whole-view.ensures.name))) ∙ sym (whole-held kind view (c.call_on.ensures.loan.whole ∙ c.whole-view.ensures.whole)),
+      subst (λ (h : Grant g.row.V.Denot). IsCalled g.F.FnOnce c.args.run D.shows D.moved D.parts h c.exec.result (grant_of kind view)) c.whole-view.ensures.grant c.exec.ensures.called,
+      ap (held kind) (c.own-1.given.1 (sym (c.exec.ensures.table ∙ c.whole-view.ensures.name))) ∙ sym (whole-held kind view (c.exec.ensures.loan.whole ∙ c.whole-view.ensures.whole)),
     )

@@ -8,25 +8,25 @@ use Rattle.shred_table.proofs.Tables.Slots.{OnSome-here}
 use Rattle.shred_world.proofs.Views.Shown.{view_kept, view_written}
 use Rattle.shred_world.proofs.world.view.View.write.Goals as goal
 
-pub returns-in_default-resource_mut : goal.returns-in_default-resource_mut
-returns-in_default-resource_mut g c =
+pub returns-in_default-resource_mut_near : goal.returns-in_default-resource_mut_near
+returns-in_default-resource_mut_near g c =
     let kind = g.V.ResourceValue.kind_of in
-    let passed = refusal-passed g.R.Resource.KIND c.args.id c.may_write.result (is_out c.args.self.now c.args.id) (sym c.in_default.ensures) in
-    let declared : may_write c.args.self.now c.args.id ≡ true = sym c.may_write.ensures ∙ passed.1 in
-    let none : view_held kind c.args.self.now c.args.id ≡ None = written-held c.args.self.now c.args.id declared kind ∙ c.in_default-resource_mut.ensures.missing passed.0 in (
-      (refl, (λ w e. absurd (cc)), view_kept kind c.args.self.now _ refl refl refl refl c.resource_mut.follows.holds-at-none.1 refl refl c.resource_mut.follows.holds-at-none.0),
+    let passed = refusal-passed g.R.Resource.KIND c.args.id c.may_write_at.result (is_out c.args.self.now c.args.id) (sym c.in_default.ensures) in
+    let declared : may_write c.args.self.now c.args.id ≡ true = sym c.may_write_at.ensures ∙ passed.1 in
+    let none : view_held kind c.args.self.now c.args.id ≡ None = written-held c.args.self.now c.args.id declared kind ∙ c.in_default-resource_mut_near.ensures.missing passed.0 in (
+      (refl, (λ w e. absurd (cc)), view_kept kind c.args.self.now _ refl refl refl refl c.resource_mut_near.follows.holds-at-none.1 refl refl c.resource_mut_near.follows.holds-at-none.0),
       record { refused = sym (refusal-rest g.R.Resource.KIND c.args.id _ _ _ (passed.0, declared, passed.2) ∙ ap (λ (o : Option g.row.V.Denot). cond (is_some o) None (Some (Missing c.args.id))) none); shown = tt; written = tt },
     )
 
 pub returns : goal.returns
 returns g c =
     let kind = g.V.ResourceValue.kind_of in
-    let passed = refusal-passed g.R.Resource.KIND c.args.id c.may_write.result (is_out c.args.self.now c.args.id) (sym c.in_default.ensures) in
-    let declared : may_write c.args.self.now c.args.id ≡ true = sym c.may_write.ensures ∙ passed.1 in
+    let passed = refusal-passed g.R.Resource.KIND c.args.id c.may_write_at.result (is_out c.args.self.now c.args.id) (sym c.in_default.ensures) in
+    let declared : may_write c.args.self.now c.args.id ≡ true = sym c.may_write_at.ensures ∙ passed.1 in
     let here = c.in-Some.ensures.shown in
     let law : (r : g.row.R.Denot) → kind (g.R.Resource.wrapped r) ≡ c.args.id.kind = λ r. g.met.R.Resource.wrapped_kind r ∙ passed.0 in
     let some : view_held kind c.args.self.now c.args.id ≡ Some (g.R.Resource.wrapped c.in-Some.resource.now) =
     written-held c.args.self.now c.args.id declared kind ∙ ap (slot_held kind c.args.id) here ∙ slot-held kind c.args.id _ (law c.in-Some.resource.now) in (
-      (refl, (λ w e. view_written kind c.args.self.now _ refl refl refl refl (c.resource_mut.follows.holds w).1 refl refl c.args.id (g.R.Resource.wrapped c.in-Some.resource.now) (g.R.Resource.wrapped w) (written-own c.args.self.now c.args.id declared) (law w) here (OnSome-here c.resource_mut.result c.in-Some.resource c.in-Some.is (c.resource_mut.follows.holds w).0)), tt),
+      (refl, (λ w e. view_written kind c.args.self.now _ refl refl refl refl (c.resource_mut_near.follows.holds w).1 refl refl c.args.id (g.R.Resource.wrapped c.in-Some.resource.now) (g.R.Resource.wrapped w) (written-own c.args.self.now c.args.id declared) (law w) here (OnSome-here c.resource_mut_near.result c.in-Some.resource c.in-Some.is (c.resource_mut_near.follows.holds w).0)), tt),
       record { refused = sym (refusal-rest g.R.Resource.KIND c.args.id _ _ _ (passed.0, declared, passed.2) ∙ ap (λ (o : Option g.row.V.Denot). cond (is_some o) None (Some (Missing c.args.id))) some); shown = some; written = tt },
     )

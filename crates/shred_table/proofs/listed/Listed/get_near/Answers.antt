@@ -1,6 +1,6 @@
 use Rattle.std.proofs.Common.{Some, sym, ◌∙◌, ap}
 use Rattle.shred_table.proofs.Tables.InOrder.{lookup-place, lookup-gap}
-use Rattle.shred_table.proofs.listed.Listed.get.Goals as goal
+use Rattle.shred_table.proofs.listed.Listed.get_near.Goals as goal
 
 pub returns-in-Ok : goal.returns-in-Ok
 returns-in-Ok g c =

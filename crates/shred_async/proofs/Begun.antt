@@ -1,5 +1,5 @@
 -- A dispatch whose run is begun, or could not be started.
-use Rattle.std.proofs.Common.{◌≡◌, ℕ, true, false, Ok, Err}
+use Rattle.std.proofs.Common.{ℕ, true, false, Ok, Err}
 use Rattle.shred_table.specs.declared.id.Kind.{Kind}
 use Rattle.shred.specs.declared.thread_local.ThreadLocal.{ThreadLocal}
 use Rattle.shred_async.specs.AsyncState.{OnceJoined}

@@ -1,5 +1,5 @@
 -- The asynchronous state of an asynchronous dispatcher.
-use Rattle.std.specs.Prelude.{ℕ, List}
+use Rattle.std.specs.Prelude.{ℕ}
 use Rattle.std.specs.declared.vec.Vec.{Vec}
 use Rattle.std.specs.declared.alloc.Global.{Global}
 use Rattle.shred_table.specs.declared.id.Kind.{Kind}

@@ -8,3 +8,5 @@ pub mod Standing
 pub mod InOrder
 pub mod Copied
 pub mod Answered
+pub mod OneSetUp
+pub mod CountedUp

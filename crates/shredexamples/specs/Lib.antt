@@ -8,3 +8,4 @@ pub mod Rounds
 pub mod Adders
 pub mod TwoSystems
 pub mod PlanTexts
+pub mod SetUp

@@ -1,5 +1,5 @@
 //! Examples: a system with its resource, a bundle of a caller's own, a world alone, an enum of systems, systems behind a
-//! box, a batch, the text of a plan, and two dispatches that end the same.
+//! box, a batch, the text of a plan, two dispatches that end the same, and a setup that holds defaults.
 #![tactic(auto)]
 
 pub mod batch;
@@ -10,5 +10,6 @@ pub mod limits;
 pub mod one_system;
 pub mod plan_text;
 pub mod same_end;
+pub mod set_up;
 pub mod two_systems;
 pub mod world_alone;

@@ -1,15 +1,15 @@
-//! Two systems over two types of resources with a barrier between them, and a thread-local one. They are dispatched until one
-//! refuses, which is told by its name.
+//! Two systems over two types of resources with a barrier between them, one of which takes a bundle of both, and a thread-local
+//! one. They are dispatched until one refuses, which is told by its name.
 #![tactic(auto)]
 
-ghost use Rattle.std.specs.Prelude.{[], ◌∷◌};
+ghost use Rattle.std.specs.Prelude.{◌≡◌, [], ◌∷◌};
 ghost use Rattle.shred.specs.Places.{first_kind, second_kind};
 ghost use Rattle.shred_table.specs.Id.{id_of};
 
 use shred::{
     AddError, BatchAccessor, DataError, Dispatcher, DispatcherBuilder, Fault, First, Now, OneOf,
-    OneOf2, OutOfMemory, Plain, PlainSystem, Second, System, SystemNames, Told, View, World,
-    WorldError, first_id, second_id,
+    OneOf2, OutOfMemory, Plain, PlainSystem, ReadExpect, Second, System, SystemNames, Told, View,
+    World, WorldError, WriteExpect, bundle_accessor, second_id,
 };
 use std::alloc::Global;
 use std::thread::Threads;
@@ -30,6 +30,9 @@ enum Stopped {
     Data(#[from] DataError),
 }
 
+/// The position to write, and the speed to read.
+type Motion<'s> = (WriteExpect<Position>, ReadExpect<'s, Speed>);
+
 /// Adds the speed to the position.
 #[derive(Drop)]
 struct Moves;
@@ -44,14 +47,16 @@ impl PlainSystem<Value> for Moves {
     ghost step = { λ before seen outcome after left. Unit {0} };
 
     fn run(&mut self, view: &mut View<Value>) -> Result<(), Fault<Stopped>> {
-        let speed = view.read::<Speed>(second_id(0))?.0;
-        let position = view.write::<Position>(first_id(0))?;
-        position.0 = position.0.wrapping_add(speed);
+        view.exec(
+            |motion: &mut Motion|
+                ensures { motion.new.1 ≡ motion.old.1 }
+            { motion.0.0 = motion.0.0.wrapping_add(motion.1.0) },
+        )?;
         Ok(())
     }
 
     fn accessor(&self, alloc: Global) -> Result<BatchAccessor, OutOfMemory> {
-        BatchAccessor::of(alloc, &[second_id(0)], &[first_id(0)])
+        bundle_accessor::<Value, Motion>(alloc)
     }
 }
 

@@ -1,4 +1,4 @@
-//! Tests of asynchronous dispatchers.
+//! Tests of asynchronous dispatchers, and an example of one.
 #![tactic(auto)]
 
 #[cfg(test)]
@@ -9,6 +9,7 @@ mod batch;
 mod ended;
 #[cfg(test)]
 mod gate_async;
+pub mod meanwhile;
 #[cfg(test)]
 mod refusals;
 #[cfg(test)]

@@ -2,6 +2,7 @@
 
 use crate::adds::{Dispatcher, count_of, refuses, with_local};
 use crate::ended::{DONE, ended};
+use crate::meanwhile::count_and_look;
 use shred::{Only, World};
 use std::process::Abort;
 use std::test::Fail;
@@ -87,4 +88,12 @@ fn two_dispatches_run_one_after_the_other(rt: HostRuntime) -> Result<(), Fail> {
     }
     assert_eq!(rt; shown(dispatcher.res(&rt)), Some((Some(3), Some(0))));
     Ok(())
+}
+
+#[test]
+fn a_caller_looks_while_the_plan_runs(rt: HostRuntime) {
+    for (number, is_found) in [(5, true), (6, false)] {
+        let both = count_and_look(&rt, rt.alloc(), &[3, 5, 8], number);
+        assert_eq!(rt; both, Some((7, is_found)));
+    }
 }

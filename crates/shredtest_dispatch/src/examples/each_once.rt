@@ -9,6 +9,7 @@ use shredexamples::enum_of_systems::{Add, copied_by_jobs};
 use shredexamples::one_system::count_after_dispatch;
 use shredexamples::plan_text::text_of_three;
 use shredexamples::same_end::both_added;
+use shredexamples::set_up::counted_up;
 use shredexamples::world_alone::{double, number_in, number_or_five, set, take, world_of};
 use std::alloc::Global;
 use std::process::Abort;
@@ -30,6 +31,13 @@ fn a_world_is_used_alone(rt: HostRuntime) -> Result<(), Fail> {
     assert_eq!(rt; take(&mut world), Some(8));
     assert_eq!(rt; number_or_five(&mut world), Ok(5));
     Ok(())
+}
+
+#[test]
+fn a_setup_holds_a_default_where_nothing_is_held(rt: HostRuntime) {
+    let mut world = World::empty(rt.alloc());
+    assert_eq!(rt; counted_up(rt.alloc(), &mut world), Some(1));
+    assert_eq!(rt; counted_up(rt.alloc(), &mut world), Some(2));
 }
 
 #[test]

@@ -1,19 +1,23 @@
 #!/usr/bin/env bash
-# examples/compare.sh: runs the built shredrun on all scripts of this folder, and compares the status, standard output
-# and standard error with what is wanted. It prints nothing where all agree.
+# examples/compare.sh: runs the built shredrun and shredplan on the scripts of this folder, and compares the status, standard
+# output and standard error with what is wanted. It prints nothing where all agree.
 # - NAME.script is to print the file NAME.stdout, which was worked out by hand; the status has to be 0 where the last
 #   line is `ok`, else 2.
 # - rows.txt has a script a line, with its status before it and what it prints behind it, in columns with one tab
 #   between them: STATUS, SCRIPT, STDOUT and, where something is told there, STDERR. All but the first are written as
 #   `printf %b` reads them: \n is a line feed, \t a tab, \r a carriage return, \\ a backslash and \xHH the byte of that
 #   value. A line feed stands at an end only where one is written. Empty lines and lines that begin with # are no rows.
-#   A row without STDOUT is run once more with a standard output that takes nothing, and has to end in the same way.
+#   A row without STDOUT is run once more with a standard output that takes nothing, and has to end in the same way. What
+#   a row is told of its lines, shredplan has to tell too.
 # - random.txt has whole scripts, each behind a line `=== NUMBER`. The line `--- STATUS stdout` or `--- STATUS stderr`
 #   ends it, and what is printed there follows; nothing is printed on the other.
+# - NAME.dot and NAME.conflicts are what shredplan is to print of NAME.script, asked for that, worked out by hand. Of its
+#   svg NAME.classes has a line for each class, with the number of its elements.
 set -euo pipefail
 cd "$(dirname "${BASH_SOURCE[0]}")"
 
-program=../crates/shredrun/out/shredrun
+program=(../crates/shredrun/out/shredrun)
+shredplan=../crates/shredplan/out/shredplan
 room=$(mktemp -d)
 trap 'rm -rf "$room"' EXIT
 differ=0
@@ -34,7 +38,7 @@ has_ended() {
 # ends_so NAME SCRIPT STATUS OUT ERR: run on this script, the program ends with this status, and prints these two files.
 ends_so() {
     local status=0
-    "$program" <"$2" >"$room/stdout" 2>"$room/stderr" || status=$?
+    "${program[@]}" <"$2" >"$room/stdout" 2>"$room/stderr" || status=$?
     cmp "$4" "$room/stdout" >&2 || complain "$1 prints something else"
     has_ended "$1" "$3" "$status" "$5"
 }
@@ -42,7 +46,7 @@ ends_so() {
 # writes_nothing NAME SCRIPT STATUS ERR: it ends so as well where standard output takes nothing.
 writes_nothing() {
     local status=0
-    "$program" <"$2" >/dev/full 2>"$room/stderr" || status=$?
+    "${program[@]}" <"$2" >/dev/full 2>"$room/stderr" || status=$?
     has_ended "$1, without room for its output," "$3" "$status" "$4"
 }
 
@@ -53,6 +57,26 @@ compare_files() {
         wanted=2
         [ "$(tail -n 1 "$expected")" != ok ] || wanted=0
         ends_so "$script" "$script" "$wanted" "$expected" /dev/null
+    done
+}
+
+# is_told_of_plan NAME STATUS: shredplan tells the row's script what shredrun tells it.
+is_told_of_plan() {
+    local program=("$shredplan" conflicts)
+    ends_so "$1, as a plan," "$room/script" "$2" /dev/null "$room/wanted-stderr"
+}
+
+compare_plans() {
+    local wanted word program
+    for wanted in *.conflicts *.dot; do
+        word=${wanted##*.}
+        program=("$shredplan" "$word")
+        ends_so "$wanted" "${wanted%.*}.script" 0 "$wanted" /dev/null
+    done
+    for wanted in *.classes; do
+        "$shredplan" svg <"${wanted%.*}.script" | grep -o 'class="[a-z]*"' | cut -d'"' -f2 | sort | uniq -c |
+            awk '{ print $2, $1 }' >"$room/classes"
+        cmp "$wanted" "$room/classes" >&2 || complain "$wanted has other numbers"
     done
 }
 
@@ -72,6 +96,7 @@ compare_rows() {
         printf %b "${BASH_REMATCH[5]}" >"$room/wanted-stderr"
         ends_so "$name" "$room/script" "$status" "$room/wanted-stdout" "$room/wanted-stderr"
         [ -s "$room/wanted-stdout" ] || writes_nothing "$name" "$room/script" "$status" "$room/wanted-stderr"
+        ! grep -q '^line ' "$room/wanted-stderr" || is_told_of_plan "$name" "$status"
         rows=$((rows + 1))
     done <rows.txt
     [ "$rows" -gt 0 ] || complain "rows.txt has no row"
@@ -99,6 +124,7 @@ compare_random() {
 }
 
 compare_files
+compare_plans
 compare_rows
 compare_random
 exit "$differ"

@@ -1,0 +1,3 @@
+pub mod Choices
+pub mod Entries
+pub mod Dependence

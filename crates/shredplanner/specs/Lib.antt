@@ -1,0 +1,4 @@
+pub mod Additions
+pub mod Endings
+pub mod Stages
+pub mod Together

@@ -34,10 +34,7 @@ impl<L: Drop> ThreadLocal<L> {
         ensures ok { OnOk result (systems_of self.new ≡ systems_of self.old ++ system ∷ []) }
         ensures err { OnErr result (systems_of self.new ≡ systems_of self.old) }
     {
-        match self.systems.push(system) {
-            Ok(()) => Ok(()),
-            Err(_) => Err(OutOfMemory),
-        }
+        Ok(self.systems.push(system)?)
     }
 
     /// How many there are.

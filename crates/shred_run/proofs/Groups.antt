@@ -5,4 +5,5 @@ pub mod Ids
 pub mod Membership
 pub mod Orders
 pub mod Reading
+pub mod Times
 pub mod Walked

@@ -107,8 +107,6 @@ pub fn run_alone<V: ResourceValue + Drop, S: System<V>>(
     ensures ran { StepsAlone V.kind_of S.step S.reads S.writes system.old (held V.kind_of table.old) result system.new (held V.kind_of table.new) }
     ensures kinds { KeepsKinds V.kind_of (held V.kind_of table.old) (held V.kind_of table.new) }
 {
-    match room_for(alloc, system) {
-        Ok(mut room) => step_in(&mut room, system, table),
-        Err(OutOfMemory) => Err(Fault::OutOfMemory),
-    }
+    let mut room = room_for(alloc, system)?;
+    step_in(&mut room, system, table)
 }

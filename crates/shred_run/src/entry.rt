@@ -117,12 +117,7 @@ impl<V, S> Group<V, S> {
     pub fn conflicts(&self, entry: &GroupEntry<V, S>) -> bool
         ensures { result ≡ group_conflicts same_id (access_of entry.now) (group_plan self.now) }
     {
-        for member in &self.entries {
-            if member.conflicts(entry) {
-                return true;
-            }
-        }
-        false
+        self.entries.iter().any(|member| member.conflicts(entry))
     }
 
     /// Whether the group holds one of these ids.
@@ -147,11 +142,7 @@ impl<V, S> Group<V, S> {
         ensures value { result ≡ group_time (group_plan self.now) }
         ensures small { result ≤ 20 }
     {
-        let mut time = 0;
-        for entry in &self.entries {
-            time += entry.time.count();
-        }
-        time
+        self.entries.iter().map(|entry| entry.time.count()).sum()
     }
 
     /// A group of one entry.
@@ -168,15 +159,13 @@ impl<V, S> Group<V, S> {
         let mut ids: ArrayVec<SystemId, 4> = ArrayVec::new_in(());
         ids.push(entry.id);
         let mut entries = Vec::new(alloc);
-        match entries.push(entry) {
-            Ok(()) => Ok(Group {
-                ids,
-                entries,
-                written,
-                hand,
-            }),
-            Err(_) => Err(OutOfMemory),
-        }
+        entries.push(entry)?;
+        Ok(Group {
+            ids,
+            entries,
+            written,
+            hand,
+        })
     }
 
     // What the group writes with these ids more, and a hand for it.
@@ -187,16 +176,10 @@ impl<V, S> Group<V, S> {
         ensures hand { IfOk result (λ grown. IsEmptyHand grown.0.items grown.1) }
     {
         let alloc = *self.written.allocator();
-        let Ok(mut written) = Vec::from_slice(alloc, self.written.as_slice()) else {
-            return Err(OutOfMemory);
-        };
-        if written.extend_from_slice(more).is_err() {
-            return Err(OutOfMemory);
-        }
-        match empty_hand(alloc, written.as_slice()) {
-            Ok(hand) => Ok((written, hand)),
-            Err(error) => Err(error),
-        }
+        let mut written = Vec::from_slice(alloc, self.written.as_slice())?;
+        written.extend_from_slice(more)?;
+        let hand = empty_hand(alloc, written.as_slice())?;
+        Ok((written, hand))
     }
 
     /// Puts the entry at the group's end.
@@ -215,19 +198,12 @@ impl<V, S> Group<V, S> {
         ensures room { KeepsRoom self.new }
     {
         let id = entry.id;
-        let (written, hand) = match self.hand_with(entry.writes.as_slice()) {
-            Ok(grown) => grown,
-            Err(error) => return Err(error),
-        };
-        match push_or_drop(&mut self.entries, entry) {
-            Ok(()) => {
-                self.ids.push(id);
-                self.written = written;
-                self.hand = hand;
-                Ok(())
-            }
-            Err(error) => Err(error),
-        }
+        let (written, hand) = self.hand_with(entry.writes.as_slice())?;
+        push_or_drop(&mut self.entries, entry)?;
+        self.ids.push(id);
+        self.written = written;
+        self.hand = hand;
+        Ok(())
     }
 
     /// Puts the ids of one side of the entries' accesses at the list's end.
@@ -235,9 +211,7 @@ impl<V, S> Group<V, S> {
         ensures { OnOk result (ids.new.items ≡ ids.old.items ++ group_side side (group_plan self.now)) }
     {
         for entry in &self.entries {
-            if ids.extend_from_slice(entry.side(side)).is_err() {
-                return Err(OutOfMemory);
-            }
+            ids.extend_from_slice(entry.side(side))?;
         }
         Ok(())
     }
@@ -261,13 +235,9 @@ fn written_hand<V: Drop>(
     ensures written { IfOk result (λ made. made.0.items ≡ ids.now) }
     ensures hand { IfOk result (λ made. IsEmptyHand made.0.items made.1) }
 {
-    let Ok(written) = Vec::from_slice(alloc, ids) else {
-        return Err(OutOfMemory);
-    };
-    match empty_hand(alloc, written.as_slice()) {
-        Ok(hand) => Ok((written, hand)),
-        Err(error) => Err(error),
-    }
+    let written = Vec::from_slice(alloc, ids)?;
+    let hand = empty_hand(alloc, written.as_slice())?;
+    Ok((written, hand))
 }
 
 fn take_id(left: &mut SmallVec<SystemId, 4>, id: SystemId)
@@ -284,12 +254,7 @@ fn place_of(ids: &[SystemId], id: SystemId) -> Option<usize>
     ensures found { IfSome result (λ place. without_one id.0 (numbers_of ids.now) ≡ remove (numbers_of ids.now) place) }
     ensures absent { IfNone result (without_one id.0 (numbers_of ids.now) ≡ numbers_of ids.now) }
 {
-    for (place, other) in ids.iter().enumerate() {
-        if *other == id {
-            return Some(place);
-        }
-    }
-    None
+    ids.iter().position(|other| *other == id)
 }
 
 /// Puts the item at the list's end, or drops it where memory is refused.
@@ -297,8 +262,5 @@ pub fn push_or_drop<T: Drop>(items: &mut Vec<T>, item: T) -> Result<(), OutOfMem
     ensures ok { OnOk result (items.new.items ≡ items.old.items ++ item ∷ []) }
     ensures err { OnErr result (items.new.items ≡ items.old.items) }
 {
-    match items.push(item) {
-        Ok(()) => Ok(()),
-        Err(_) => Err(OutOfMemory),
-    }
+    Ok(items.push(item)?)
 }

@@ -6,8 +6,5 @@ ghost use Rattle.shred_model.specs.Runs.{first_fault};
 pub fn first<E: Drop>(a: Result<(), E>, b: Result<(), E>) -> Result<(), E>
     ensures { result ≡ first_fault a b }
 {
-    match a {
-        Ok(()) => b,
-        Err(fault) => Err(fault),
-    }
+    a.and(b)
 }

@@ -85,16 +85,10 @@ fn joined<V, X>(
     ensures in_order { IfOk result (λ ids. AllPairs IsBefore ids.items) }
     ensures same { IfOk result (λ ids. (id : ResourceId) → Contains ids.items id ↔ Contains (own.now ++ flat_map (stage_side side) (tiers_plan tiers.now.items)) id) }
 {
-    let Ok(mut ids) = Vec::from_slice(alloc, own) else {
-        return Err(OutOfMemory);
-    };
-    match append_tiers(tiers, side, &mut ids) {
-        Ok(()) => {
-            sort_without_doubles(&mut ids);
-            Ok(ids)
-        }
-        Err(error) => Err(error),
-    }
+    let mut ids = Vec::from_slice(alloc, own)?;
+    append_tiers(tiers, side, &mut ids)?;
+    sort_without_doubles(&mut ids);
+    Ok(ids)
 }
 
 // The greatest depth that is noted in some entries.

@@ -57,6 +57,16 @@ impl<E: From<DataError>> From<DataError> for Fault<E> {
     }
 }
 
+impl<E> From<OutOfMemory> for Fault<E> {
+    ghost use Rattle.shred_run.specs.declared.system.Fault.{Fault};
+
+    ghost from_gives = { λ _ fault. fault ≡ Fault.OutOfMemory };
+
+    fn from(_error: OutOfMemory) -> Self {
+        Fault::OutOfMemory
+    }
+}
+
 /// What is run over the resources that it declares.
 pub trait System<V: ResourceValue> {
     ghost use Rattle.shred_world.specs.OwnViews.{IsLent};

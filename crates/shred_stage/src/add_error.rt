@@ -1,5 +1,7 @@
 //! Why a builder does not take a system.
+ghost use Rattle.std.specs.Prelude.{◌≡◌};
 
+use shred_world::OutOfMemory;
 use thiserror::Error;
 
 /// Why a system was not added. The builder is as before.
@@ -19,4 +21,14 @@ pub enum AddError {
     /// The plan that was to be a batch has a thread-local system.
     #[error("a batch may have no thread-local system")]
     ThreadLocalInBatch,
+}
+
+impl From<OutOfMemory> for AddError {
+    ghost use Rattle.shred_stage.specs.declared.add_error.AddError.{AddError};
+
+    ghost from_gives = { λ _ error. error ≡ AddError.OutOfMemory };
+
+    fn from(_error: OutOfMemory) -> AddError {
+        AddError::OutOfMemory
+    }
 }

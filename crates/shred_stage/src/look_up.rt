@@ -45,9 +45,7 @@ pub fn ids_of(
     let mut ids = Vec::new(alloc);
     for place in 0..wanted.len() {
         let id = id_of(names, wanted[place]).unwrap_or(SystemId(0));
-        if let Err(_) = ids.push(id) {
-            return Err(OutOfMemory);
-        }
+        ids.push(id)?;
     }
     Ok(ids)
 }
@@ -66,13 +64,9 @@ pub fn enter(
     if name.is_empty() {
         return Ok(());
     }
-    let Ok(key) = String::from_str(alloc, name) else {
-        return Err(OutOfMemory);
-    };
-    match names.insert(key, id) {
-        Ok(_) => Ok(()),
-        Err(_) => Err(OutOfMemory),
-    }
+    let key = String::from_str(alloc, name)?;
+    names.insert(key, id)?;
+    Ok(())
 }
 
 /// Takes the name away.

@@ -1,10 +1,10 @@
 //! What a system declares to read and to write.
-ghost use Rattle.std.specs.Prelude.{◌≡◌, List, [], IfOk};
+ghost use Rattle.std.specs.Prelude.{◌≡◌, ⊤, List, [], IfOk};
 ghost use Rattle.shred_table.specs.Accessors.{batch_reads, batch_writes};
 ghost use Rattle.shred_table.specs.declared.id.ResourceId.{ResourceId};
 
 use crate::id::ResourceId;
-use std::alloc::Global;
+use std::alloc::{AllocError, AllocFailed, Global};
 use std::marker::PhantomData;
 use thiserror::Error;
 
@@ -12,6 +12,22 @@ use thiserror::Error;
 #[derive(Clone, Copy, Debug, PartialEq, Eq, Error)]
 #[error("out of memory")]
 pub struct OutOfMemory;
+
+impl From<AllocError> for OutOfMemory {
+    ghost from_gives = { λ _ _. ⊤ };
+
+    fn from(_error: AllocError) -> OutOfMemory {
+        OutOfMemory
+    }
+}
+
+impl<T: Drop> From<AllocFailed<T>> for OutOfMemory {
+    ghost from_gives = { λ _ _. ⊤ };
+
+    fn from(_failed: AllocFailed<T>) -> OutOfMemory {
+        OutOfMemory
+    }
+}
 
 /// The ids that a system reads, and those that it writes.
 pub trait Accessor {
@@ -104,8 +120,5 @@ impl Accessor for BatchAccessor {
 fn copy_of(alloc: Global, ids: &[ResourceId]) -> Result<Vec<ResourceId>, OutOfMemory>
     ensures { IfOk result (λ copy. copy.items ≡ ids.now) }
 {
-    match Vec::from_slice(alloc, ids) {
-        Ok(copy) => Ok(copy),
-        Err(_) => Err(OutOfMemory),
-    }
+    Ok(Vec::from_slice(alloc, ids)?)
 }

@@ -23,13 +23,8 @@ pub fn make_hands<V: Drop>(
     let mut hands = Vec::new(alloc);
     for pair in pairs {
         let mut hand = Table::with_homes(alloc, pair.1.len())?;
-        if let Err(error) = table.make_room(pair.1, &mut hand) {
-            return Err(error);
-        }
-        match hands.push(hand) {
-            Ok(()) => {}
-            Err(_) => return Err(OutOfMemory),
-        }
+        table.make_room(pair.1, &mut hand)?;
+        hands.push(hand)?;
     }
     Ok(hands)
 }

@@ -25,10 +25,10 @@ impl Hints {
 
     // Room for so many homes.
     pub(crate) fn with_room(alloc: Global, count: usize) -> Result<Self, OutOfMemory> {
-        match Vec::from_elem(alloc, 0, count) {
-            Ok(homes) => Ok(Hints { next: 0, homes }),
-            Err(_) => Err(OutOfMemory),
-        }
+        Ok(Hints {
+            next: 0,
+            homes: Vec::from_elem(alloc, 0, count)?,
+        })
     }
 
     // The place to look at first.

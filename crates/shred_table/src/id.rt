@@ -96,9 +96,7 @@ impl ResourceId {
         ensures { IfOk result (λ ids. ids.items ≡ self ∷ []) }
     {
         let mut ids = Vec::new(alloc);
-        match ids.push(self) {
-            Ok(()) => Ok(ids),
-            Err(_) => Err(OutOfMemory),
-        }
+        ids.push(self)?;
+        Ok(ids)
     }
 }

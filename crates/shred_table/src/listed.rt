@@ -111,10 +111,7 @@ impl<V> Listed<V> {
     pub(crate) fn ids(&self, alloc: Global) -> Result<Vec<ResourceId>, OutOfMemory>
         ensures { IfOk result (λ ids. ids.items ≡ map (λ slot. slot.0) self.now.slots.items) }
     {
-        match self.slots.iter().map(|slot| slot.0).collect(alloc) {
-            Ok(ids) => Ok(ids),
-            Err(_) => Err(OutOfMemory),
-        }
+        Ok(self.slots.iter().map(|slot| slot.0).collect(alloc)?)
     }
 
     // The slot of an id, to write. A place is looked at first.
@@ -141,10 +138,7 @@ impl<V> Listed<V> {
                 self.slots[place].1 = slot;
                 Ok(())
             }
-            Err(place) => match self.slots.insert(place, (id, slot)) {
-                Ok(()) => Ok(()),
-                Err(_) => Err(OutOfMemory),
-            },
+            Err(place) => Ok(self.slots.insert(place, (id, slot))?),
         }
     }
 

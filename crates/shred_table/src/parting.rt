@@ -15,10 +15,7 @@ pub fn empty_hand<V: Drop>(alloc: Global, ids: &[ResourceId]) -> Result<Table<V>
 {
     let mut hand = Table::with_homes(alloc, ids.len())?;
     for id in ids {
-        match open(&mut hand, *id) {
-            Ok(()) => {}
-            Err(error) => return Err(error),
-        }
+        open(&mut hand, *id)?;
     }
     Ok(hand)
 }
@@ -52,10 +49,7 @@ impl<V: Drop> Table<V> {
         ensures spare { OnErr result (IsSpare ids.now hand.new) }
     {
         for id in ids {
-            match self.fit(*id, hand) {
-                Ok(()) => {}
-                Err(error) => return Err(error),
-            }
+            self.fit(*id, hand)?;
         }
         Ok(())
     }

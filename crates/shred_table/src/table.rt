@@ -102,14 +102,12 @@ impl<V> Table<V> {
     pub(crate) fn with_homes(alloc: Global, count: usize) -> Result<Self, OutOfMemory>
         ensures { IfOk result (λ table. (id : ResourceId) → slot_at table id ≡ None) }
     {
-        match Hints::with_room(alloc, count) {
-            Ok(hints) => Ok(Table {
-                slots: Listed::new(alloc),
-                out: Vec::new(alloc),
-                hints,
-            }),
-            Err(error) => Err(error),
-        }
+        let hints = Hints::with_room(alloc, count)?;
+        Ok(Table {
+            slots: Listed::new(alloc),
+            out: Vec::new(alloc),
+            hints,
+        })
     }
 
     /// The allocator that the table was made with.
@@ -251,10 +249,7 @@ pub fn note<V>(table: &mut Table<V>, id: ResourceId) -> Result<(), OutOfMemory>
     if table.has_note(id) {
         return Ok(());
     }
-    match table.out.push(id) {
-        Ok(()) => Ok(()),
-        Err(_) => Err(OutOfMemory),
-    }
+    Ok(table.out.push(id)?)
 }
 
 /// Puts a value into the slot of an id, which is made where there is none.

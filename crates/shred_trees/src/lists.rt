@@ -58,8 +58,5 @@ pub(crate) fn append(ids: &mut Vec<ResourceId>, more: &[ResourceId]) -> Result<(
     ensures ok { OnOk result (ids.new.items ≡ ids.old.items ++ more.now) }
     ensures err { OnErr result (ids.new.items ≡ ids.old.items) }
 {
-    match ids.extend_from_slice(more) {
-        Ok(()) => Ok(()),
-        Err(_) => Err(OutOfMemory),
-    }
+    Ok(ids.extend_from_slice(more)?)
 }

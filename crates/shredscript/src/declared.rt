@@ -86,10 +86,7 @@ fn add_place(places: &mut Vec<usize>, place: usize) -> Result<(), AllocError>
 fn copy_places(alloc: Global, places: &Vec<usize>) -> Result<Vec<usize>, OutOfMemory>
     ensures { IfOk result (λ copy. copy.items ≡ places.now.items) }
 {
-    match Vec::from_slice(alloc, places.as_slice()) {
-        Ok(copy) => Ok(copy),
-        Err(_) => Err(OutOfMemory),
-    }
+    Ok(Vec::from_slice(alloc, places.as_slice())?)
 }
 
 // The ids of the resources at these places.
@@ -98,9 +95,7 @@ fn ids_of(alloc: Global, places: &Vec<usize>) -> Result<Vec<ResourceId>, OutOfMe
 {
     let mut ids = Vec::new(alloc);
     for place in places {
-        if ids.push(id_at(*place)).is_err() {
-            return Err(OutOfMemory);
-        }
+        ids.push(id_at(*place))?;
     }
     Ok(ids)
 }

@@ -133,10 +133,7 @@ impl<V: ResourceValue, S: System<V>, C: BatchController<V>, L: Drop> DispatcherB
         ensures refused { IfErr result (λ e. e ≡ AddError.OutOfMemory) }
         ensures unchanged { OnErr result (IsSameBuilt (built self.old) (built self.new)) }
     {
-        match self.thread_local.push(system) {
-            Ok(()) => Ok(()),
-            Err(OutOfMemory) => Err(AddError::OutOfMemory),
-        }
+        Ok(self.thread_local.push(system)?)
     }
 
     /// `add_thread_local`, on a builder that is handed on. After a refusal the builder is dropped.
@@ -149,10 +146,8 @@ impl<V: ResourceValue, S: System<V>, C: BatchController<V>, L: Drop> DispatcherB
         ensures refused { IfErr result (λ e. e ≡ AddError.OutOfMemory) }
     {
         let mut builder = self;
-        match builder.add_thread_local(system) {
-            Ok(()) => Ok(builder),
-            Err(error) => Err(error),
-        }
+        builder.add_thread_local(system)?;
+        Ok(builder)
     }
 
     /// Puts the plan's text and a line feed into the sink. Where a system has no name, nothing is put, and the answer is
@@ -240,13 +235,8 @@ impl<
         ensures refused { IfErr result (IsBatchRefusal (built inner).locals (built self.now).known (built self.now).next name.now (texts_of dependencies.now)) }
     {
         let stages = inner.into_inner()?;
-        if let Err(e) = may_add(&self.names, self.next, name, dependencies) {
-            return Err(e);
-        }
-        match tiers_of(self.alloc, stages.build()) {
-            Ok(tiers) => Ok(tiers),
-            Err(OutOfMemory) => Err(AddError::OutOfMemory),
-        }
+        may_add(&self.names, self.next, name, dependencies)?;
+        Ok(tiers_of(self.alloc, stages.build())?)
     }
 
     /// Places the system in the plan with the next id, and enters its name unless that is empty. What it depends on stands
@@ -265,10 +255,8 @@ impl<
         ensures unchanged { OnErr result (IsSameBuilt (built self.old) (built self.new)) }
     {
         may_add(&self.names, self.next, name, dependencies)?;
-        match system_entry(self.alloc, SystemId(self.next), system) {
-            Ok(entry) => self.accept(entry, name, dependencies),
-            Err(OutOfMemory) => Err(AddError::OutOfMemory),
-        }
+        let entry = system_entry(self.alloc, SystemId(self.next), system)?;
+        self.accept(entry, name, dependencies)
     }
 
     /// `add`, on a builder that is handed on. After a refusal the builder is dropped.
@@ -278,10 +266,8 @@ impl<
         ensures refused { IfErr result (IsRefusal (built self).known (built self).next name.now (texts_of dependencies.now)) }
     {
         let mut builder = self;
-        match builder.add(system, name, dependencies) {
-            Ok(_) => Ok(builder),
-            Err(e) => Err(e),
-        }
+        builder.add(system, name, dependencies)?;
+        Ok(builder)
     }
 
     // Gives the entry its place, and enters its name, where it may be added.
@@ -300,15 +286,11 @@ impl<
         ensures unchanged { OnErr result (IsSameBuilt (built self.old) (built self.new)) }
     {
         let id = SystemId(self.next);
-        let Ok(ids) = ids_of(self.alloc, &self.names, dependencies) else {
-            return Err(AddError::OutOfMemory);
-        };
-        if let Err(OutOfMemory) = enter(self.alloc, &mut self.names, name, id) {
-            return Err(AddError::OutOfMemory);
-        }
-        if let Err(OutOfMemory) = self.stages.insert_entry(ids.as_slice(), entry) {
+        let ids = ids_of(self.alloc, &self.names, dependencies)?;
+        enter(self.alloc, &mut self.names, name, id)?;
+        if let Err(error) = self.stages.insert_entry(ids.as_slice(), entry) {
             forget(&mut self.names, name);
-            return Err(AddError::OutOfMemory);
+            return Err(error.into());
         }
         self.next += 1;
         Ok(id)
@@ -332,10 +314,8 @@ impl<
         ensures refused { IfErr result (IsBatchRefusal (built inner).locals (built self.old).known (built self.old).next name.now (texts_of dependencies.now)) }
         ensures unchanged { OnErr result (IsSameBuilt (built self.old) (built self.new)) }
     {
-        match self.inner_tiers(inner, name, dependencies) {
-            Ok(tiers) => self.place_batch(controller, tiers, name, dependencies),
-            Err(e) => Err(e),
-        }
+        let tiers = self.inner_tiers(inner, name, dependencies)?;
+        self.place_batch(controller, tiers, name, dependencies)
     }
 
     // Places a batch of this controller and of the plan of these tiers, where it may be added under this name.
@@ -353,10 +333,8 @@ impl<
         ensures refused { IfErr result (λ e. e ≡ AddError.OutOfMemory) }
         ensures unchanged { OnErr result (IsSameBuilt (built self.old) (built self.new)) }
     {
-        match batch_entry(self.alloc, SystemId(self.next), controller, tiers) {
-            Ok(entry) => self.accept(entry, name, dependencies),
-            Err(OutOfMemory) => Err(AddError::OutOfMemory),
-        }
+        let entry = batch_entry(self.alloc, SystemId(self.next), controller, tiers)?;
+        self.accept(entry, name, dependencies)
     }
 
     /// `add_batch`, on a builder that is handed on. After a refusal the builder is dropped.
@@ -373,9 +351,7 @@ impl<
         ensures refused { IfErr result (IsBatchRefusal (built inner).locals (built self).known (built self).next name.now (texts_of dependencies.now)) }
     {
         let mut builder = self;
-        match builder.add_batch(controller, inner, name, dependencies) {
-            Ok(_) => Ok(builder),
-            Err(e) => Err(e),
-        }
+        builder.add_batch(controller, inner, name, dependencies)?;
+        Ok(builder)
     }
 }

@@ -41,10 +41,8 @@ impl<V: ResourceValue> MetaTable<V> {
         ensures err { OnErr result (kinds_of self.new ≡ kinds_of self.old) }
         ensures out_of_memory { OnErr result (is_registered (kinds_of self.old) R.KIND ≡ false) }
     {
-        match self.kinds.insert(R::KIND) {
-            Ok(_) => Ok(()),
-            Err(_) => Err(OutOfMemory),
-        }
+        self.kinds.insert(R::KIND)?;
+        Ok(())
     }
 
     /// The value, where its kind is registered.

@@ -1,8 +1,9 @@
 -- What the planner does with ids, on their numbers.
-use Rattle.std.proofs.Common.{◌≡◌, ◌≢◌, ℕ, zero, suc, ◌<◌, Bool, true, false, List, [], ◌∷◌, length, get_or, take, drop, refl, sym, ◌∙◌, ap, arith}
+use Rattle.std.proofs.Common.{◌≡◌, ◌≢◌, Option, Some, None, ℕ, zero, suc, ◌<◌, Bool, true, false, List, [], ◌∷◌, length, get_or, take, drop, refl, sym, ◌∙◌, ap, arith}
 use Rattle.std.proofs.lemmas.List.{length-map, nil_from_length, get_or-map, map-append, take-map, drop-map}
 use Rattle.std.specs.Bool.{Decides}
-use Rattle.std.specs.List.{list_any, remove}
+use Rattle.std.specs.List.{AllWithin, HoldsAt, list_any, remove}
+use Rattle.std.specs.Option.{IfNone, IfSome, MatchOption}
 use Rattle.std.specs.Prelude.{nat_eq, ◌==◌}
 use Rattle.std.proofs.lemmas.Bool.Decides.{nat_tests, Decides-and, Decides-like, Decides-eqb}
 use Rattle.shred_table.specs.Id.{same_id}
@@ -61,6 +62,21 @@ number_is ids i x d b lt e t = let same : (get_or ids i d).0 ≡ x = grind (arit
 
 pub number_is_not : (ids : List SystemId) (i x : ℕ) (d : SystemId) (b : Bool) → i < length ids → b ≡ nat_eq (get_or ids i d).0 x → b ≡ false → get_or (numbers_of ids) i 0 ≢ x
 number_is_not ids i x d b lt e t same = let other : (get_or ids i d).0 ≢ x = grind (arith, nat_tests) in other (sym (get_or-numbers_of ids i d lt) ∙ same)
+
+-- a search for a number tells what the list is without it
+pub without-found : (x : ℕ) (ids : List SystemId) (place : Option ℕ)
+    → MatchOption place (AllWithin (λ id. false ≡ nat_eq id.0 x) ids 0 (length ids)) (λ i. (i < length ids) × HoldsAt (λ id. true ≡ nat_eq id.0 x) ids i × AllWithin (λ id. false ≡ nat_eq id.0 x) ids 0 i)
+    → IfSome place (λ i. without_one x (numbers_of ids) ≡ remove (numbers_of ids) i) × IfNone place (without_one x (numbers_of ids) ≡ numbers_of ids)
+without-found x ids None none =
+    let d : SystemId = record { 0 = 0 } in
+    (tt, without-absent x (numbers_of ids) (λ k l. let lt : k < length ids = rw (length-map ids (λ (id : SystemId). id.0)) at l in number_is_not ids k x d false lt (none k d (omega arith) lt) refl))
+without-found x ids (Some i) found =
+    let d : SystemId = record { 0 = 0 } in
+    let within = found.0 in (
+      without-first x (numbers_of ids) i (rw (length-map ids (λ (id : SystemId). id.0)) within) (number_is ids i x d true within (found.1 d) refl)
+          (λ k l. number_is_not ids k x d false (omega (arith, l, within)) (found.2 k d (omega arith) l) refl),
+      tt,
+    )
 
 pub numbers_of-none : (ids : List SystemId) → length ids ≡ 0 → numbers_of ids ≡ []
 numbers_of-none ids e = ap numbers_of (nil_from_length ids e)

@@ -59,7 +59,3 @@ list_any-map f p (x ∷ xs) = ap (λ b. p (f x) || b) (list_any-map f p xs)
 pub list_any_agree : {X : Type 0} (p q : X → Bool) → ((x : X) → p x ≡ q x) → (xs : List X) → list_any p xs ≡ list_any q xs
 list_any_agree p q same [] = refl
 list_any_agree p q same (x ∷ xs) = let here : p x ≡ q x = same x in let rest : list_any p xs ≡ list_any q xs = list_any_agree p q same xs in cc
-
--- an item that a loop has read passes the test
-pub list_any-map_at : {X Y : Type 0} (f : X → Y) (p : Y → Bool) (xs : List X) (i : ℕ) (x : X) → i < length xs → x ≡ get_or xs i x → p (f x) ≡ true → list_any p (map f xs) ≡ true
-list_any-map_at f p xs i x lt e t = list_any-map f p xs ∙ list_any_at (λ x. p (f x)) xs i x lt (rw (← e) t)

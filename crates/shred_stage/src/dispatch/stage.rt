@@ -81,13 +81,9 @@ impl<V: ResourceValue, S: System<V>, C: BatchController<V>> Stage<V, S, C> {
         ensures added { IfOk result (λ stage. IsNew nothing_at (stage_entries stage) entry) }
     {
         let mut groups = Vec::new(alloc);
-        match Group::new(alloc, entry) {
-            Ok(group) => match groups.push(group) {
-                Ok(()) => Ok(Stage { groups }),
-                Err(_) => Err(OutOfMemory),
-            },
-            Err(e) => Err(e),
-        }
+        let group = Group::new(alloc, entry)?;
+        groups.push(group)?;
+        Ok(Stage { groups })
     }
 
     /// The number of groups.
@@ -209,13 +205,9 @@ impl<V: ResourceValue, S: System<V>, C: BatchController<V>> Stage<V, S, C> {
         ensures unchanged { OnErr result (AreSame (stage_entries self.old) (stage_entries self.new)) }
     {
         let alloc = *self.groups.allocator();
-        match Group::new(alloc, entry) {
-            Ok(group) => match self.groups.push(group) {
-                Ok(()) => Ok(()),
-                Err(_) => Err(OutOfMemory),
-            },
-            Err(e) => Err(e),
-        }
+        let group = Group::new(alloc, entry)?;
+        self.groups.push(group)?;
+        Ok(())
     }
 
     /// Puts the entry at the end of a group.

@@ -170,10 +170,7 @@ impl<V: ResourceValue, S: System<V>, C: BatchController<V>> StagesBuilder<V, S, 
         ensures barrier { barrier_of self.new ≡ barrier_of self.old }
     {
         let alloc = *self.stages.allocator();
-        let left = match SmallVec::from_slice(alloc, dependencies) {
-            Ok(left) => left,
-            Err(_) => return Err(OutOfMemory),
-        };
+        let left = SmallVec::from_slice(alloc, dependencies)?;
         match self.find(start, left, &entry) {
             None => self.push_stage(entry),
             Some((stage, Spot::NewGroup)) => self.push_group(stage, entry),

@@ -38,13 +38,12 @@ impl<'s, V: ResourceValue + Drop, T: Resource<V>, F> SystemData<'s, V> for Optio
         if let Err(error) = view.test::<T>(id, view.may_read(id)) {
             return Err(error);
         }
-        match view.hand_out(id) {
-            Ok(Some(resource)) => Ok(Some(Read {
+        match view.hand_out(id)? {
+            Some(resource) => Ok(Some(Read {
                 resource,
                 handler: PhantomData,
             })),
-            Ok(None) => Ok(None),
-            Err(OutOfMemory) => Err(DataError::OutOfMemory),
+            None => Ok(None),
         }
     }
 
@@ -85,13 +84,12 @@ impl<'s, V: ResourceValue + Drop, T: Resource<V>, F> SystemData<'s, V> for Optio
         if let Err(error) = view.test::<T>(id, view.may_write(id)) {
             return Err(error);
         }
-        match view.take_out(id) {
-            Ok(Some(resource)) => Ok(Some(Write {
+        match view.take_out(id)? {
+            Some(resource) => Ok(Some(Write {
                 resource,
                 handler: PhantomData,
             })),
-            Ok(None) => Ok(None),
-            Err(OutOfMemory) => Err(DataError::OutOfMemory),
+            None => Ok(None),
         }
     }
 

@@ -50,6 +50,16 @@ pub enum WorldError {
     Missing(ResourceId),
 }
 
+impl From<OutOfMemory> for WorldError {
+    ghost use Rattle.shred_world.specs.declared.world.WorldError.{WorldError};
+
+    ghost from_gives = { λ _ error. error ≡ WorldError.OutOfMemory };
+
+    fn from(_error: OutOfMemory) -> WorldError {
+        WorldError::OutOfMemory
+    }
+}
+
 /// Why `replace_raw` was refused; it hands the value back.
 #[derive(Debug, Drop, PartialEq, Error)]
 pub enum ReplaceError<V> {
@@ -180,10 +190,8 @@ impl<V: ResourceValue> World<V> {
         ensures out_of_memory { IfErr result (λ e. (R.KIND ≡ id_kind id) → (e ≡ WorldError.OutOfMemory) × (world_held V.kind_of self.old id ≡ None)) }
     {
         test_kind::<V, R>(id)?;
-        match table::put(&mut self.local.table, id, resource.wrap()) {
-            Ok(()) => Ok(()),
-            Err(OutOfMemory) => Err(WorldError::OutOfMemory),
-        }
+        table::put(&mut self.local.table, id, resource.wrap())?;
+        Ok(())
     }
 
     // Holds what the closure gives, under an id of its kind where nothing is held. Room is made before the closure is
@@ -205,13 +213,9 @@ impl<V: ResourceValue> World<V> {
         if self.has_value_raw(id) {
             return Ok(());
         }
-        if let Err(OutOfMemory) = table::open(&mut self.local.table, id) {
-            return Err(WorldError::OutOfMemory);
-        }
-        match table::put(&mut self.local.table, id, make().wrap()) {
-            Ok(()) => Ok(()),
-            Err(OutOfMemory) => Err(WorldError::OutOfMemory),
-        }
+        table::open(&mut self.local.table, id)?;
+        table::put(&mut self.local.table, id, make().wrap())?;
+        Ok(())
     }
 
     /// The resource that was held, if one was, which leaves the world.

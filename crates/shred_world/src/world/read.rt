@@ -96,13 +96,12 @@ impl<'s, V: ResourceValue + Drop, T: Resource<V>, F: SetupHandler<V, T>> SystemD
         if let Err(error) = view.test::<T>(id, view.may_read(id)) {
             return Err(error);
         }
-        match view.hand_out(id) {
-            Ok(Some(resource)) => Ok(Read {
+        match view.hand_out(id)? {
+            Some(resource) => Ok(Read {
                 resource,
                 handler: PhantomData,
             }),
-            Ok(None) => Err(DataError::Missing(id)),
-            Err(OutOfMemory) => Err(DataError::OutOfMemory),
+            None => Err(DataError::Missing(id)),
         }
     }
 

@@ -17,10 +17,8 @@ pub(crate) fn joined(
 ) -> Result<Vec<ResourceId>, OutOfMemory>
     ensures { IfOk result (λ joined. joined.items ≡ ids.items ++ more.now) }
 {
-    match ids.extend_from_slice(more) {
-        Ok(()) => Ok(ids),
-        Err(_) => Err(OutOfMemory),
-    }
+    ids.extend_from_slice(more)?;
+    Ok(ids)
 }
 
 // The ids that the bundle reads, behind these.

@@ -12,6 +12,7 @@ ghost use Rattle.shred_world.specs.Views.{shelf_slot, lent_slot, view_slot, view
 ghost use Rattle.shred_table.specs.Id.{id_kind};
 ghost use Rattle.shred_table.specs.Slots.{is_vacant};
 
+use shred_table::accessor::OutOfMemory;
 use shred_table::id::{Kind, ResourceId};
 use shred_table::resource::{Resource, ResourceValue};
 use shred_table::table::{self, Slot, Table};
@@ -34,6 +35,16 @@ pub enum DataError {
     /// The caller's type has the kind `asked`, and the id the kind `found`.
     #[error("{asked} was asked for, and the id is of {found}")]
     WrongKind { asked: Kind, found: Kind },
+}
+
+impl From<OutOfMemory> for DataError {
+    ghost use Rattle.shred_world.specs.declared.world.view.DataError.{DataError};
+
+    ghost from_gives = { λ _ error. error ≡ DataError.OutOfMemory };
+
+    fn from(_error: OutOfMemory) -> DataError {
+        DataError::OutOfMemory
+    }
 }
 
 /// Tables lent shared, one behind another. An id is looked for in the nearest table beside which it is listed, and in the

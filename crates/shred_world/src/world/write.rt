@@ -82,13 +82,12 @@ impl<'s, V: ResourceValue + Drop, T: Resource<V>, F: SetupHandler<V, T>> SystemD
         if let Err(error) = view.test::<T>(id, view.may_write(id)) {
             return Err(error);
         }
-        match view.take_out(id) {
-            Ok(Some(resource)) => Ok(Write {
+        match view.take_out(id)? {
+            Some(resource) => Ok(Write {
                 resource,
                 handler: PhantomData,
             }),
-            Ok(None) => Err(DataError::Missing(id)),
-            Err(OutOfMemory) => Err(DataError::OutOfMemory),
+            None => Err(DataError::Missing(id)),
         }
     }
 

@@ -4,7 +4,7 @@ use Rattle.shred_run.specs.Works.{tiers_plan}
 use Rattle.shred_run.specs.Sides.{stage_side}
 use Rattle.shred_run.proofs.kept.joined.Goals as goal
 
-pub returns-in-Ok-append_tiers-clause-same : goal.returns-in-Ok-append_tiers-clause-same
-returns-in-Ok-append_tiers-clause-same g c =
-    let all = c.in-Ok-append_tiers.ensures ∙ ap (λ ids. ids ++ flat_map (stage_side c.args.side) (tiers_plan c.args.tiers.now.items)) c.in-Ok.ensures.items in
+pub returns-clause-same : goal.returns-clause-same
+returns-clause-same g c =
+    let all = c.in_ok-append_tiers.ensures ∙ ap (λ ids. ids ++ flat_map (stage_side c.args.side) (tiers_plan c.args.tiers.now.items)) c.in_ok-ids.ensures.items in
     rw all at c.sort_without_doubles.ensures.same

@@ -20,7 +20,7 @@ loop-place-preserved c =
     let name = (get_or wanted place (record { ref_ptr = (0, 0); now = [] })).now in
     let at = mapped_at (λ (t : Bor (List ℕ)). t.now) wanted place (record { ref_ptr = (0, 0); now = [] }) c.loop-place-test.true in
     ids-next known (texts_of wanted) place name c.loop-place.ids.items c.push.new.self.items c.unwrap_or-id.result at c.loop-place.invariant (known-number c.id_of.result (known name) c.unwrap_or-id.result c.unwrap_or-id.ensures c.id_of.ensures)
-    c.in_default.ensures.items
+    c.in_ok-push.ensures.items
 
 pub returns : goal.returns
 returns c =

@@ -19,8 +19,8 @@ loop-pair-preserved g c =
     let pair : Pair = slice_index_or pairs i (record { ref_ptr = (0, 0); now = [] }, record { ref_ptr = (0, 0); now = [] }) in
     let more : take (i + 1) pairs ≡ take i pairs ++ pair ∷ [] = take_more pairs i (record { ref_ptr = (0, 0); now = [] }, record { ref_ptr = (0, 0); now = [] }) c.loop-pair-test.true in
     let zip : AllZip (HasRoom c.args.table.now) (take i pairs ++ pair ∷ []) (c.loop-pair.hands.items ++ c.make_room.new.hand ∷ []) =
-    all_zipped_more (HasRoom c.args.table.now) (take i pairs) c.loop-pair.hands.items pair c.make_room.new.hand c.loop-pair.invariant c.in_default.ensures.room in
-    subst (λ (hs : List (Table g.row.V.Denot)). AllZip (HasRoom c.args.table.now) (take (i + 1) pairs) hs) (sym c.in-Ok.ensures.items)
+    all_zipped_more (HasRoom c.args.table.now) (take i pairs) c.loop-pair.hands.items pair c.make_room.new.hand c.loop-pair.invariant c.in_ok-make_room.ensures.room in
+    subst (λ (hs : List (Table g.row.V.Denot)). AllZip (HasRoom c.args.table.now) (take (i + 1) pairs) hs) (sym c.in_ok-push.ensures.items)
     (subst (λ (ps : List Pair). AllZip (HasRoom c.args.table.now) ps (c.loop-pair.hands.items ++ c.make_room.new.hand ∷ [])) (sym more) zip)
 
 pub make_room-requires : goal.make_room-requires

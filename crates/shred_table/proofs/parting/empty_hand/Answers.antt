@@ -11,8 +11,8 @@ loop-id-preserved g c =
     let id = slice_index_or ids c.loop-id.id-index d in
     let was = slot_at c.loop-id.hand in
     cond-more (λ q. Some (record { value = None })) (λ q. None) c.loop-id.id-index ids d c.loop-id-test.true was (slot_at c.open.new.table)
-    (λ q e. c.in-Ok.ensures.ok q ∙ with_at-here was id _ q e)
-    (λ q e. c.in-Ok.ensures.ok q ∙ with_at-there was id _ q e)
+    (λ q e. c.in_ok-open.ensures.ok q ∙ with_at-here was id _ q e)
+    (λ q e. c.in_ok-open.ensures.ok q ∙ with_at-there was id _ q e)
     c.loop-id.invariant
 
 pub returns : goal.returns

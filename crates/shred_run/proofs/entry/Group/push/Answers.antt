@@ -3,8 +3,8 @@ use Rattle.std.proofs.lemmas.List.{length-map}
 use Rattle.shred_run.proofs.Groups.GrownGroups.{room-grown}
 use Rattle.shred_run.proofs.entry.Group.push.Goals as goal
 
-pub returns-in-Ok-push_or_drop-clause-room : goal.returns-in-Ok-push_or_drop-clause-room
-returns-in-Ok-push_or_drop-clause-room g c = room-grown c.args.self.now _ c.args.entry (search rules) (search rules) (search rules) c.requires.room
+pub returns-clause-room : goal.returns-clause-room
+returns-clause-room g c = room-grown c.args.self.now _ c.args.entry (search rules) (search rules) (search rules) c.requires.room
 
 pub push-requires : goal.push-requires
 push-requires g c =

@@ -1,4 +1,5 @@
 use Rattle.std.proofs.Common.{slice_index_or, take, ◌∙◌, ap, arith}
+use Rattle.std.proofs.lemmas.Result.{err_from_is_err_and}
 use Rattle.shred_table.specs.declared.id.ResourceId.{ResourceId}
 use Rattle.shred_table.specs.Parting.{emptied}
 use Rattle.shred_table.specs.Slots.{slot_at, among}
@@ -12,10 +13,10 @@ fit-requires g c =
     let id = slice_index_or ids c.loop-id.id-index (record { kind = record { 0 = 0 }; dynamic_id = 0 }) in
     spare-empty (among ids id) _ (spare-along (among (take c.loop-id.id-index ids) id) (among ids id) (among-within c.loop-id.id-index ids id) _ _ _ (c.loop-id.invariant id) (c.requires id))
 
-pub returns-in-Err-clause-spare : goal.returns-in-Err-clause-spare
-returns-in-Err-clause-spare g c = λ q.
+pub returns-in_err-fit-clause-spare : goal.returns-in_err-fit-clause-spare
+returns-in_err-fit-clause-spare g c = let p = err_from_is_err_and c.from_residual.result c.from_residual.ensures.1 in rw p.1 (λ q.
     let ids = c.args.ids.now in
-    spare-along (among (take c.loop-id.id-index ids) q) (among ids q) (among-within c.loop-id.id-index ids q) _ _ _ (c.in-Err.ensures.err q ∙ c.loop-id.invariant q) (c.requires q)
+    spare-along (among (take c.loop-id.id-index ids) q) (among ids q) (among-within c.loop-id.id-index ids q) _ _ _ (c.in_err-fit.ensures.err q ∙ c.loop-id.invariant q) (c.requires q))
 
 pub loop-id-preserved : goal.loop-id-preserved
 loop-id-preserved g c =
@@ -24,8 +25,8 @@ loop-id-preserved g c =
     let id = slice_index_or ids c.loop-id.id-index d in
     let was = slot_at c.loop-id.hand in
     cond-more (λ q. emptied (slot_at c.args.self.now q)) (slot_at c.args.hand.now) c.loop-id.id-index ids d c.loop-id-test.true was (slot_at c.fit.new.hand)
-    (λ q e. c.in-Ok.ensures.ok q ∙ with_at-here was id _ q e ∙ ap (λ (x : ResourceId). emptied (slot_at c.args.self.now x)) (same_id-true id q e))
-    (λ q e. c.in-Ok.ensures.ok q ∙ with_at-there was id _ q e)
+    (λ q e. c.in_ok-fit.ensures.ok q ∙ with_at-here was id _ q e ∙ ap (λ (x : ResourceId). emptied (slot_at c.args.self.now x)) (same_id-true id q e))
+    (λ q e. c.in_ok-fit.ensures.ok q ∙ with_at-there was id _ q e)
     c.loop-id.invariant
 
 pub returns-clause-room : goal.returns-clause-room

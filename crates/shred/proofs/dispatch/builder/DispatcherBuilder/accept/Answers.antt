@@ -12,14 +12,14 @@ use Rattle.shred.proofs.dispatch.builder.DispatcherBuilder.accept.Goals as goal
 pub returns-clause-added : goal.returns-clause-added
 returns-clause-added g c =
     let old = c.args.self.now.stages in
-    let is = c.in_default-insert_entry.ensures.inserted in
-    let same : numbers_of c.as_slice.result.now ≡ known_ids (names_of c.args.self.now.names) (texts_of c.args.dependencies.now) = ap numbers_of c.as_slice.ensures.value ∙ c.in-Ok.ensures in
+    let is = c.in_default.ensures.inserted in
+    let same : numbers_of c.as_slice.result.now ≡ known_ids (names_of c.args.self.now.names) (texts_of c.args.dependencies.now) = ap numbers_of c.as_slice.ensures.value ∙ c.in_ok-ids.ensures in
     record {
       placed = subst (λ ids. IsPlaced (planned old) (barrier_of old) (barrier_of old) ids (entry_plan c.args.entry) (planned c.insert_entry.new.self)) same is.placed;
       added = is.added;
       from_barrier = is.from_barrier;
       after = stands-after_all (planned old) (names_of c.args.self.now.names) (texts_of c.args.dependencies.now) is.added.place c.args.self.now.known_planned c.requires.allowed.all_known (subst (λ ids. ComesAfter (planned old) ids is.added.place) same is.after);
-      known = c.in_default-enter.ensures.ok;
+      known = c.in_ok-enter.ensures.ok;
       barrier = c.insert_entry.ensures.barrier;
       next = refl;
       locals = refl;
@@ -29,36 +29,36 @@ returns-clause-added g c =
 pub invariant_of-self-2 : goal.invariant_of-self-2
 invariant_of-self-2 g c =
     let entry = entry_plan c.args.entry in
-    let added = c.in_default-insert_entry.ensures.inserted.added in
+    let added = c.in_default.ensures.inserted.added in
     record {
       distinct_names = c.enter.ensures.distinct c.args.self.now.distinct_names;
-      known_planned = known-still (planned c.args.self.now.stages) (planned c.insert_entry.new.self) added.place entry (names_of c.args.self.now.names) (names_of c.enter.new.names) c.args.name.now c.args.self.now.next c.requires.id added.entry_is_new c.in_default-enter.ensures.ok c.args.self.now.known_planned;
-      consistent = entered-consistent _ _ added.place entry c.args.name.now c.requires.id added.entry_is_new c.in_default-enter.ensures.ok refl c.args.self.now.consistent;
+      known_planned = known-still (planned c.args.self.now.stages) (planned c.insert_entry.new.self) added.place entry (names_of c.args.self.now.names) (names_of c.enter.new.names) c.args.name.now c.args.self.now.next c.requires.id added.entry_is_new c.in_ok-enter.ensures.ok c.args.self.now.known_planned;
+      consistent = entered-consistent _ _ added.place entry c.args.name.now c.requires.id added.entry_is_new c.in_ok-enter.ensures.ok refl c.args.self.now.consistent;
     }
 
-pub invariant_of-self-in-Err-insert_entry : goal.invariant_of-self-in-Err-insert_entry
-invariant_of-self-in-Err-insert_entry g c =
-    let same = known-again (names_of c.args.self.now.names) (names_of c.enter.new.names) (names_of c.forget.new.names) c.args.name.now c.args.self.now.next c.requires.allowed.is_new c.in_default-enter.ensures.ok c.forget.ensures.forgotten in
+pub invariant_of-self-in-Err : goal.invariant_of-self-in-Err
+invariant_of-self-in-Err g c =
+    let same = known-again (names_of c.args.self.now.names) (names_of c.enter.new.names) (names_of c.forget.new.names) c.args.name.now c.args.self.now.next c.requires.allowed.is_new c.in_ok-enter.ensures.ok c.forget.ensures.forgotten in
     record {
       distinct_names = c.forget.ensures.distinct;
-      known_planned = λ name id e. rw c.in-Err-insert_entry.ensures.err (c.args.self.now.known_planned name id (sym (same name) ∙ e));
-      consistent = still-consistent _ _ c.in-Err-insert_entry.ensures.err same refl c.args.self.now.consistent;
+      known_planned = λ name id e. rw c.in-Err.ensures.err (c.args.self.now.known_planned name id (sym (same name) ∙ e));
+      consistent = still-consistent _ _ c.in-Err.ensures.err same refl c.args.self.now.consistent;
     }
 
 pub invariant_of-self : goal.invariant_of-self
 invariant_of-self g c =
-    let same = c.in-Err.ensures.err in
+    let same = c.in_err-enter.ensures.err in
     record {
-      distinct_names = c.in-Err.ensures.distinct c.args.self.now.distinct_names;
+      distinct_names = c.in_err-enter.ensures.distinct c.args.self.now.distinct_names;
       known_planned = λ name id e. c.args.self.now.known_planned name id (sym (same name) ∙ e);
       consistent = still-consistent _ _ refl same refl c.args.self.now.consistent;
     }
 
-pub returns-in-Err-insert_entry-clause-unchanged : goal.returns-in-Err-insert_entry-clause-unchanged
-returns-in-Err-insert_entry-clause-unchanged g c = record {
-  plan = c.in-Err-insert_entry.ensures.err;
-  states = c.in-Err-insert_entry.ensures.states;
-  known = known-again (names_of c.args.self.now.names) (names_of c.enter.new.names) (names_of c.forget.new.names) c.args.name.now c.args.self.now.next c.requires.allowed.is_new c.in_default-enter.ensures.ok c.forget.ensures.forgotten;
+pub returns-in-Err-clause-unchanged : goal.returns-in-Err-clause-unchanged
+returns-in-Err-clause-unchanged g c = record {
+  plan = c.in-Err.ensures.err;
+  states = c.in-Err.ensures.states;
+  known = known-again (names_of c.args.self.now.names) (names_of c.enter.new.names) (names_of c.forget.new.names) c.args.name.now c.args.self.now.next c.requires.allowed.is_new c.in_ok-enter.ensures.ok c.forget.ensures.forgotten;
   barrier = c.insert_entry.ensures.barrier;
   next = refl;
   locals = refl;

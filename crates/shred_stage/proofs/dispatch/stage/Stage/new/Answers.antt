@@ -8,13 +8,13 @@ use Rattle.shred_run.specs.OwnDepth.{OwnsItself}
 use Rattle.shred_stage.proofs.dispatch.stage.Stage.new.Goals as goal
 use Rattle.shred_run.specs.Depths.{lists_of}
 
-pub returns-in-Ok-push-clause-added : goal.returns-in-Ok-push-clause-added
-returns-in-Ok-push-clause-added g c =
-    let only : c.push.new.self.items ≡ c.in-Ok.group ∷ [] = search rules in
-    new_alone_in group_entries c.in-Ok.group c.push.new.self.items c.args.entry only (new_in_group c.in-Ok.group c.args.entry c.in-Ok.ensures.entries)
+pub returns-clause-added : goal.returns-clause-added
+returns-clause-added g c =
+    let only : c.push.new.self.items ≡ c.in_ok-group.group ∷ [] = search rules in
+    new_alone_in group_entries c.in_ok-group.group c.push.new.self.items c.args.entry only (new_in_group c.in_ok-group.group c.args.entry c.in_ok-group.ensures.entries)
 
 pub invariant_of-result : goal.invariant_of-result
 invariant_of-result g c =
-    let only : c.push.new.self.items ≡ c.in-Ok.group ∷ [] = search rules in
-    kept_alone (OwnsItself (lists_of g.S.System.reads g.S.System.writes g.C.BatchController.reads g.C.BatchController.writes)) c.in-Ok.group c.args.entry c.push.new.self.items only c.in-Ok.ensures.plan c.in-Ok.ensures.ids c.in-Ok.ensures.room
-    (own_alone (OwnsItself (lists_of g.S.System.reads g.S.System.writes g.C.BatchController.reads g.C.BatchController.writes)) c.in-Ok.group c.args.entry c.in-Ok.ensures.entries c.requires.own_lists)
+    let only : c.push.new.self.items ≡ c.in_ok-group.group ∷ [] = search rules in
+    kept_alone (OwnsItself (lists_of g.S.System.reads g.S.System.writes g.C.BatchController.reads g.C.BatchController.writes)) c.in_ok-group.group c.args.entry c.push.new.self.items only c.in_ok-group.ensures.plan c.in_ok-group.ensures.ids c.in_ok-group.ensures.room
+    (own_alone (OwnsItself (lists_of g.S.System.reads g.S.System.writes g.C.BatchController.reads g.C.BatchController.writes)) c.in_ok-group.group c.args.entry c.in_ok-group.ensures.entries c.requires.own_lists)

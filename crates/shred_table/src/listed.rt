@@ -27,6 +27,7 @@ impl<V> Listed<V> {
     ghost use Rattle.shred_table.specs.Listed.{listed_at, IsPlaceOf, IsGapFor};
     ghost use Rattle.shred_table.specs.Counts.{IsCountOf, IsWithinDigits};
     ghost use Rattle.shred_table.specs.InOrder.{comes_first};
+    ghost use Rattle.shred_table.specs.Parting.{emptied, slot_value};
     ghost use Rattle.shred_table.specs.Slots.{slot_held, with_at};
 
     // No slots. It takes no memory.
@@ -71,11 +72,15 @@ impl<V> Listed<V> {
         self.place(id)
     }
 
-    // Where the slot of the id is, or where it would go, to be looked at first later on.
-    pub(crate) fn find(&self, id: ResourceId, near: usize) -> usize {
+    // Takes the value out of the slot of an id, which stays, and tells where the slot is, or where it would go. A place is
+    // looked at first.
+    pub(crate) fn take(&mut self, id: ResourceId, near: usize) -> (Option<V>, usize)
+        ensures value { result.0 ≡ slot_value (listed_at self.old id) }
+        ensures slots { (q : ResourceId) → listed_at self.new q ≡ with_at (listed_at self.old) id (emptied (listed_at self.old id)) q }
+    {
         match self.place_near(id, near) {
-            Ok(place) => place,
-            Err(place) => place,
+            Ok(place) => (self.slots[place].1.value.take(), place),
+            Err(place) => (None, place),
         }
     }
 

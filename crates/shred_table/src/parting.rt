@@ -59,8 +59,8 @@ impl<V: Drop> Table<V> {
         ensures from { (q : ResourceId) → slot_at self.new q ≡ with_at (slot_at self.old) id (emptied (slot_at self.old id)) q }
         ensures to { (q : ResourceId) → slot_at to.new q ≡ with_at (slot_at to.old) id (given (slot_value (slot_at self.old id)) (slot_at to.old id)) q }
     {
-        let home = self.find(id);
-        if let Some(value) = take_near(self, id, home) {
+        let (value, home) = self.take_next(id);
+        if let Some(value) = value {
             fill_near(to, id, number, value);
         }
         to.note_home(number, home);

@@ -176,14 +176,16 @@ impl<V> Table<V> {
         let _ = self.slots.remove(id);
     }
 
-    // Where the slot of the id is, to be looked at first later on; behind it the next one is looked for.
-    pub(crate) fn find(&mut self, id: ResourceId) -> usize
-        ensures slots { slots_of self.new ≡ slots_of self.old }
+    // Takes the value out of the slot of an id, which stays, and tells where it was, to be looked at first later on; behind it
+    // the next one is looked for.
+    pub(crate) fn take_next(&mut self, id: ResourceId) -> (Option<V>, usize)
+        ensures value { result.0 ≡ slot_value (slot_at self.old id) }
+        ensures slots { (q : ResourceId) → slot_at self.new q ≡ with_at (slot_at self.old) id (emptied (slot_at self.old id)) q }
         ensures noted { (q : ResourceId) → noted_in self.new q ≡ noted_in self.old q }
     {
-        let place = self.slots.find(id, self.hints.next());
+        let (value, place) = self.slots.take(id, self.hints.next());
         self.hints.found(place);
-        place
+        (value, place)
     }
 
     /// Looks for what is moved next from the first slot on.
@@ -286,10 +288,7 @@ pub(crate) fn take_near<V>(table: &mut Table<V>, id: ResourceId, near: usize) ->
     ensures slots { (q : ResourceId) → slot_at table.new q ≡ with_at (slot_at table.old) id (emptied (slot_at table.old id)) q }
     ensures noted { (q : ResourceId) → noted_in table.new q ≡ noted_in table.old q }
 {
-    match table.slot_mut_near(id, near) {
-        Some(slot) => slot.value.take(),
-        None => None,
-    }
+    table.slots.take(id, near).0
 }
 
 /// Puts a value into the slot of an id, where there is one.

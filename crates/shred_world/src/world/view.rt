@@ -84,6 +84,14 @@ impl<'s, V> Shelf<'s, V> {
     }
 }
 
+// Whether the id is one of these. A place of the list is looked at first.
+#[inline(always)]
+fn is_listed(ids: &[ResourceId], id: ResourceId, near: usize) -> bool
+    ensures { result ≡ among ids.now id }
+{
+    near < ids.len() && ids[near] == id || ids.contains(&id)
+}
+
 /// What is lent of a world: ids that may be read or written, each with its value where one is held.
 #[derive(Drop)]
 pub struct View<'s, 'a, V> {
@@ -150,7 +158,10 @@ impl<'s, 'a, V: ResourceValue> View<'s, 'a, V> {
         requires { is_some place ≡ among self.now.owned.now id }
         ensures { result ≡ may_write self.now id }
     {
-        self.is_whole() || (self.writes.contains(&id) && place.is_some())
+        match place {
+            Some(near) => self.is_whole() || is_listed(self.writes, id, near),
+            None => self.is_whole(),
+        }
     }
 
     // Whether an id may be read that is listed at this place.
@@ -184,6 +195,7 @@ impl<'s, 'a, V: ResourceValue> View<'s, 'a, V> {
         }
     }
 
+    #[inline(always)]
     fn is_out(&self, id: ResourceId) -> bool
         ensures { result ≡ is_out self.now id }
     {

@@ -11,6 +11,7 @@
 #![tactic(auto)]
 
 pub mod dispatch;
+pub mod named;
 pub mod now;
 pub mod one_of;
 pub mod plain;
@@ -22,6 +23,7 @@ pub use dispatch::builder::DispatcherBuilder;
 pub use dispatch::dispatcher::{Dispatcher, new_dispatcher};
 pub use dispatch::names::SystemNames;
 pub use dispatch::told::Told;
+pub use named::{KindNames, Named};
 pub use now::Now;
 pub use one_of::OneOf;
 pub use plain::{Plain, PlainSystem};

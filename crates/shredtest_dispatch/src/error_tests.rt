@@ -1,7 +1,8 @@
 //! The errors of plans and dispatches as std's `Error`, and their texts.
 use crate::calls::text_of;
 use shred::{
-    AddError, DataError, DispatchError, Fault, PrintError, SinkFailed, StageFault, SystemId,
+    AddError, DataError, DispatchError, Fault, Kind, KindNames, Named, PrintError, ResourceId,
+    SinkFailed, StageFault, SystemId,
 };
 use std::alloc::Global;
 use std::error::Error;
@@ -41,4 +42,47 @@ fn errors_of_a_plan_have_texts(rt: HostRuntime) -> Result<(), Fail> {
     expect_text(&rt, alloc, &staged, "system 2: refused: out of memory")?;
     let memory: DispatchError<DataError> = DispatchError::StageMemory { stage: 1 };
     expect_text(&rt, alloc, &memory, "stage 1: out of memory")
+}
+
+/// Names of two kinds.
+#[derive(Drop)]
+struct Parts;
+
+impl KindNames for Parts {
+    fn kind_name(kind: Kind) -> Option<&'static str> {
+        match kind.0 {
+            1 => Some("Speed"),
+            2 => Some("Wheels"),
+            _ => None,
+        }
+    }
+}
+
+#[test]
+fn a_kind_is_told_by_its_name(rt: HostRuntime) -> Result<(), Fail> {
+    let id = |kind, number| ResourceId::from_type_id_and_dynamic_id(Kind(kind), number);
+    let rows = [
+        (DataError::Missing(id(1, 0)), "nothing is held under Speed"),
+        (
+            DataError::Undeclared(id(2, 3)),
+            "Wheels, number 3 is not declared for this use",
+        ),
+        (
+            DataError::Taken(id(7, 0)),
+            "kind 7, number 0 is handed out already",
+        ),
+        (
+            DataError::WrongKind {
+                asked: Kind(1),
+                found: Kind(7),
+            },
+            "Speed was asked for, and the id is of kind 7",
+        ),
+        (DataError::OutOfMemory, "out of memory"),
+    ];
+    for (error, text) in rows {
+        let named: Named<DataError, Parts> = Named::new(error);
+        assert_eq!(rt; text_of(rt.alloc(), &named)?.as_str(), text);
+    }
+    Ok(())
 }

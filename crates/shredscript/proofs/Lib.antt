@@ -1,4 +1,3 @@
-pub mod Changed
 pub mod Declares
 pub mod InOrder
 pub mod Overlaid

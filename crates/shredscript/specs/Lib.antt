@@ -1,5 +1,3 @@
-pub mod Operation
-pub mod Change
 pub mod Steps
 pub mod Overlaid
 pub mod Lines

@@ -1,28 +1,15 @@
 -- What the steps of a system do, in order, to the values that are seen.
-use Rattle.std.specs.Prelude.{ℕ, ℤ, Some, cond, List, [], ◌∷◌, Result, Ok, Err, is_ok}
+use Rattle.std.specs.Prelude.{cond, List, [], ◌∷◌, Ok, Err, is_ok}
 use Rattle.std.specs.Result.{result_and}
 use Rattle.shred_world.specs.Worked.{Held}
-use Rattle.shred_run.specs.declared.system.Fault.{Fault}
 use Rattle.shred_run.specs.declared.system.Fault.TheVariants.{Refused}
 use Rattle.shred_run.specs.Steps.{Outcome}
-use Rattle.shred_table.specs.Slots.{with_at}
+use Rattle.shredscript_text.specs.Change.{change_left, change_outcome, changed}
 use Rattle.shredscript_text.specs.declared.outcome.Refusal.{Refusal}
 use Rattle.shredscript_text.specs.declared.outcome.Refusal.TheVariants.{Code}
 use Rattle.shredscript_text.specs.declared.step.Step.{Step}
 use Rattle.shredscript_text.specs.declared.step.Step.TheVariants.{Change, Read, Write, Refuse}
 use Rattle.shredscript_text.specs.declared.value.Value.{Value}
-use Rattle.shredscript.specs.Change.{changed}
-use Rattle.shredscript_text.specs.Place.{id_at}
-
--- a change is Done where there is a new number, and is refused where there is none
-abbrev pub change_outcome : Result ℤ (Fault Refusal) → Outcome Refusal
-change_outcome (Ok number) = Ok tt
-change_outcome (Err fault) = Err fault
-
--- the values with the new number at the target, or as they were where there is none
-abbrev pub change_left : Held Value → ℕ → Result ℤ (Fault Refusal) → Held Value
-change_left seen target (Ok number) = with_at seen (id_at target) (Some (record { 0 = number }))
-change_left seen target (Err fault) = seen
 
 -- how one step ends on these values
 abbrev pub step_outcome : Step → Held Value → Outcome Refusal

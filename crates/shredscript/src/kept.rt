@@ -14,9 +14,10 @@ use crate::declared::Declared;
 use crate::stepping::run_steps;
 use arrayvec::ArrayVec;
 use shred_run::Fault;
+use shredscript_text::arithmetic::change_number;
 use shredscript_text::numbers::Numbers;
 use shredscript_text::outcome::Refusal;
-use shredscript_text::step::Step;
+use shredscript_text::step::{Operation, Step};
 
 /// The number of the resource at a place.
 #[derive(Clone, Copy, Default)]
@@ -54,8 +55,18 @@ impl<N: Numbers> Numbers for Keeping<'_, N> {
         }
     }
 
-    fn set(&mut self, place: usize, number: i64) {
+    fn change(
+        &mut self,
+        place: usize,
+        operation: Operation,
+        operand: i64,
+    ) -> Result<(), Fault<Refusal>> {
+        let Some(mut number) = number_in(self.written.as_slice(), place) else {
+            unreachable!()
+        };
+        let outcome = change_number(&mut number, operation, operand);
         put(self.written.as_mut_slice(), place, number);
+        outcome
     }
 
     ghost keeps_same = { λ x. (refl, refl, refl) };
@@ -126,7 +137,9 @@ fn write_kept<N: Numbers>(kept: &[KeptNumber], numbers: &mut N)
 {
     if let Some((first, rest)) = kept.split_first() {
         write_kept(rest, numbers);
-        numbers.set(first.place, first.number);
+
+        // A number is held there, so it is not refused.
+        let _ = numbers.change(first.place, Operation::Set, first.number);
     }
 }
 

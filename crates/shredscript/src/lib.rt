@@ -1,7 +1,6 @@
 //! The engine of the script language: the steps of a script's systems, the plan that its lines make, its runs, and what is printed of it.
 #![tactic(auto)]
 
-mod arithmetic;
 mod batch;
 mod build;
 mod declared;

@@ -4,11 +4,10 @@ ghost use Rattle.std.specs.List.{All};
 ghost use Rattle.std.specs.Option.{ok_or};
 ghost use Rattle.shred_run.specs.declared.system.Fault.TheVariants.{Refused};
 ghost use Rattle.shredscript_text.specs.declared.outcome.Refusal.TheVariants.{Undeclared};
-ghost use Rattle.shredscript.specs.Change.{changed, operand_number};
+ghost use Rattle.shredscript_text.specs.Change.{change_left, change_outcome, changed, operand_number};
 ghost use Rattle.shredscript_text.specs.Declares.{AllowsStep};
-ghost use Rattle.shredscript.specs.Steps.{change_outcome, change_left, step_outcome, step_left, steps_outcome, steps_left};
+ghost use Rattle.shredscript.specs.Steps.{step_outcome, step_left, steps_outcome, steps_left};
 
-use crate::arithmetic::apply;
 use shred_run::Fault;
 use shredscript_text::numbers::Numbers;
 use shredscript_text::outcome::Refusal;
@@ -49,6 +48,7 @@ fn run_step<N: Numbers>(step: Step, numbers: &mut N) -> Result<(), Fault<Refusal
     }
 }
 
+/// Changes the target by what the operand stands for, which is looked up first.
 fn change<N: Numbers>(
     numbers: &mut N,
     target: usize,
@@ -61,37 +61,8 @@ fn change<N: Numbers>(
     ensures left { N.seen numbers.new ≡ change_left (N.seen numbers.old) target (changed (N.seen numbers.old) target operation operand) }
     ensures keeps { N.keeps numbers.old numbers.new }
 {
-    match changed(numbers, target, operation, operand) {
-        Ok(number) => {
-            numbers.set(target, number);
-            Ok(())
-        }
-        Err(fault) => Err(fault),
-    }
-}
-
-/// The number that a change gives its target.
-fn changed<N: Numbers>(
-    numbers: &N,
-    target: usize,
-    operation: Operation,
-    operand: Operand,
-) -> Result<i64, Fault<Refusal>>
-    requires { N.is_ready numbers.now }
-    ensures { result ≡ changed (N.seen numbers.now) target operation operand }
-{
-    let operand = match operand_number(numbers, operand) {
-        Ok(number) => number,
-        Err(fault) => return Err(fault),
-    };
-    let value = match numbers.number(target) {
-        Ok(number) => number,
-        Err(fault) => return Err(fault),
-    };
-    match apply(operation, value, operand) {
-        Some(next) => Ok(next),
-        None => Err(Fault::Refused(Refusal::Overflow)),
-    }
+    let operand = operand_number(numbers, operand)?;
+    numbers.change(target, operation, operand)
 }
 
 /// The number that an operand stands for.

@@ -4,3 +4,4 @@ pub mod Shown
 pub mod Trimmed
 pub mod Written
 pub mod Parsing
+pub mod Changed

@@ -1,15 +1,23 @@
 -- The values that a view shows, as they are read and written.
-use Rattle.std.proofs.Common.{◌≡◌, Bool, true, false, cond, ◌&&◌, ◌||◌, Some, None, refl, sym, ◌∙◌, ap}
+use Rattle.std.proofs.Common.{◌≡◌, ℕ, ℤ, Bool, true, false, cond, ◌&&◌, ◌||◌, Option, Some, None, refl, sym, subst, ◌∙◌, ap}
 use Rattle.std.proofs.Math.Path.{fun_ext}
-use Rattle.std.specs.Prelude.{ℕ, Option, IsSome, is_some}
+use Rattle.std.specs.Prelude.{is_some}
 use Rattle.std.specs.Option.{option_map}
+use Rattle.shred_run.specs.Faults.{FaultGives}
+use Rattle.shred_run.specs.declared.system.Fault.{Fault}
+use Rattle.shred_run.specs.declared.system.Fault.TheVariants.{Refused}
 use Rattle.shredscript_text.specs.Frame.{ChangesWritten}
 use Rattle.shred_table.specs.declared.id.ResourceId.{ResourceId}
+use Rattle.shred_world.specs.declared.world.view.DataError.{DataError}
+use Rattle.shred_world.specs.declared.world.view.DataError.TheVariants.{Missing}
 use Rattle.shred_world.specs.declared.world.view.View.{View}
 use Rattle.shred_table.specs.Id.{same_id}
 use Rattle.shred_table.specs.Slots.{among, with_at}
-use Rattle.shred_world.specs.Views.{may_read, may_write, view_held, IsSameView}
+use Rattle.shred_world.specs.Views.{is_out, may_read, may_write, refusal, view_held, IsSameView}
 use Rattle.shred_table.proofs.Tables.Slots.{same_id-true}
+use Rattle.shred_world.proofs.Views.Refusals.{refusal-rest}
+use Rattle.shredscript_text.specs.declared.outcome.Refusal.{Refusal}
+use Rattle.shredscript_text.specs.declared.outcome.Refusal.TheVariants.{Undeclared}
 use Rattle.shredscript_text.specs.declared.value.Value.{Value}
 use Rattle.shredscript_text.specs.Place.{id_at, number_at, seen_through}
 use Rattle.shredscript_text.specs.Value.{kind_of}
@@ -49,10 +57,28 @@ changes-written old new id v same may there held = record {
   frame q true e out = absurd (let f : may_write old q ≡ true = (λ i. may_write old (sym (same_id-true id q e) i)) ∙ may in cc)
   frame q false e out = refl
 
--- a number that is shown is held
-pub number-held : (view : View Value) (place : ℕ) → IsSome (number_at (seen_through view) place) → is_some (view_held kind_of view (id_at place)) ≡ true
-number-held view place there = of_shown (may_read view (id_at place)) (view_held kind_of view (id_at place)) there where
-  of_shown : (b : Bool) (o : Option Value) → IsSome (option_map (λ (v : Value). v.0) (cond b o None)) → is_some o ≡ true
-  of_shown true (Some v) h = refl
-  of_shown true None h = h
-  of_shown false o h = absurd (cc)
+-- the number that may be written is seen
+pub number-written : (view : View Value) (place : ℕ) (number : ℤ) → may_write view (id_at place) ≡ true → view_held kind_of view (id_at place) ≡ Some (record { 0 = number }) → number_at (seen_through view) place ≡ Some number
+number-written view place number may held = λ i. option_map (λ (v : Value). v.0) (cond (readable view (id_at place) may i) (held i) None)
+
+-- a write is refused only where no number is seen
+pub number-missing : (view : View Value) (place : ℕ) (error : DataError) (fault : Fault Refusal) → may_write view (id_at place) ≡ true → is_out view (id_at place) ≡ false
+    → Some error ≡ refusal (record { 0 = 0 }) (id_at place) (may_write view (id_at place)) (is_out view (id_at place)) (is_some (view_held kind_of view (id_at place)))
+    → FaultGives (λ given made. made ≡ Undeclared) error fault → (number_at (seen_through view) place ≡ None) × (fault ≡ Refused Undeclared)
+number-missing view place error fault may inside told gives = of_held (view_held kind_of view (id_at place)) told where
+  nothing : (b : Bool) → option_map (λ (v : Value). v.0) (cond b None None) ≡ None
+  nothing true = refl
+  nothing false = refl
+
+  of_held : (held : Option Value) → Some error ≡ refusal (record { 0 = 0 }) (id_at place) (may_write view (id_at place)) (is_out view (id_at place)) (is_some held)
+      → (option_map (λ (v : Value). v.0) (cond (may_read view (id_at place)) held None) ≡ None) × (fault ≡ Refused Undeclared)
+  of_held None told =
+      let e : Some error ≡ Some (Missing (id_at place)) = told ∙ refusal-rest (record { 0 = 0 }) (id_at place) _ _ false (refl, may, inside) in
+      let is : error ≡ Missing (id_at place) = cc in
+      let made = subst (λ (e : DataError). FaultGives (λ given made. made ≡ Undeclared) e fault) is gives in
+      (nothing (may_read view (id_at place)), made.2 ∙ ap (λ (r : Refusal). Refused r) made.1)
+  of_held (Some v) told = absurd (let e : Some error ≡ None = told ∙ refusal-rest (record { 0 = 0 }) (id_at place) _ _ true (refl, may, inside) in cc)
+
+-- what is shown where nothing was written
+pub shown-same : (old new : View Value) → IsSameView old new → ((q : ResourceId) → view_held kind_of new q ≡ view_held kind_of old q) → seen_through new ≡ seen_through old
+shown-same old new same held = fun_ext (λ q i. cond (may_read-same old new same q i) (held q i) None)

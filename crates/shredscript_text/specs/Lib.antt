@@ -12,3 +12,5 @@ pub mod Endings
 pub mod Input
 pub mod Report
 pub mod Scripts
+pub mod Operation
+pub mod Change

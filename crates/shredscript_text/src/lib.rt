@@ -1,7 +1,8 @@
 //! What a script says, and what is told of it: its text is read and looked through, the numbers of its resources are held in a
-//! world, and its report and its errors are written. Nothing is planned here, and nothing run.
+//! world and changed there, and its report and its errors are written. Nothing is planned here, and nothing run.
 #![tactic(auto)]
 
+pub mod arithmetic;
 pub mod error;
 pub mod error_line;
 pub mod first_values;

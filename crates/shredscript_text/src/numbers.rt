@@ -1,12 +1,15 @@
 //! The numbers of resources, as steps read and write them: through a system's view, or in a whole world.
-ghost use Rattle.std.specs.Prelude.{◌≡◌, ℕ, ⊤, Some, IsSome};
+ghost use Rattle.std.specs.Prelude.{◌≡◌, ℕ, ⊤};
 ghost use Rattle.std.specs.Option.{ok_or};
 ghost use Rattle.shred_run.specs.declared.system.Fault.TheVariants.{Refused};
-ghost use Rattle.shred_table.specs.Slots.{with_at};
+ghost use Rattle.shredscript_text.specs.Change.{change_left, change_outcome, changed};
 ghost use Rattle.shredscript_text.specs.declared.outcome.Refusal.TheVariants.{Undeclared};
-ghost use Rattle.shredscript_text.specs.Place.{id_at, number_at};
+ghost use Rattle.shredscript_text.specs.declared.step.Operand.TheVariants.{Number};
+ghost use Rattle.shredscript_text.specs.Place.{number_at};
 
+use crate::arithmetic::change_number;
 use crate::outcome::Refusal;
+use crate::step::Operation;
 use crate::value::{Value, id_at};
 use shred_run::Fault;
 use shred_world::{LocalWorld, View};
@@ -29,12 +32,18 @@ pub trait Numbers {
         requires { is_ready self.now }
         ensures { result ≡ ok_or (number_at (seen self.now) place) (Refused Undeclared) };
 
-    /// Puts a number in the place of the one that is held.
-    fn set(&mut self, place: usize, number: i64)
+    /// Puts what the operation makes of the number at a place and of the operand in its place. Where no number is held, or
+    /// the new one does not fit, it is refused, and nothing changes.
+    fn change(
+        &mut self,
+        place: usize,
+        operation: Operation,
+        operand: i64,
+    ) -> Result<(), Fault<Refusal>>
         requires is_ready { is_ready self.old }
         requires allowed { allows self.old place }
-        requires held { IsSome (number_at (seen self.old) place) }
-        ensures left { seen self.new ≡ with_at (seen self.old) (id_at place) (Some (record { 0 = number })) }
+        ensures outcome { result ≡ change_outcome (changed (seen self.old) place operation (Number operand)) }
+        ensures left { seen self.new ≡ change_left (seen self.old) place (changed (seen self.old) place operation (Number operand)) }
         ensures keeps { keeps self.old self.new };
 
     ghost keeps_same: { (x : Self) → keeps x x };
@@ -49,7 +58,7 @@ pub trait Numbers {
 impl Numbers for View<'_, '_, Value> {
     ghost use Rattle.shred_world.specs.Views.{is_out, may_write};
     ghost use Rattle.shredscript_text.specs.Frame.{ChangesWritten};
-    ghost use Rattle.shredscript_text.specs.Place.{seen_through};
+    ghost use Rattle.shredscript_text.specs.Place.{id_at, seen_through};
     ghost use Rattle.shredscript_text.specs.FrameLaws.{changes-same, changes-then, ready-still, may_write-still};
     ghost use Rattle.shred_table.specs.declared.id.ResourceId.{ResourceId};
     ghost use Rattle.std.specs.Prelude.{false, IsTrue};
@@ -69,11 +78,16 @@ impl Numbers for View<'_, '_, Value> {
         }
     }
 
-    fn set(&mut self, place: usize, number: i64) {
-        let Ok(held) = self.write::<i64>(id_at(place)) else {
-            unreachable!()
-        };
-        *held = number;
+    fn change(
+        &mut self,
+        place: usize,
+        operation: Operation,
+        operand: i64,
+    ) -> Result<(), Fault<Refusal>> {
+        match self.write::<i64>(id_at(place)) {
+            Ok(number) => change_number(number, operation, operand),
+            Err(error) => Err(Fault::from(error)),
+        }
     }
 
     ghost keeps_same = { changes-same };
@@ -106,11 +120,16 @@ impl Numbers for LocalWorld<Value> {
         }
     }
 
-    fn set(&mut self, place: usize, number: i64) {
-        let Ok(held) = self.try_fetch_mut_by_id::<i64>(id_at(place)) else {
-            unreachable!()
-        };
-        *held = number;
+    fn change(
+        &mut self,
+        place: usize,
+        operation: Operation,
+        operand: i64,
+    ) -> Result<(), Fault<Refusal>> {
+        match self.try_fetch_mut_by_id::<i64>(id_at(place)) {
+            Ok(number) => change_number(number, operation, operand),
+            Err(_) => Err(Fault::Refused(Refusal::Undeclared)),
+        }
     }
 
     ghost keeps_same = { λ x id. refl };

@@ -1,7 +1,5 @@
 use Rattle.std.proofs.Common.{◌≡◌, ℕ, List, [], map, IsTrue, subst, sym, ◌∙◌, ap}
-use Rattle.shred_world.specs.Worked.{Held}
 use Rattle.shredscript_text.specs.Declares.{has_place, places_written}
-use Rattle.shredscript_text.specs.declared.value.Value.{Value}
 use Rattle.shredscript.specs.Overlaid.{kept_place, overlaid}
 use Rattle.shredscript.specs.Steps.{steps_left, steps_outcome}
 use Rattle.shredscript.proofs.Declares.{each-step, every-place}

@@ -3,14 +3,16 @@ use Rattle.std.specs.Prelude.{ℕ, ℤ, pos, negsuc, Bool, cond, nat_lt, Option,
 use Rattle.shred_world.specs.Worked.{Held}
 use Rattle.shred_run.specs.declared.system.Fault.{Fault}
 use Rattle.shred_run.specs.declared.system.Fault.TheVariants.{Refused}
+use Rattle.shred_run.specs.Steps.{Outcome}
+use Rattle.shred_table.specs.Slots.{with_at}
 use Rattle.shredscript_text.specs.declared.outcome.Refusal.{Refusal}
 use Rattle.shredscript_text.specs.declared.outcome.Refusal.TheVariants.{Overflow, Undeclared}
 use Rattle.shredscript_text.specs.declared.step.Operand.{Operand}
 use Rattle.shredscript_text.specs.declared.step.Operand.TheVariants.{Number, Resource}
 use Rattle.shredscript_text.specs.declared.step.Operation.{Operation}
 use Rattle.shredscript_text.specs.declared.value.Value.{Value}
-use Rattle.shredscript.specs.Operation.{value_of}
-use Rattle.shredscript_text.specs.Place.{number_at}
+use Rattle.shredscript_text.specs.Operation.{value_of}
+use Rattle.shredscript_text.specs.Place.{id_at, number_at}
 
 -- whether a number fits into 64 bits with sign: it lies from -2^63 to 2^63 - 1
 abbrev pub fits : ℤ → Bool
@@ -35,3 +37,18 @@ combined operation None operand = Err (Refused Undeclared)
 -- the new number at the target, or why there is none
 abbrev pub changed : Held Value → ℕ → Operation → Operand → Result ℤ (Fault Refusal)
 changed seen target operation operand = combined operation (number_at seen target) (operand_number seen operand)
+
+-- a change is Done where there is a new number, and is refused where there is none
+abbrev pub change_outcome : Result ℤ (Fault Refusal) → Outcome Refusal
+change_outcome (Ok number) = Ok tt
+change_outcome (Err fault) = Err fault
+
+-- the new number, or the old one where there is none
+abbrev pub number_left : ℤ → Result ℤ (Fault Refusal) → ℤ
+number_left old (Ok number) = number
+number_left old (Err fault) = old
+
+-- the values with the new number at the target, or as they were where there is none
+abbrev pub change_left : Held Value → ℕ → Result ℤ (Fault Refusal) → Held Value
+change_left seen target (Ok number) = with_at seen (id_at target) (Some (record { 0 = number }))
+change_left seen target (Err fault) = seen

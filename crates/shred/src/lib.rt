@@ -11,11 +11,11 @@
 #![tactic(auto)]
 
 pub mod dispatch;
-pub mod named;
 pub mod now;
 pub mod one_of;
 pub mod plain;
 pub mod run_now;
+pub mod spelled;
 pub mod thread_local;
 pub mod values;
 
@@ -23,7 +23,6 @@ pub use dispatch::builder::DispatcherBuilder;
 pub use dispatch::dispatcher::{Dispatcher, new_dispatcher};
 pub use dispatch::names::SystemNames;
 pub use dispatch::told::Told;
-pub use named::{KindNames, Named};
 pub use now::Now;
 pub use one_of::OneOf;
 pub use plain::{Plain, PlainSystem};
@@ -48,6 +47,7 @@ pub use shred_world::{
     SystemData, Table, View, ViewWork, World, WorldError, Write, WriteExpect, bundle_accessor,
     check_intersection, only_id,
 };
+pub use spelled::{KindNames, Spelled};
 pub use thread_local::ThreadLocal;
 pub use values::{
     First, Fourth, OneOf2, OneOf3, OneOf4, Second, Third, first_id, fourth_id, second_id, third_id,

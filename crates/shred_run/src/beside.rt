@@ -67,24 +67,15 @@ where
     requires only_own { HasOnlySlots writes.now own.old }
     ensures stepped { IsStepBy V.kind_of (RuleOwns (lists_of S.reads S.writes C.reads C.writes) at) (RuleStep V.kind_of (relations_of (lists_of S.reads S.writes C.reads C.writes) S.step C.begins C.asks) at) reads.now writes.now (lent_slot shelf.now) work.old own.old result work.new own.new }
 {
+    let loan = Loan {
+        reads,
+        writes,
+        shelf,
+    };
     let depth = depth_by(at, work);
     match work {
-        Work::System(system) => {
-            let loan = Loan {
-                reads,
-                writes,
-                shelf,
-            };
-            run_system(&loan, system, own)
-        }
-        Work::Batch(nested) => {
-            let loan = Loan {
-                reads,
-                writes,
-                shelf,
-            };
-            run_batch(rt, depth - 1, &mut nested.batch, &loan, own, workers)
-        }
+        Work::System(system) => run_system(&loan, system, own),
+        Work::Batch(nested) => run_batch(rt, depth - 1, &mut nested.batch, &loan, own, workers),
     }
 }
 

@@ -6,7 +6,6 @@ use Rattle.std.specs.Option.{option_map}
 use Rattle.shred_run.specs.Faults.{FaultGives}
 use Rattle.shred_run.specs.declared.system.Fault.{Fault}
 use Rattle.shred_run.specs.declared.system.Fault.TheVariants.{Refused}
-use Rattle.shredscript_text.specs.Frame.{ChangesWritten}
 use Rattle.shred_table.specs.declared.id.ResourceId.{ResourceId}
 use Rattle.shred_world.specs.declared.world.view.DataError.{DataError}
 use Rattle.shred_world.specs.declared.world.view.DataError.TheVariants.{Missing}
@@ -40,22 +39,6 @@ shown-written old new id v same may held = fun_ext (λ q. (λ i. cond (may_read-
   told : (q : ResourceId) (b : Bool) → same_id id q ≡ b → cond (may_read old q) (cond b (Some v) (view_held kind_of old q)) None ≡ cond b (Some v) (seen_through old q)
   told q true e = ap (λ t. cond t (Some v) None) (ap (may_read old) (sym (same_id-true id q e)) ∙ readable old id may)
   told q false e = refl
-
--- one value was written, under an id that may be written and holds one
-pub changes-written : (old new : View Value) (id : ResourceId) (v : Value) → IsSameView old new → may_write old id ≡ true → is_some (view_held kind_of old id) ≡ true
-    → ((q : ResourceId) → view_held kind_of new q ≡ with_at (view_held kind_of old) id (Some v) q) → ChangesWritten old new
-changes-written old new id v same may there held = record {
-  view = same;
-  ids = λ q. ap is_some (held q) ∙ ids q (same_id id q) refl;
-  frame = λ q out. held q ∙ frame q (same_id id q) refl out;
-} where
-  ids : (q : ResourceId) (b : Bool) → same_id id q ≡ b → is_some (cond b (Some v) (view_held kind_of old q)) ≡ is_some (view_held kind_of old q)
-  ids q true e = sym there ∙ (λ i. is_some (view_held kind_of old (same_id-true id q e i)))
-  ids q false e = refl
-
-  frame : (q : ResourceId) (b : Bool) → same_id id q ≡ b → may_write old q ≡ false → cond b (Some v) (view_held kind_of old q) ≡ view_held kind_of old q
-  frame q true e out = absurd (let f : may_write old q ≡ true = (λ i. may_write old (sym (same_id-true id q e) i)) ∙ may in cc)
-  frame q false e out = refl
 
 -- the number that may be written is seen
 pub number-written : (view : View Value) (place : ℕ) (number : ℤ) → may_write view (id_at place) ≡ true → view_held kind_of view (id_at place) ≡ Some (record { 0 = number }) → number_at (seen_through view) place ≡ Some number

@@ -1,8 +1,8 @@
-//! The errors of plans and dispatches as std's `Error`, and their texts.
+//! The errors of plans and dispatches as std's `Error`, and their texts; those of views with the names of kinds.
 use crate::calls::text_of;
 use shred::{
-    AddError, DataError, DispatchError, Fault, Kind, KindNames, Named, PrintError, ResourceId,
-    SinkFailed, StageFault, SystemId,
+    AddError, DataError, DispatchError, Fault, Kind, KindNames, PrintError, ResourceId, SinkFailed,
+    Spelled, StageFault, SystemId,
 };
 use std::alloc::Global;
 use std::error::Error;
@@ -46,9 +46,9 @@ fn errors_of_a_plan_have_texts(rt: HostRuntime) -> Result<(), Fail> {
 
 /// Names of two kinds.
 #[derive(Drop)]
-struct Parts;
+struct CarKinds;
 
-impl KindNames for Parts {
+impl KindNames for CarKinds {
     fn kind_name(kind: Kind) -> Option<&'static str> {
         match kind.0 {
             1 => Some("Speed"),
@@ -81,8 +81,8 @@ fn a_kind_is_told_by_its_name(rt: HostRuntime) -> Result<(), Fail> {
         (DataError::OutOfMemory, "out of memory"),
     ];
     for (error, text) in rows {
-        let named: Named<DataError, Parts> = Named::new(error);
-        assert_eq!(rt; text_of(rt.alloc(), &named)?.as_str(), text);
+        let spelled: Spelled<DataError, CarKinds> = Spelled::new(error);
+        assert_eq!(rt; text_of(rt.alloc(), &spelled)?.as_str(), text);
     }
     Ok(())
 }

@@ -37,7 +37,7 @@ use shred_stage::dispatch::inner::tiers_of;
 use shred_stage::dispatch::printing::print_with_end;
 use shred_stage::look_up::{enter, forget, ids_of, may_add};
 use shred_stage::{AddError, PlanSink, PrintError, StagesBuilder};
-use shred_world::{OutOfMemory, ResourceValue};
+use shred_world::ResourceValue;
 use std::alloc::Global;
 use std::collections::HashMap;
 
@@ -254,8 +254,9 @@ impl<
         ensures refused { IfErr result (IsRefusal (built self.old).known (built self.old).next name.now (texts_of dependencies.now)) }
         ensures unchanged { OnErr result (IsSameBuilt (built self.old) (built self.new)) }
     {
-        may_add(&self.names, self.next, name, dependencies)?;
-        let entry = system_entry(self.alloc, SystemId(self.next), system)?;
+        let id = SystemId(self.next);
+        may_add(&self.names, id.0, name, dependencies)?;
+        let entry = system_entry(self.alloc, id, system)?;
         self.accept(entry, name, dependencies)
     }
 

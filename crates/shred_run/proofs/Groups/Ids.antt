@@ -33,7 +33,7 @@ share_item-none (n ∷ ns) [] e = share_item-none ns [] e
 share_item-none ns (id ∷ ids) e = absurd (grind (arith, nat_tests))
 
 -- the first x stands at i
-pub without-first : (x : ℕ) (xs : List ℕ) (i : ℕ) → i < length xs → get_or xs i 0 ≡ x → ((k : ℕ) → k < i → get_or xs k 0 ≢ x) → without_one x xs ≡ remove xs i
+without-first : (x : ℕ) (xs : List ℕ) (i : ℕ) → i < length xs → get_or xs i 0 ≡ x → ((k : ℕ) → k < i → get_or xs k 0 ≢ x) → without_one x xs ≡ remove xs i
 without-first x [] i lt at before = absurd (omega (arith, lt))
 without-first x (y ∷ ys) zero lt at before = let same : (x == y) ≡ true = eqb-refl_at x y at in rw same refl
 without-first x (y ∷ ys) (suc i) lt at before =
@@ -42,7 +42,7 @@ without-first x (y ∷ ys) (suc i) lt at before =
     rw (other, rest) refl
 
 -- no x stands in the list
-pub without-absent : (x : ℕ) (xs : List ℕ) → ((k : ℕ) → k < length xs → get_or xs k 0 ≢ x) → without_one x xs ≡ xs
+without-absent : (x : ℕ) (xs : List ℕ) → ((k : ℕ) → k < length xs → get_or xs k 0 ≢ x) → without_one x xs ≡ xs
 without-absent x [] none = refl
 without-absent x (y ∷ ys) none =
     let other : (x == y) ≡ false = eqb_other x y (none 0 (omega arith)) in
@@ -57,10 +57,10 @@ numbers_of-remove ids i =
     let f : SystemId → ℕ = λ id. id.0 in
     map-append f (take i ids) (drop (suc i) ids) ∙ rw (take-map f i ids, drop-map f (suc i) ids) refl
 
-pub number_is : (ids : List SystemId) (i x : ℕ) (d : SystemId) (b : Bool) → i < length ids → b ≡ nat_eq (get_or ids i d).0 x → b ≡ true → get_or (numbers_of ids) i 0 ≡ x
+number_is : (ids : List SystemId) (i x : ℕ) (d : SystemId) (b : Bool) → i < length ids → b ≡ nat_eq (get_or ids i d).0 x → b ≡ true → get_or (numbers_of ids) i 0 ≡ x
 number_is ids i x d b lt e t = let same : (get_or ids i d).0 ≡ x = grind (arith, nat_tests) in get_or-numbers_of ids i d lt ∙ same
 
-pub number_is_not : (ids : List SystemId) (i x : ℕ) (d : SystemId) (b : Bool) → i < length ids → b ≡ nat_eq (get_or ids i d).0 x → b ≡ false → get_or (numbers_of ids) i 0 ≢ x
+number_is_not : (ids : List SystemId) (i x : ℕ) (d : SystemId) (b : Bool) → i < length ids → b ≡ nat_eq (get_or ids i d).0 x → b ≡ false → get_or (numbers_of ids) i 0 ≢ x
 number_is_not ids i x d b lt e t same = let other : (get_or ids i d).0 ≢ x = grind (arith, nat_tests) in other (sym (get_or-numbers_of ids i d lt) ∙ same)
 
 -- a search for a number tells what the list is without it

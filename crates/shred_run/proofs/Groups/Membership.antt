@@ -1,10 +1,9 @@
 -- Which items stand in a list that is made of others, and what a test of some item decides.
-use Rattle.std.proofs.Common.{◌≡◌, ℕ, zero, suc, ◌<◌, Bool, true, ◌||◌, List, [], ◌∷◌, length, get_or, refl, ◌∙◌, ap, ◌⊎◌, inl, inr, ⊎_elim, arith, map}
+use Rattle.std.proofs.Common.{◌≡◌, ℕ, zero, suc, ◌<◌, Bool, ◌||◌, List, [], ◌∷◌, get_or, refl, ap, ◌⊎◌, inl, inr, ⊎_elim, arith, map}
 use Rattle.std.specs.Bool.{Decides}
 use Rattle.std.specs.List.{Contains, list_any, flat_map}
 use Rattle.std.proofs.lemmas.Bool.Decides.{Decides-or, Decides-like}
 use Rattle.std.proofs.lemmas.List.Elements.{Contains-append_cases, Contains-append_left, Contains-append_right}
-use Rattle.std.proofs.lemmas.List.Folds.{list_any_at}
 
 pub Contains-nil : {X : Type 0} (x : X) → Contains [] x → ⊥
 Contains-nil x h = omega (arith, h.1)

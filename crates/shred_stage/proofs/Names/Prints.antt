@@ -1,7 +1,6 @@
 -- How a print ends.
-use Rattle.std.proofs.Common.{◌≡◌, ℕ, List, Option, Some, None, Result, Err, refl, subst}
-use Rattle.shred_stage.specs.Prints.{IsPrinted, IsWritten}
-use Rattle.shred_stage.specs.declared.dispatch.printing.PrintError.{PrintError}
+use Rattle.std.proofs.Common.{◌≡◌, ℕ, List, Option, Some, Err, refl, subst}
+use Rattle.shred_stage.specs.Prints.{IsPrinted}
 use Rattle.shred_stage.specs.declared.dispatch.printing.PrintError.TheVariants.{Unnamed}
 
 module _ {W : Type 0} (told : W → Option (List ℕ)) (failures : W → ℕ) where

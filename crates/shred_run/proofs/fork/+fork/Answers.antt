@@ -1,4 +1,4 @@
-use Rattle.std.proofs.Common.{Ok, rules}
+use Rattle.std.proofs.Common.{rules}
 use Rattle.shred_model.proofs.Joined.AllWent.{AllWent-halves}
 use Rattle.shred_run.specs.Calls.{Calls}
 use Rattle.shred_run.proofs.fork.+fork.Goals as goal

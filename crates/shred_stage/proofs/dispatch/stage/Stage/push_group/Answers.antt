@@ -2,7 +2,7 @@ use Rattle.std.proofs.Common.{ap, is_ok}
 use Rattle.std.proofs.lemmas.Result.{err_from_is_err_and}
 use Rattle.shred_model.specs.States.{listed_states}
 use Rattle.shred_stage.specs.EntriesAt.{group_entries}
-use Rattle.shred_run.specs.PlanOf.{entry_plan, groups_plan}
+use Rattle.shred_run.specs.PlanOf.{entry_plan}
 use Rattle.shred_stage.proofs.Planner.Added.{new_after_push}
 use Rattle.shred_stage.proofs.Planner.EntriesAt.{new_in_group}
 use Rattle.shred_stage.proofs.Planner.KeptLists.{own_alone}

@@ -1,4 +1,5 @@
 //! Kinds, ids and errors of views, with the names of the kinds.
+ghost use Rattle.std.specs.Prelude.{◌≡◌};
 
 use shred_world::{DataError, Kind, ResourceId};
 use std::fmt;
@@ -12,25 +13,28 @@ pub trait KindNames {
 }
 
 /// A kind, an id or an error of a view, to be printed with the names that `N` has for kinds, as in
-/// `Wheels is not declared for this use`; a kind without a name with its number.
+/// `Wheels is not declared for this use`. Of an id whose kind has a name the number is printed unless it is 0; a kind without
+/// a name is printed by its number.
 #[derive(Drop)]
-pub struct Named<T, N> {
-    of: T,
+pub struct Spelled<T, N> {
+    value: T,
     names: PhantomData<N>,
 }
 
-impl<T, N: KindNames> Named<T, N> {
-    pub fn new(of: T) -> Self {
-        Named {
-            of,
+impl<T, N: KindNames> Spelled<T, N> {
+    pub fn new(value: T) -> Self
+        ensures { result.value ≡ value }
+    {
+        Spelled {
+            value,
             names: PhantomData,
         }
     }
 }
 
-impl<N: KindNames> Display for Named<Kind, N> {
+impl<N: KindNames> Display for Spelled<Kind, N> {
     fn fmt<W: fmt::Write>(&self, f: &mut fmt::Formatter<W>) -> fmt::Result {
-        let kind = self.of;
+        let kind = self.value;
         match N::kind_name(kind) {
             Some(name) => write!(f, "{name}"),
             None => write!(f, "{kind}"),
@@ -38,9 +42,9 @@ impl<N: KindNames> Display for Named<Kind, N> {
     }
 }
 
-impl<N: KindNames> Display for Named<ResourceId, N> {
+impl<N: KindNames> Display for Spelled<ResourceId, N> {
     fn fmt<W: fmt::Write>(&self, f: &mut fmt::Formatter<W>) -> fmt::Result {
-        let id = self.of;
+        let id = self.value;
         let number = id.dynamic_id();
         match N::kind_name(id.kind()) {
             Some(name) if number == 0 => write!(f, "{name}"),
@@ -50,24 +54,24 @@ impl<N: KindNames> Display for Named<ResourceId, N> {
     }
 }
 
-impl<N: KindNames> Display for Named<DataError, N> {
+impl<N: KindNames> Display for Spelled<DataError, N> {
     fn fmt<W: fmt::Write>(&self, f: &mut fmt::Formatter<W>) -> fmt::Result {
-        match self.of {
+        match self.value {
             DataError::Missing(id) => {
-                let id: Named<ResourceId, N> = Named::new(id);
+                let id: Spelled<ResourceId, N> = Spelled::new(id);
                 write!(f, "nothing is held under {id}")
             }
             DataError::Undeclared(id) => {
-                let id: Named<ResourceId, N> = Named::new(id);
+                let id: Spelled<ResourceId, N> = Spelled::new(id);
                 write!(f, "{id} is not declared for this use")
             }
             DataError::Taken(id) => {
-                let id: Named<ResourceId, N> = Named::new(id);
+                let id: Spelled<ResourceId, N> = Spelled::new(id);
                 write!(f, "{id} is handed out already")
             }
             DataError::WrongKind { asked, found } => {
-                let asked: Named<Kind, N> = Named::new(asked);
-                let found: Named<Kind, N> = Named::new(found);
+                let asked: Spelled<Kind, N> = Spelled::new(asked);
+                let found: Spelled<Kind, N> = Spelled::new(found);
                 write!(f, "{asked} was asked for, and the id is of {found}")
             }
             DataError::OutOfMemory => write!(f, "out of memory"),

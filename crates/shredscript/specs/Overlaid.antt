@@ -1,5 +1,5 @@
 -- Numbers that are kept before those that lie behind.
-use Rattle.std.specs.Prelude.{◌≡◌, ℕ, ℤ, Option, Some, List, [], ◌∷◌}
+use Rattle.std.specs.Prelude.{◌≡◌, ◌≢◌, ℕ, zero, suc, ℤ, Option, Some, List, [], ◌∷◌}
 use Rattle.std.specs.List.{All}
 use Rattle.shred_table.specs.Slots.{with_at}
 use Rattle.shred_world.specs.Worked.{Held}
@@ -23,3 +23,9 @@ overlaid (kept ∷ rest) seen = with_at (overlaid rest seen) (id_at kept.place) 
 -- each kept number is the one that is held at its place
 abbrev pub AreHeld : Held Value → List KeptNumber → Type 0
 AreHeld seen kept = All (λ (k : KeptNumber). number_at seen k.place ≡ Some k.number) kept
+
+-- the first kept number of the place is the one that stands there
+abbrev pub IsKeptAt : List KeptNumber → ℕ → ℕ → Type 0
+IsKeptAt [] place at = ⊥
+IsKeptAt (kept ∷ rest) place zero = kept.place ≡ place
+IsKeptAt (kept ∷ rest) place (suc at) = (kept.place ≢ place) × IsKeptAt rest place at

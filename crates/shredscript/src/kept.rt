@@ -1,13 +1,12 @@
 //! Numbers that are kept while the steps of a system run: read once before them, and written once after.
-ghost use Rattle.std.specs.Prelude.{◌≡◌, ℕ, List, [], Some, map, IfSome, IsSome, IsTrue};
+ghost use Rattle.std.specs.Prelude.{◌≡◌, ℕ, List, [], false, map, IfNone, IfSome, IsSome, IsTrue};
 ghost use Rattle.std.specs.List.{All};
 ghost use Rattle.std.specs.Option.{option_or};
-ghost use Rattle.shred_table.specs.Slots.{with_at};
 ghost use Rattle.shred_world.specs.Worked.{Held};
 ghost use Rattle.shredscript_text.specs.declared.value.Value.{Value};
 ghost use Rattle.shredscript_text.specs.Declares.{AllowsStep, has_place, places_written};
 ghost use Rattle.shredscript_text.specs.Place.{id_at, number_at};
-ghost use Rattle.shredscript.specs.Overlaid.{AreHeld, kept_place, overlaid};
+ghost use Rattle.shredscript.specs.Overlaid.{AreHeld, IsKeptAt, kept_place, overlaid};
 ghost use Rattle.shredscript.specs.Steps.{steps_outcome, steps_left};
 
 use crate::declared::Declared;
@@ -61,12 +60,10 @@ impl<N: Numbers> Numbers for Keeping<'_, N> {
         operation: Operation,
         operand: i64,
     ) -> Result<(), Fault<Refusal>> {
-        let Some(mut number) = number_in(self.written.as_slice(), place) else {
+        let Some(at) = kept_at(self.written.as_slice(), place) else {
             unreachable!()
         };
-        let outcome = change_number(&mut number, operation, operand);
-        put(self.written.as_mut_slice(), place, number);
-        outcome
+        change_number(&mut self.written.as_mut_slice()[at].number, operation, operand)
     }
 
     ghost keeps_same = { λ x. (refl, refl, refl) };
@@ -90,19 +87,12 @@ fn number_in(kept: &[KeptNumber], place: usize) -> Option<i64>
     None
 }
 
-// Puts the number in the place of the one that is kept of this place.
-fn put(kept: &mut [KeptNumber], place: usize, number: i64)
-    requires { IsTrue (has_place (map kept_place kept.old) place) }
-    ensures left { (seen : Held Value) → overlaid kept.new seen ≡ with_at (overlaid kept.old seen) (id_at place) (Some (record { 0 = number })) }
-    ensures places { map kept_place kept.new ≡ map kept_place kept.old }
+// Where a number of this place is kept, the first where there are several.
+fn kept_at(kept: &[KeptNumber], place: usize) -> Option<usize>
+    ensures kept { IfSome result (IsKeptAt kept.now place) }
+    ensures none { IfNone result (has_place (map kept_place kept.now) place ≡ false) }
 {
-    if let Some((first, rest)) = kept.split_first_mut() {
-        if first.place == place {
-            first.number = number;
-        } else {
-            put(rest, place, number);
-        }
-    }
+    kept.iter().position(|one| one.place == place)
 }
 
 // The numbers at these places, where all are held, and no more of them than are kept.

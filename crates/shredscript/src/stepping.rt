@@ -38,13 +38,13 @@ fn run_step<N: Numbers>(step: Step, numbers: &mut N) -> Result<(), Fault<Refusal
     ensures keeps { N.keeps numbers.old numbers.new }
 {
     match step {
-        Step::Read(_) | Step::Write(_) => Ok(()),
-        Step::Refuse(code) => Err(Fault::Refused(Refusal::Code(code))),
         Step::Change {
             target,
             operation,
             operand,
         } => change(numbers, target, operation, operand),
+        Step::Read(_) | Step::Write(_) => Ok(()),
+        Step::Refuse(code) => Err(Fault::Refused(Refusal::Code(code))),
     }
 }
 

@@ -1,37 +1,66 @@
-use Rattle.std.specs.Prelude.{is_some}
-use Rattle.std.proofs.Common.{◌≡◌, ◌∙◌, ap, sym, true, false, Some, None, length, drop, FitsSigned, w64, of_z, to_z, arith, rules}
+use Rattle.std.proofs.Common.{◌≡◌, ◌∙◌, pos, refl, ap, sym, List, true, false, length, map, get_or, drop, FitsSigned, w64, arith, rules}
 use Rattle.std.proofs.lemmas.Int.{to_z-of_z}
+use Rattle.std.proofs.Math.ListN.{length-set, set}
 use Rattle.std.proofs.lemmas.List.{take_at}
-use Rattle.shred_table.specs.Slots.{with_at}
-use Rattle.shred_world.specs.Worked.{Held}
-use Rattle.shredscript_text.specs.Place.{id_at, number_at}
-use Rattle.shredscript_text.specs.declared.value.Value.{Value}
+use Rattle.shredscript_text.specs.Declares.{has_place}
 use Rattle.shredscript_text.proofs.Changed.{change_left-put}
-use Rattle.shredscript.specs.Overlaid.{overlaid}
-use Rattle.shredscript.proofs.Overlaid.{kept-held}
+use Rattle.shredscript.specs.declared.kept.KeptNumber.{KeptNumber}
+use Rattle.shredscript.specs.Overlaid.{IsKeptAt, kept_place, overlaid}
+use Rattle.shredscript.proofs.Overlaid.{kept-number, kept-place, kept-within, overlaid-set, places-set}
 use Rattle.shredscript.proofs.kept.KeepingNumbers.change.Goals as goal
 
 pub unreachable-requires : goal.unreachable-requires
 unreachable-requires g c =
-    let kept = c.args.self.now.written.items in
-    let nothing : Held Value = λ id. None in
-    let none : number_at (overlaid kept nothing) c.args.place ≡ None = ap (λ kept. number_at (overlaid kept nothing) c.args.place) (sym c.as_slice.ensures.value) ∙ c.in_default.ensures nothing in
-    let there : true ≡ false = sym (kept-held nothing kept c.args.place c.requires.allowed) ∙ ap is_some none in
+    let none : has_place (map kept_place c.args.self.now.written.items) c.args.place ≡ false = ap (λ (kept : List KeptNumber). has_place (map kept_place kept) c.args.place) (sym c.as_slice.ensures.value) ∙ c.in_default.ensures.none in
+    let there : true ≡ false = sym c.requires.allowed ∙ none in
     absurd (cc)
+
+pub bounds-as_mut_slice-at : goal.bounds-as_mut_slice-at
+bounds-as_mut_slice-at g c = kept-within c.as_mut_slice.result.now c.args.place c.in-Some.at (rw c.as_mut_slice.ensures.value (rw c.as_slice.ensures.value at c.in-Some.ensures.kept))
+
+pub offset_bounds-as_mut_slice-at : goal.offset_bounds-as_mut_slice-at
+offset_bounds-as_mut_slice-at g c =
+    let within = kept-within c.as_mut_slice.result.now c.args.place c.in-Some.at (rw c.as_mut_slice.ensures.value (rw c.as_slice.ensures.value at c.in-Some.ensures.kept)) in
+    let fits = c.as_mut_slice.type_inv.1 in
+    omega (arith, within, fits)
+
+pub returns-clause-outcome : goal.returns-clause-outcome
+returns-clause-outcome g c =
+    let kept = c.args.self.now.written.items in
+    let seen = overlaid c.args.self.now.read.items (g.N.Numbers.seen c.args.self.now.behind.now) in
+    let d : KeptNumber = record { place = 0; number = pos 0 } in
+    let held = kept-number seen kept c.args.place c.in-Some.at d (rw c.as_slice.ensures.value at c.in-Some.ensures.kept) in
+    let operand : FitsSigned w64 c.args.operand = search rules in
+    let outcome = rw c.as_mut_slice.ensures.value at (simp to_z-of_z at c.change_number.ensures.outcome) in
+    rw held outcome
 
 pub returns-clause-left : goal.returns-clause-left
 returns-clause-left g c =
     let kept = c.args.self.now.written.items in
     let seen = overlaid c.args.self.now.read.items (g.N.Numbers.seen c.args.self.now.behind.now) in
-    let old = c.in-Some.number in
-    let new = c.change_number-outcome.new.number in
+    let at = c.in-Some.at in
+    let d : KeptNumber = record { place = 0; number = pos 0 } in
+    let here : IsKeptAt kept c.args.place at = rw c.as_slice.ensures.value at c.in-Some.ensures.kept in
+    let one : KeptNumber = record (get_or kept at d) { number = c.change_number.new.number } in
+    let held = kept-number seen kept c.args.place at d here in
+    let whole : length (set kept at one) ≡ length kept = length-set kept at one in
     let operand : FitsSigned w64 c.args.operand = search rules in
-    let old_fits : FitsSigned w64 old = search rules in
-    let new_fits : FitsSigned w64 new = search rules in
-    let stored : to_z w64 (of_z w64 new) ≡ new = search (to_z-of_z, new_fits) in
-    let held : number_at (overlaid kept seen) c.args.place ≡ Some old = ap (λ kept. number_at (overlaid kept seen) c.args.place) (sym c.as_slice.ensures.value) ∙ c.in-Some.ensures seen in
-    let whole : length c.put.new.kept ≡ length kept = omega (arith, ap length c.as_mut_slice.ensures.value) in
-    ap (λ kept. overlaid kept seen) (take_at c.put.new.kept (drop (length c.put.new.kept) kept) (length kept) whole)
-    ∙ c.put.ensures.left seen
-    ∙ (λ i. with_at (overlaid (c.as_mut_slice.ensures.value i) seen) (id_at c.args.place) (Some (record { 0 = stored i })))
-    ∙ change_left-put (overlaid kept seen) c.args.place c.args.operation old c.args.operand new held (simp to_z-of_z at c.change_number-outcome.ensures.left)
+    let left = rw c.as_mut_slice.ensures.value at (simp to_z-of_z at c.change_number.ensures.left) in
+    rw c.as_mut_slice.ensures.value (
+      ap (λ kept. overlaid kept seen) (take_at (set kept at one) (drop (length (set kept at one)) kept) (length kept) whole)
+      ∙ overlaid-set seen kept c.args.place at one (kept-place kept c.args.place at d here) here
+      ∙ change_left-put (overlaid kept seen) c.args.place c.args.operation (get_or kept at d).number c.args.operand c.change_number.new.number held left
+    )
+
+pub returns-clause-keeps : goal.returns-clause-keeps
+returns-clause-keeps g c =
+    let kept = c.args.self.now.written.items in
+    let at = c.in-Some.at in
+    let d : KeptNumber = record { place = 0; number = pos 0 } in
+    let here : IsKeptAt kept c.args.place at = rw c.as_slice.ensures.value at c.in-Some.ensures.kept in
+    let one : KeptNumber = record (get_or kept at d) { number = c.change_number.new.number } in
+    let whole : length (set kept at one) ≡ length kept = length-set kept at one in
+    (refl, refl, rw c.as_mut_slice.ensures.value (
+      ap (map kept_place) (take_at (set kept at one) (drop (length (set kept at one)) kept) (length kept) whole)
+      ∙ places-set kept c.args.place at one (kept-place kept c.args.place at d here) here
+    ))

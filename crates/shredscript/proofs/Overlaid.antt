@@ -110,10 +110,10 @@ overlaid-set seen (k ∷ rest) place zero one same here = fun_ext (λ q. rw (sam
 overlaid-set seen (k ∷ rest) place (suc at) one same here = fun_ext (λ q.
     ap (λ r. cond (same_id (id_at k.place) q) (of_number k.number) r) (ap (λ (held : Held Value). held q) (overlaid-set seen rest place at one same here.1))
     ∙ apart (same_id (id_at k.place) q) (same_id (id_at place) q) (of_number one.number) (of_number k.number) (overlaid rest seen q) (λ first second. here.0 (ap (λ id. id.dynamic_id) (same_id-true (id_at k.place) q first ∙ sym (same_id-true (id_at place) q second))))) where
-  apart : (b c : Bool) (n o r : Option Value) → (b ≡ true → c ≡ true → ⊥) → cond b o (cond c n r) ≡ cond c n (cond b o r)
-  apart true true n o r both = absurd (both refl refl)
-  apart true false n o r both = refl
-  apart false c n o r both = refl
+      apart : (b c : Bool) (n o r : Option Value) → (b ≡ true → c ≡ true → ⊥) → cond b o (cond c n r) ≡ cond c n (cond b o r)
+      apart true true n o r both = absurd (both refl refl)
+      apart true false n o r both = refl
+      apart false c n o r both = refl
 
 pub places-set : (kept : List KeptNumber) (place at : ℕ) (one : KeptNumber) → one.place ≡ place → IsKeptAt kept place at → map kept_place (set kept at one) ≡ map kept_place kept
 places-set [] place at one same here = absurd here

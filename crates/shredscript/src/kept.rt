@@ -63,7 +63,11 @@ impl<N: Numbers> Numbers for Keeping<'_, N> {
         let Some(at) = kept_at(self.written.as_slice(), place) else {
             unreachable!()
         };
-        change_number(&mut self.written.as_mut_slice()[at].number, operation, operand)
+        change_number(
+            &mut self.written.as_mut_slice()[at].number,
+            operation,
+            operand,
+        )
     }
 
     ghost keeps_same = { λ x. (refl, refl, refl) };
@@ -87,6 +91,22 @@ fn number_in(kept: &[KeptNumber], place: usize) -> Option<i64>
     None
 }
 
+impl<N: Numbers> Keeping<'_, N> {
+    // Keeps the numbers of what is declared, where all are held and there is room for them.
+    fn keep(&mut self, declared: &Declared) -> Option<()>
+        requires is_ready { N.is_ready self.old.behind.now }
+        requires empty { (self.old.read.items ≡ []) × (self.old.written.items ≡ []) }
+        ensures behind { self.new.behind.now ≡ self.old.behind.now }
+        ensures places { IfSome result (λ done. map kept_place self.new.written.items ≡ declared.now.written.items) }
+        ensures read { IfSome result (λ done. AreHeld (N.seen self.old.behind.now) self.new.read.items) }
+        ensures written { IfSome result (λ done. AreHeld (N.seen self.old.behind.now) self.new.written.items) }
+    {
+        let behind = self.behind;
+        keep_each(&mut self.read, behind, declared.read.as_slice())?;
+        keep_each(&mut self.written, behind, declared.written.as_slice())
+    }
+}
+
 // Where a number of this place is kept, the first where there are several.
 fn kept_at(kept: &[KeptNumber], place: usize) -> Option<usize>
     ensures kept { IfSome result (IsKeptAt kept.now place) }
@@ -95,13 +115,17 @@ fn kept_at(kept: &[KeptNumber], place: usize) -> Option<usize>
     kept.iter().position(|one| one.place == place)
 }
 
-// The numbers at these places, where all are held, and no more of them than are kept.
-fn kept_of<N: Numbers>(numbers: &N, places: &[usize]) -> Option<ArrayVec<KeptNumber, 8>>
-    requires { N.is_ready numbers.now }
-    ensures places { IfSome result (λ kept. map kept_place kept.items ≡ places.now) }
-    ensures held { IfSome result (λ kept. AreHeld (N.seen numbers.now) kept.items) }
+// Keeps the numbers at these places, where all are held and there is room for them.
+fn keep_each<N: Numbers>(
+    kept: &mut ArrayVec<KeptNumber, 8>,
+    numbers: &N,
+    places: &[usize],
+) -> Option<()>
+    requires is_ready { N.is_ready numbers.now }
+    requires empty { kept.old.items ≡ [] }
+    ensures places { IfSome result (λ done. map kept_place kept.new.items ≡ places.now) }
+    ensures held { IfSome result (λ done. AreHeld (N.seen numbers.now) kept.new.items) }
 {
-    let mut kept = ArrayVec::new_in(());
     for place in places {
         let Ok(number) = numbers.number(*place) else {
             return None;
@@ -114,7 +138,7 @@ fn kept_of<N: Numbers>(numbers: &N, places: &[usize]) -> Option<ArrayVec<KeptNum
             return None;
         }
     }
-    Some(kept)
+    Some(())
 }
 
 // Writes the kept numbers, the last first.
@@ -133,31 +157,31 @@ fn write_kept<N: Numbers>(kept: &[KeptNumber], numbers: &mut N)
     }
 }
 
-// Runs the steps over what is kept, and writes what they left.
-fn run_over<N: Numbers>(
+// Runs the steps over what they declare, which is read once before them and written once after. Where not all of it is held,
+// or there is no room to keep it, nothing is done.
+fn run_kept<N: Numbers>(
     steps: &[Step],
-    read: ArrayVec<KeptNumber, 8>,
-    written: ArrayVec<KeptNumber, 8>,
+    declared: &Declared,
     numbers: &mut N,
-) -> Result<(), Fault<Refusal>>
+) -> Option<Result<(), Fault<Refusal>>>
     requires writes { All (AllowsStep N.allows numbers.old) steps.now }
     requires is_ready { N.is_ready numbers.old }
-    requires read { AreHeld (N.seen numbers.old) read.items }
-    requires written { AreHeld (N.seen numbers.old) written.items }
-    requires places { map kept_place written.items ≡ places_written [] steps.now }
-    ensures outcome { result ≡ steps_outcome steps.now (N.seen numbers.old) }
-    ensures left { N.seen numbers.new ≡ steps_left steps.now (N.seen numbers.old) }
+    requires written { declared.now.written.items ≡ places_written [] steps.now }
+    ensures outcome { IfSome result (λ outcome. outcome ≡ steps_outcome steps.now (N.seen numbers.old)) }
+    ensures left { IfSome result (λ outcome. N.seen numbers.new ≡ steps_left steps.now (N.seen numbers.old)) }
+    ensures none { IfNone result (numbers.new ≡ numbers.old) }
     ensures keeps { N.keeps numbers.old numbers.new }
 {
     let mut keeping = Keeping {
-        written,
-        read,
+        written: ArrayVec::new_in(()),
+        read: ArrayVec::new_in(()),
         behind: &*numbers,
     };
+    keeping.keep(declared)?;
     let outcome = run_steps(steps, &mut keeping);
-    let Keeping { written: left, .. } = keeping;
-    write_kept(left.as_slice(), numbers);
-    outcome
+    let Keeping { written, .. } = keeping;
+    write_kept(written.as_slice(), numbers);
+    Some(outcome)
 }
 
 /// Runs the steps over the numbers, up to the first that refuses, which the answer tells. Where there are many of them, the
@@ -177,11 +201,8 @@ pub fn run_declared<N: Numbers>(
     if steps.len() / 4 < declared.written.len() {
         return run_steps(steps, numbers);
     }
-    let Some(read) = kept_of(numbers, declared.read.as_slice()) else {
-        return run_steps(steps, numbers);
-    };
-    let Some(written) = kept_of(numbers, declared.written.as_slice()) else {
-        return run_steps(steps, numbers);
-    };
-    run_over(steps, read, written, numbers)
+    match run_kept(steps, declared, numbers) {
+        Some(outcome) => outcome,
+        None => run_steps(steps, numbers),
+    }
 }

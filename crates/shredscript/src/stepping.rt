@@ -22,9 +22,7 @@ pub fn run_steps<N: Numbers>(steps: &[Step], numbers: &mut N) -> Result<(), Faul
     ensures keeps { N.keeps numbers.old numbers.new }
 {
     for step in steps {
-        if let Err(fault) = run_step(*step, numbers) {
-            return Err(fault);
-        }
+        run_step(*step, numbers)?;
     }
     Ok(())
 }

@@ -47,9 +47,9 @@ returns-clause-left g c =
     let operand : FitsSigned w64 c.args.operand = search rules in
     let left = rw c.as_mut_slice.ensures.value at (simp to_z-of_z at c.change_number.ensures.left) in
     rw c.as_mut_slice.ensures.value (
-      ap (λ kept. overlaid kept seen) (take_at (set kept at one) (drop (length (set kept at one)) kept) (length kept) whole)
-      ∙ overlaid-set seen kept c.args.place at one (kept-place kept c.args.place at d here) here
-      ∙ change_left-put (overlaid kept seen) c.args.place c.args.operation (get_or kept at d).number c.args.operand c.change_number.new.number held left
+    ap (λ kept. overlaid kept seen) (take_at (set kept at one) (drop (length (set kept at one)) kept) (length kept) whole)
+    ∙ overlaid-set seen kept c.args.place at one (kept-place kept c.args.place at d here) here
+    ∙ change_left-put (overlaid kept seen) c.args.place c.args.operation (get_or kept at d).number c.args.operand c.change_number.new.number held left
     )
 
 pub returns-clause-keeps : goal.returns-clause-keeps
@@ -59,8 +59,11 @@ returns-clause-keeps g c =
     let d : KeptNumber = record { place = 0; number = pos 0 } in
     let here : IsKeptAt kept c.args.place at = rw c.as_slice.ensures.value at c.in-Some.ensures.kept in
     let one : KeptNumber = record (get_or kept at d) { number = c.change_number.new.number } in
-    let whole : length (set kept at one) ≡ length kept = length-set kept at one in
-    (refl, refl, rw c.as_mut_slice.ensures.value (
-      ap (map kept_place) (take_at (set kept at one) (drop (length (set kept at one)) kept) (length kept) whole)
-      ∙ places-set kept c.args.place at one (kept-place kept c.args.place at d here) here
-    ))
+    let whole : length (set kept at one) ≡ length kept = length-set kept at one in (
+      refl,
+      refl,
+      rw c.as_mut_slice.ensures.value (
+          ap (map kept_place) (take_at (set kept at one) (drop (length (set kept at one)) kept) (length kept) whole)
+          ∙ places-set kept c.args.place at one (kept-place kept c.args.place at d here) here
+          ),
+    )

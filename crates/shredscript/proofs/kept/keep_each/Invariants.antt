@@ -1,6 +1,6 @@
 use Rattle.std.proofs.Common.{◌≡◌, map, take}
 use Rattle.shredscript.specs.Overlaid.{AreHeld, kept_place}
-use Rattle.shredscript.proofs.kept.kept_of.Given as goal
+use Rattle.shredscript.proofs.kept.keep_each.Given as goal
 
 abbrev pub invariant-loop-place : goal.invariant-loop-place
 invariant-loop-place g l = record {

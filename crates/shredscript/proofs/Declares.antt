@@ -5,13 +5,18 @@ use Rattle.std.proofs.lemmas.List.{drop_more}
 use Rattle.std.proofs.lemmas.List.Elements.{All-from_recursion, All-head, All-tail}
 use Rattle.shred_table.specs.Slots.{among}
 use Rattle.shredscript_text.specs.declared.step.Step.{Step}
-use Rattle.shredscript_text.specs.Declares.{has_place, with_place, places_read, places_written, read_place, write_place}
+use Rattle.shredscript_text.specs.Declares.{has_place, with_place, named_place, places_named, places_read, places_written, read_place, write_place}
 use Rattle.shredscript_text.specs.Place.{id_at}
 
 -- with one more step, the places so far and those of the rest are still those of all steps
 pub read-more : (before after all : List ℕ) (steps : List Step) (i : ℕ) (d : Step) → i < length steps → places_read before (drop i steps) ≡ all
     → after ≡ with_place before (read_place (get_or steps i d)) → places_read after (drop (i + 1) steps) ≡ all
 read-more before after all steps i d lt so_far more = ap (λ places. places_read places (drop (i + 1) steps)) more ∙ sym (ap (places_read before) (drop_more steps i d lt)) ∙ so_far
+
+-- the same of what their operands name
+pub named-more : (before after all : List ℕ) (steps : List Step) (i : ℕ) (d : Step) → i < length steps → places_named before (drop i steps) ≡ all
+    → after ≡ with_place before (named_place (get_or steps i d)) → places_named after (drop (i + 1) steps) ≡ all
+named-more before after all steps i d lt so_far more = ap (λ places. places_named places (drop (i + 1) steps)) more ∙ sym (ap (places_named before) (drop_more steps i d lt)) ∙ so_far
 
 -- the same of what they write
 pub written-more : (before after all : List ℕ) (steps : List Step) (i : ℕ) (d : Step) → i < length steps → places_written before (drop i steps) ≡ all

@@ -1,10 +1,9 @@
 -- Steps that are run one after the other.
-use Rattle.std.proofs.Common.{◌≡◌, ℕ, ◌+◌, ◌<◌, List, length, get_or, drop, cond, Ok, Err, ◌∙◌, ap}
+use Rattle.std.proofs.Common.{◌≡◌, ℕ, ◌+◌, ◌<◌, List, length, get_or, drop, cond, Ok, ◌∙◌, ap}
 use Rattle.std.specs.Result.{result_and}
 use Rattle.std.specs.Prelude.{is_ok}
 use Rattle.std.proofs.lemmas.List.{drop_more}
 use Rattle.shred_world.specs.Worked.{Held}
-use Rattle.shred_run.specs.declared.system.Fault.{Fault}
 use Rattle.shred_run.specs.Steps.{Outcome}
 use Rattle.shredscript_text.specs.declared.outcome.Refusal.{Refusal}
 use Rattle.shredscript_text.specs.declared.step.Step.{Step}
@@ -19,11 +18,3 @@ module _ (steps : List Step) (i : ℕ) (d : Step) (seen : Held Value) (below : i
   pub left-next : step_outcome (get_or steps i d) seen ≡ Ok tt → steps_left (drop i steps) seen ≡ steps_left (drop (i + 1) steps) (step_left (get_or steps i d) seen)
   left-next done = ap (λ l. steps_left l seen) (drop_more steps i d below)
       ∙ ap (λ (o : Outcome Refusal). cond (is_ok o) (steps_left (drop (i + 1) steps) (step_left (get_or steps i d) seen)) (step_left (get_or steps i d) seen)) done
-
-  -- the step at place i is refused, and no step after it does anything
-  pub outcome-stop : (fault : Fault Refusal) → step_outcome (get_or steps i d) seen ≡ Err fault → steps_outcome (drop i steps) seen ≡ Err fault
-  outcome-stop fault refused = ap (λ l. steps_outcome l seen) (drop_more steps i d below) ∙ ap (λ (o : Outcome Refusal). result_and o (steps_outcome (drop (i + 1) steps) (step_left (get_or steps i d) seen))) refused
-
-  pub left-stop : (fault : Fault Refusal) → step_outcome (get_or steps i d) seen ≡ Err fault → steps_left (drop i steps) seen ≡ step_left (get_or steps i d) seen
-  left-stop fault refused = ap (λ l. steps_left l seen) (drop_more steps i d below)
-      ∙ ap (λ (o : Outcome Refusal). cond (is_ok o) (steps_left (drop (i + 1) steps) (step_left (get_or steps i d) seen)) (step_left (get_or steps i d) seen)) refused

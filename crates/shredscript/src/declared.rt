@@ -1,6 +1,6 @@
 //! What the steps of a system declare.
 ghost use Rattle.std.specs.Prelude.{◌≡◌, [], Some, map, IfOk, OnOk};
-ghost use Rattle.shredscript_text.specs.Declares.{read_place, write_place, places_read, places_written, with_place};
+ghost use Rattle.shredscript_text.specs.Declares.{named_place, read_place, write_place, places_named, places_read, places_written, with_place};
 ghost use Rattle.shredscript_text.specs.Place.{id_at};
 
 use shred_world::{Accessor, OutOfMemory, ResourceId};
@@ -8,11 +8,13 @@ use shredscript_text::step::Step;
 use shredscript_text::value::id_at;
 use std::alloc::{AllocError, Global};
 
-/// The places of the resources that a system reads, and of those that it writes, each once.
+/// The places of the resources that a system reads, of those that it writes, and of those that operands of its steps name,
+/// each once.
 #[derive(Drop)]
 pub struct Declared {
     pub read: Vec<usize>,
     pub written: Vec<usize>,
+    pub named: Vec<usize>,
 }
 
 impl Declared {
@@ -20,15 +22,15 @@ impl Declared {
     pub fn of_steps(alloc: Global, steps: &[Step]) -> Result<Declared, AllocError>
         ensures read { IfOk result (λ declared. declared.read.items ≡ places_read [] steps.now) }
         ensures written { IfOk result (λ declared. declared.written.items ≡ places_written [] steps.now) }
+        ensures named { IfOk result (λ declared. declared.named.items ≡ places_named [] steps.now) }
     {
         let mut declared = Declared {
             read: Vec::new(alloc),
             written: Vec::new(alloc),
+            named: Vec::new(alloc),
         };
         for step in steps {
-            if let Err(error) = declared.add(*step) {
-                return Err(error);
-            }
+            declared.add(*step)?;
         }
         Ok(declared)
     }
@@ -36,12 +38,16 @@ impl Declared {
     fn add(&mut self, step: Step) -> Result<(), AllocError>
         ensures read { OnOk result (self.new.read.items ≡ with_place self.old.read.items (read_place step)) }
         ensures written { OnOk result (self.new.written.items ≡ with_place self.old.written.items (write_place step)) }
+        ensures named { OnOk result (self.new.named.items ≡ with_place self.old.named.items (named_place step)) }
     {
         if let Some(place) = step.read_place() {
             add_place(&mut self.read, place)?;
         }
         if let Some(place) = step.write_place() {
             add_place(&mut self.written, place)?;
+        }
+        if let Some(place) = step.named_place() {
+            add_place(&mut self.named, place)?;
         }
         Ok(())
     }
@@ -50,10 +56,12 @@ impl Declared {
     pub fn copy(&self, alloc: Global) -> Result<Declared, OutOfMemory>
         ensures read { IfOk result (λ copy. copy.read.items ≡ self.now.read.items) }
         ensures written { IfOk result (λ copy. copy.written.items ≡ self.now.written.items) }
+        ensures named { IfOk result (λ copy. copy.named.items ≡ self.now.named.items) }
     {
         Ok(Declared {
             read: copy_places(alloc, &self.read)?,
             written: copy_places(alloc, &self.written)?,
+            named: copy_places(alloc, &self.named)?,
         })
     }
 }

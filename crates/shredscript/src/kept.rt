@@ -92,7 +92,7 @@ fn number_in(kept: &[KeptNumber], place: usize) -> Option<i64>
 }
 
 impl<N: Numbers> Keeping<'_, N> {
-    // Keeps the numbers of what is declared, where all are held and there is room for them.
+    // Keeps the numbers of what operands name and of what is written, where all are held and there is room for them.
     fn keep(&mut self, declared: &Declared) -> Option<()>
         requires is_ready { N.is_ready self.old.behind.now }
         requires empty { (self.old.read.items ≡ []) × (self.old.written.items ≡ []) }
@@ -102,7 +102,7 @@ impl<N: Numbers> Keeping<'_, N> {
         ensures written { IfSome result (λ done. AreHeld (N.seen self.old.behind.now) self.new.written.items) }
     {
         let behind = self.behind;
-        keep_each(&mut self.read, behind, declared.read.as_slice())?;
+        keep_each(&mut self.read, behind, declared.named.as_slice())?;
         keep_each(&mut self.written, behind, declared.written.as_slice())
     }
 }
@@ -157,8 +157,8 @@ fn write_kept<N: Numbers>(kept: &[KeptNumber], numbers: &mut N)
     }
 }
 
-// Runs the steps over what they declare, which is read once before them and written once after. Where not all of it is held,
-// or there is no room to keep it, nothing is done.
+// Runs the steps over the numbers that they name, which are read once before them and written once after. Where not all of
+// them are held, or there is no room to keep them, nothing is done.
 fn run_kept<N: Numbers>(
     steps: &[Step],
     declared: &Declared,
@@ -185,7 +185,7 @@ fn run_kept<N: Numbers>(
 }
 
 /// Runs the steps over the numbers, up to the first that refuses, which the answer tells. Where there are many of them, the
-/// numbers that they declare are read once before them and written once after.
+/// numbers that they name are read once before them and written once after.
 pub fn run_declared<N: Numbers>(
     steps: &[Step],
     declared: &Declared,

@@ -16,6 +16,13 @@ abbrev pub operand_place : Operand → Option ℕ
 operand_place (Number number) = None
 operand_place (Resource source) = Some source
 
+-- the resource that a step's operand names
+abbrev pub named_place : Step → Option ℕ
+named_place (Change target operation operand) = operand_place operand
+named_place (Read place) = None
+named_place (Write place) = None
+named_place (Refuse code) = None
+
 -- the resource that a step declares to read
 abbrev pub read_place : Step → Option ℕ
 read_place (Change target operation operand) = operand_place operand
@@ -48,6 +55,11 @@ places_read places (step ∷ steps) = places_read (with_place places (read_place
 abbrev pub places_written : List ℕ → List Step → List ℕ
 places_written places [] = places
 places_written places (step ∷ steps) = places_written (with_place places (write_place step)) steps
+
+-- these places, and those that operands of steps name, each once, in the order in which they first do
+abbrev pub places_named : List ℕ → List Step → List ℕ
+places_named places [] = places
+places_named places (step ∷ steps) = places_named (with_place places (named_place step)) steps
 
 -- the ids that steps declare to read, each once
 abbrev pub read_ids : List Step → List ResourceId

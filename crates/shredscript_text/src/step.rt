@@ -2,7 +2,7 @@
 ghost use Rattle.std.specs.Prelude.{◌≡◌, ◌++◌, codes, IfOk};
 ghost use Rattle.shredscript_text.specs.Report.{resource_names};
 ghost use Rattle.shredscript_text.specs.StepForms.{IsNameAt, WritesOperand, WritesStep, sign_of};
-ghost use Rattle.shredscript_text.specs.Declares.{read_place, write_place};
+ghost use Rattle.shredscript_text.specs.Declares.{named_place, read_place, write_place};
 
 use crate::error::LineFault;
 use crate::words::{integer, refusal_code, resource_name};
@@ -79,6 +79,19 @@ impl Step {
             operation,
             operand,
         })
+    }
+
+    /// The resource that the step's operand names.
+    pub fn named_place(self) -> Option<usize>
+        ensures { result ≡ named_place self }
+    {
+        match self {
+            Step::Change {
+                operand: Operand::Resource(place),
+                ..
+            } => Some(place),
+            _ => None,
+        }
     }
 
     /// The resource that the step declares to read.

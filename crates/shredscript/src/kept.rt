@@ -159,6 +159,7 @@ fn write_kept<N: Numbers>(kept: &[KeptNumber], numbers: &mut N)
 
 // Runs the steps over the numbers that they name, which are read once before them and written once after. Where not all of
 // them are held, or there is no room to keep them, nothing is done.
+#[inline(never)]
 fn run_kept<N: Numbers>(
     steps: &[Step],
     declared: &Declared,

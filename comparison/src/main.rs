@@ -1,0 +1,125 @@
+//! Drives shred 0.12.0 by scripts, to be measured beside `shredrun`. It prints what `shredrun` prints, without the plan.
+//!
+//!     comparison once <SCRIPT      each system fetches what it declares once a run, as its system data
+//!     comparison few <SCRIPT       it fetches in each step where there are few, by the rule of `shredrun`
+//!     comparison declared <SCRIPT  the same, where a step `?X` only declares
+//!     comparison plan SYSTEMS TIMES  builds plans of the accesses that `shredmeasure` draws
+mod script;
+mod steps;
+mod systems;
+
+use script::{parse, Line};
+use shred::{Dispatcher, DispatcherBuilder, RunningTime, System, World};
+use std::hint::black_box;
+use std::io;
+use steps::{id_of, Compiled, Ids};
+use systems::{Either, Once, Planned, Rounds};
+
+/// The type of each resource.
+pub struct Value(pub i64);
+
+type Builder = DispatcherBuilder<'static, 'static>;
+
+trait Made: for<'a> System<'a> + Send + 'static {
+    fn make(time: RunningTime, compiled: Compiled) -> Self;
+}
+
+impl Made for Once {
+    fn make(time: RunningTime, compiled: Compiled) -> Self {
+        Once { time, compiled }
+    }
+}
+
+impl Made for Either {
+    fn make(time: RunningTime, compiled: Compiled) -> Self {
+        let few = compiled.steps.len() / 4 < compiled.ids.writes.len();
+        Either { few, time, compiled }
+    }
+}
+
+fn builder_of<S: Made>(lines: &[Line]) -> Builder {
+    let mut builder = Builder::new();
+    for line in lines {
+        match line {
+            Line::System(system) => {
+                let deps: Vec<&str> = system.deps.iter().map(String::as_str).collect();
+                builder.add(S::make(system.time, system.compiled.clone()), &system.name, &deps);
+            }
+            Line::Batch(batch) => {
+                let deps: Vec<&str> = batch.deps.iter().map(String::as_str).collect();
+                let inner = builder_of::<S>(&batch.inner);
+                builder.add_batch(Rounds(batch.rounds), inner, &batch.name, &deps);
+            }
+            Line::Barrier => builder.add_barrier(),
+            Line::Local(compiled) => builder.add_thread_local(S::make(RunningTime::Average, compiled.clone())),
+        }
+    }
+    builder
+}
+
+fn dispatch_each(dispatcher: &mut Dispatcher<'static, 'static>, world: &World, times: usize) {
+    for _ in 0..times {
+        dispatcher.dispatch_seq(world);
+        dispatcher.dispatch_thread_local(world);
+    }
+}
+
+fn run<S: Made>(looks: bool) {
+    let text = io::read_to_string(io::stdin().lock()).expect("no script");
+    let script = parse(&text, looks);
+    let mut world = World::empty();
+    for (place, (_, value)) in script.resources.iter().enumerate() {
+        world.insert_by_id(id_of(place), Value(*value));
+    }
+    let mut dispatcher = builder_of::<S>(&script.lines).build();
+    dispatcher.setup(&mut world);
+    dispatch_each(&mut dispatcher, &world, script.times);
+    for (place, (name, _)) in script.resources.iter().enumerate() {
+        let value = world.try_fetch_by_id::<Value>(id_of(place)).expect("no such resource");
+        println!("{name}={}", value.0);
+    }
+    println!("ok");
+}
+
+fn next(seed: u64) -> u64 {
+    seed.wrapping_mul(6364136223846793005).wrapping_add(1442695040888963407)
+}
+
+/// 1 to 6 of 300 resources, each read or written.
+fn drawn(seed: &mut u64) -> Ids {
+    let mut ids = Ids::default();
+    *seed = next(*seed);
+    for _ in 0..(*seed >> 33) % 6 + 1 {
+        *seed = next(*seed);
+        let id = id_of(((*seed >> 33) % 300) as usize);
+        if (*seed >> 50) % 3 == 0 {
+            ids.writes.push(id)
+        } else {
+            ids.reads.push(id)
+        }
+    }
+    ids
+}
+
+fn plan(count: u64, times: u64) {
+    let mut seed = count;
+    for _ in 0..times {
+        let mut builder = Builder::new();
+        for _ in 0..count {
+            builder.add(Planned(drawn(&mut seed)), "", &[]);
+        }
+        black_box(builder.build());
+    }
+}
+
+fn main() {
+    let words: Vec<String> = std::env::args().skip(1).collect();
+    let words: Vec<&str> = words.iter().map(String::as_str).collect();
+    match words[..] {
+        ["once"] => run::<Once>(true),
+        ["few"] => run::<Either>(true),
+        ["declared"] => run::<Either>(false),
+        ["plan", count, times] => plan(count.parse().expect("no number"), times.parse().expect("no number")),
+        _ => panic!("comparison once|few|declared, or comparison plan SYSTEMS TIMES"),
+    }
+}

@@ -1,0 +1,165 @@
+//! Systems whose ids are known at run time alone.
+use crate::steps::{apply, look, Compiled, Ids, Operand, Step};
+use crate::Value;
+use shred::{
+    AccessorCow, BatchController, Dispatcher, DynamicSystemData, Fetch, FetchMut, RunningTime, System, World,
+};
+use smallvec::SmallVec;
+
+type Reads<'a> = SmallVec<[Fetch<'a, Value>; 4]>;
+type Writes<'a> = SmallVec<[FetchMut<'a, Value>; 4]>;
+
+fn read<'a>(world: &'a World, ids: &Ids, index: usize) -> Fetch<'a, Value> {
+    let id = ids.reads[index].clone();
+    world.try_fetch_by_id(id).expect("no such resource")
+}
+
+fn write<'a>(world: &'a World, ids: &Ids, index: usize) -> FetchMut<'a, Value> {
+    let id = ids.writes[index].clone();
+    world.try_fetch_mut_by_id(id).expect("no such resource")
+}
+
+/// A guard for each id that is declared.
+pub struct Guards<'a> {
+    reads: Reads<'a>,
+    writes: Writes<'a>,
+}
+
+impl<'a> DynamicSystemData<'a> for Guards<'a> {
+    type Accessor = Ids;
+
+    fn setup(_: &Ids, _: &mut World) {}
+
+    fn fetch(ids: &Ids, world: &'a World) -> Self {
+        Guards {
+            reads: (0..ids.reads.len()).map(|index| read(world, ids, index)).collect(),
+            writes: (0..ids.writes.len()).map(|index| write(world, ids, index)).collect(),
+        }
+    }
+}
+
+/// The world alone.
+pub struct Behind<'a>(&'a World);
+
+impl<'a> DynamicSystemData<'a> for Behind<'a> {
+    type Accessor = Ids;
+
+    fn setup(_: &Ids, _: &mut World) {}
+
+    fn fetch(_: &Ids, world: &'a World) -> Self {
+        Behind(world)
+    }
+}
+
+fn run_over(steps: &[Step], guards: &mut Guards<'_>) {
+    let Guards { reads, writes } = guards;
+    for step in steps {
+        match *step {
+            Step::Change { target, op, operand } => {
+                let number = match operand {
+                    Operand::Number(number) => number,
+                    Operand::Read(index) => reads[index as usize].0,
+                    Operand::Written(index) => writes[index as usize].0,
+                };
+                apply(op, &mut writes[target as usize].0, number);
+            }
+            Step::Look(Operand::Read(index)) => look(&reads[index as usize].0),
+            Step::Look(Operand::Written(index)) => look(&writes[index as usize].0),
+            Step::Look(Operand::Number(_)) => {}
+        }
+    }
+}
+
+fn run_each(compiled: &Compiled, world: &World) {
+    let ids = &compiled.ids;
+    for step in &compiled.steps {
+        match *step {
+            Step::Change { target, op, operand } => {
+                let number = match operand {
+                    Operand::Number(number) => number,
+                    Operand::Read(index) => read(world, ids, index as usize).0,
+                    Operand::Written(index) => write(world, ids, index as usize).0,
+                };
+                apply(op, &mut write(world, ids, target as usize).0, number);
+            }
+            Step::Look(Operand::Read(index)) => look(&read(world, ids, index as usize).0),
+            Step::Look(Operand::Written(index)) => look(&write(world, ids, index as usize).0),
+            Step::Look(Operand::Number(_)) => {}
+        }
+    }
+}
+
+/// Fetches what it declares once a run, as its system data.
+pub struct Once {
+    pub time: RunningTime,
+    pub compiled: Compiled,
+}
+
+impl<'a> System<'a> for Once {
+    type SystemData = Guards<'a>;
+
+    fn run(&mut self, mut guards: Guards<'a>) {
+        run_over(&self.compiled.steps, &mut guards)
+    }
+
+    fn running_time(&self) -> RunningTime {
+        self.time
+    }
+
+    fn accessor<'b>(&'b self) -> AccessorCow<'a, 'b, Self> {
+        AccessorCow::Ref(&self.compiled.ids)
+    }
+}
+
+/// Fetches in each step where there are few, else once a run: by the rule of `shredrun`.
+pub struct Either {
+    pub few: bool,
+    pub time: RunningTime,
+    pub compiled: Compiled,
+}
+
+impl<'a> System<'a> for Either {
+    type SystemData = Behind<'a>;
+
+    fn run(&mut self, Behind(world): Behind<'a>) {
+        if self.few {
+            run_each(&self.compiled, world)
+        } else {
+            run_over(&self.compiled.steps, &mut Guards::fetch(&self.compiled.ids, world))
+        }
+    }
+
+    fn running_time(&self) -> RunningTime {
+        self.time
+    }
+
+    fn accessor<'b>(&'b self) -> AccessorCow<'a, 'b, Self> {
+        AccessorCow::Ref(&self.compiled.ids)
+    }
+}
+
+/// The controller of a batch, which runs its plan so often.
+pub struct Rounds(pub usize);
+
+impl<'a, 'b, 'c> BatchController<'a, 'b, 'c> for Rounds {
+    type BatchSystemData = ();
+
+    fn run(&mut self, world: &'c World, dispatcher: &mut Dispatcher<'a, 'b>) {
+        for _ in 0..self.0 {
+            dispatcher.dispatch(world);
+        }
+    }
+}
+
+/// A system that is only planned.
+pub struct Planned(pub Ids);
+
+impl<'a> System<'a> for Planned {
+    type SystemData = Behind<'a>;
+
+    fn run(&mut self, _: Behind<'a>) {}
+
+    fn accessor<'b>(&'b self) -> AccessorCow<'a, 'b, Self> {
+        AccessorCow::Ref(&self.0)
+    }
+}

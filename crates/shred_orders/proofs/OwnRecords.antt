@@ -21,7 +21,7 @@ use Rattle.shred_run.specs.NestedRecords.{NestedRecord, IsNestedStep, Reply, aga
 use Rattle.shred_run.specs.NestedRuns.{NestedBatchRun, NestedEntryRun, NestedGroupRun, NestedPlanRun, NestedRounds, NestedRun, NestedStageTurn, OccupantRun}
 use Rattle.shred_run.specs.Occupants.{AgentState, Occupant, Occupants, a_batch, a_system, inside_at, of_controller, of_system}
 use Rattle.shred_run.specs.Steps.{Outcome}
-use Rattle.shred_run.proofs.Paths.Opened.Runs.{EachAt, RunsEach-each, RunsUpToFault-each, UpToFault-with, Each-with, With}
+use Rattle.shred_run.proofs.Paths.Opened.{EachAt, RunsEach-each, RunsUpToFault-each, UpToFault-with, Each-with, With}
 use Rattle.shred_orders.proofs.OneStep.{HasOwnLists, declared_by}
 
 -- Each step of a system and each call of a controller keeps the two lists that are declared.

@@ -20,9 +20,9 @@ use Rattle.shred_run.specs.OwnDepth.{OwnsItself, depth_of}
 use Rattle.shred_run.specs.OwnLists.{IsEntryOf, IsGroupOf}
 use Rattle.shred_run.specs.PlanOf.{entry_plan, group_plan, groups_plan}
 use Rattle.shred_run.specs.Works.{IsTierWithin, tiers_plan}
-use Rattle.shred_run.proofs.Paths.Inside.{by_path-batch}
-use Rattle.shred_run.proofs.Paths.Opened.Runs.{EachAt}
-use Rattle.shred_run.proofs.Paths.Owned.{EachAt-listed}
+use Rattle.shred_run.proofs.Paths.Works.{by_path-batch}
+use Rattle.shred_run.proofs.Paths.Opened.{EachAt}
+use Rattle.shred_run.proofs.Paths.OwnDepth.{EachAt-listed}
 use Rattle.shred_orders.proofs.OwnRecords.{OwnsAt, PlanOwns}
 
 module _ {V S C : Type 0} (declared : Declared S C) where

@@ -1,12 +1,5 @@
-pub mod Batches
-pub mod Behind
 pub mod Bounds
-pub mod Depths
 pub mod Entries
-pub mod Handed
-pub mod Restricted
 pub mod Rounds
 pub mod Tiers
-pub mod TierTurns
 pub mod WorkSteps
-pub mod Weaker

@@ -1,14 +1,4 @@
-pub mod Batches
-pub mod Deeper
-pub mod Entries
-pub mod Fits
-pub mod Inside
 pub mod Opened
 pub mod OwnDepth
-pub mod Owned
-pub mod Parallel
-pub mod Serializable
-pub mod Stays
-pub mod Turns
 pub mod Within
 pub mod Works

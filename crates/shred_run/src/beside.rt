@@ -287,7 +287,7 @@ where
 // One step of what stands in the entry: over the table where it is the only one of its group, and else over its own hand, into
 // which what it writes is moved before, and out of it after.
 #[cycle(beside)]
-#[tactic(auto, using(crate::proofs::Runs::Places::place_single, crate::proofs::Runs::Places::place_several, crate::proofs::Runs::Places::several_place, crate::proofs::Runs::Places::single_place))]
+#[tactic(auto, using(crate::proofs::Circle::Entries::place_single, crate::proofs::Circle::Entries::place_several, crate::proofs::Circle::Entries::several_place, crate::proofs::Circle::Entries::single_place))]
 fn run_entry<
     R: Threads + Sync,
     V: ResourceValue + Drop + Send + Sync,

@@ -240,6 +240,7 @@ fn written_hand<V: Drop>(
     Ok((written, hand))
 }
 
+#[tactic(auto, using(crate::proofs::Groups::numbers_of_remove))]
 fn take_id(left: &mut SmallVec<SystemId, 4>, id: SystemId)
     ensures { numbers_of left.new.items ≡ without_one id.0 (numbers_of left.old.items) }
 {

@@ -241,7 +241,7 @@ fn run_group<
 // One step of what stands in the entry: over the table where it is the only one of its group, and else over its own hand, into
 // which what it writes is moved before, and out of it after.
 #[cycle(in_order)]
-#[tactic(auto, using(crate::proofs::Runs::Places::place_single, crate::proofs::Runs::Places::place_several, crate::proofs::Runs::Places::several_place, crate::proofs::Runs::Places::single_place))]
+#[tactic(auto, using(crate::proofs::Circle::Entries::place_single, crate::proofs::Circle::Entries::place_several, crate::proofs::Circle::Entries::several_place, crate::proofs::Circle::Entries::single_place))]
 fn run_entry<
     V: ResourceValue + Drop,
     S: System<V, Error = E>,

@@ -1,7 +1,7 @@
 //! The entries that are kept of systems and of batches.
 ghost use Rattle.std.specs.Prelude.{◌≡◌, ◌↔◌, ◌++◌, ◌≤◌, ℕ, All, AllPairs, Contains, IfOk, OnOk};
 ghost use Rattle.std.specs.List.{flat_map};
-ghost use Rattle.shred_run.specs.Depths.{Declared, lists_of};
+ghost use Rattle.shred_run.specs.Depths.{lists_of};
 ghost use Rattle.shred_run.specs.Kept.{IsKept};
 ghost use Rattle.shred_run.specs.KeptControllers.{IsOwnControl, control_access};
 ghost use Rattle.shred_run.specs.Works.{tier_plan, tiers_plan};

@@ -51,6 +51,7 @@ pub fn ids_of(
 }
 
 /// Enters the name, unless it is empty.
+#[tactic(auto, using(crate::proofs::Names::Known::name_entered))]
 pub fn enter(
     alloc: Global,
     names: &mut HashMap<String, SystemId>,
@@ -70,6 +71,7 @@ pub fn enter(
 }
 
 /// Takes the name away.
+#[tactic(auto, using(crate::proofs::Names::Known::name_forgotten))]
 pub fn forget(names: &mut HashMap<String, SystemId>, name: &str)
     ensures forgotten { (q : List ℕ) → names_of names.new q ≡ cond (bytes_eq name.now q) None (names_of names.old q) }
     ensures distinct { IsUnique string_eq names.new }

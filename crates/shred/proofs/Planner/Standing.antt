@@ -14,7 +14,7 @@ use Rattle.shred_stage.specs.Added.{IsNewAt}
 use Rattle.shred_stage.specs.Earlier.{ComesAfter, HasId, StandsAfter, plan_has}
 use Rattle.shred_stage.specs.Known.{Known, KnowsAll, known_ids, with_name}
 use Rattle.shred_stage.proofs.Planner.Earlier.{entry-of_id}
-use Rattle.shred_run.proofs.Groups.Membership.{Contains-flat_map, Some_of, list_any_decides}
+use Rattle.shred_run.proofs.Groups.{Contains-flat_map, Some_of, list_any_decides}
 
 pub contains-at : {X : Type 0} (xs : List X) (k : ℕ) (x : X) → slice_get xs k ≡ Some x → Contains xs x
 contains-at xs k x at = (k, slice_get_within xs k x at, get_or_from_slice_get xs k x x at)

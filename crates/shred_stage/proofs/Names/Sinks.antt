@@ -36,20 +36,9 @@ put-stops old new m n t u e f ((begun, rest, is, p), failed) = ((begun, rest ++ 
 pub put-stops-within : {E F : Type 0} (old mid new : Option (List ℕ)) (m n k : ℕ) (t u v : List ℕ) (e : E) (f : F) → Appends old mid t → n ≡ m → IsPut mid new n k u (Err e) → IsPut old new m k (t ++ (u ++ v)) (Err f)
 put-stops-within old mid new m n k t u v e f p same q = put-then old mid new m n k t (u ++ v) (Err f) p same (put-stops mid new n k u v e f q)
 
-Appends-keeping : (old mid new : Option (List ℕ)) (t : List ℕ) → Appends old mid t → Keeps mid new → Appends old new t
-Appends-keeping None mid new t p k = tt
-Appends-keeping (Some xs) None new t p k = absurd p
-Appends-keeping (Some xs) (Some ys) None t p k = absurd k
-Appends-keeping (Some xs) (Some ys) (Some zs) t p k = k ∙ p
-
 -- a piece of the text was taken
 pub put-more : (old mid new : Option (List ℕ)) (text piece : List ℕ) (done n : ℕ) → Appends old mid (take done text) → piece ≡ drop done text → Appends mid new (take n piece) → Appends old new (take (done + n) text)
 put-more old mid new text piece done n p is q = rw (take-add done n text) (Appends-then old mid new (take done text) (take n (drop done text)) p (rw is at q))
-
--- the sink failed within the text
-pub put-failed : {E : Type 0} (old mid new : Option (List ℕ)) (m n k : ℕ) (text : List ℕ) (done : ℕ) (e : E) → Appends old mid (take done text) → n ≡ m → Keeps mid new → IsCounted n k → IsPut old new m k text (Err e)
-put-failed old mid new m n k text done e p same kept counted =
-    ((take done text, drop done text, sym (take-append-drop done text), Appends-keeping old mid new (take done text) p kept), subst (λ a. IsCounted a k) same counted)
 
 -- the texts of a list's items, one after the other
 module _ {Y : Type 0} (f : Y → List ℕ) (ys : List Y) (i : ℕ) (y : Y) where
@@ -63,15 +52,21 @@ module _ {Y : Type 0} (f : Y → List ℕ) (ys : List Y) (i : ℕ) (y : Y) where
       ap (flat_map f) (sym (take-append-drop (i + 1) ys)) ∙ flat_map-append f (take (i + 1) ys) (drop (i + 1) ys) ∙ ap (λ l. l ++ flat_map f (drop (i + 1) ys)) (more at)
       ∙ append_assoc (flat_map f (take i ys)) (f y) (flat_map f (drop (i + 1) ys))
 
+-- the texts of the items before place i were put, and no failure was counted
+pub record HasPut {W Y : Type 0} (told : W → Option (List ℕ)) (failures : W → ℕ) (f : Y → List ℕ) (ys : List Y) (i : ℕ) (old now : W) : Type 0 where
+  pub so_far : Appends (told old) (told now) (flat_map f (take i ys))
+  pub no_failure : failures now ≡ failures old
+
+module _ {W Y : Type 0} {told : W → Option (List ℕ)} {failures : W → ℕ} {f : Y → List ℕ} {ys : List Y} {i : ℕ} {old now : W} (put : HasPut told failures f ys i old now) {y : Y} (at : slice_get ys i ≡ Some y) (new : W) where
   -- one more was put
-  pub put-step : (old mid new : Option (List ℕ)) (m n k : ℕ) → slice_get ys i ≡ Some y → Appends old mid (flat_map f (take i ys)) → n ≡ m → Appends mid new (f y) → k ≡ n
-      → record { so_far : Appends old new (flat_map f (take (i + 1) ys)); no_failure : k ≡ m }
-  put-step old mid new m n k at p same q kept = record { so_far = rw (more at) (Appends-then old mid new (flat_map f (take i ys)) (f y) p q); no_failure = kept ∙ same }
+  pub put-step : Appends (told now) (told new) (f y) → failures new ≡ failures now → HasPut told failures f ys (i + 1) old new
+  put-step then kept = record { so_far = rw (more f ys i y at) (Appends-then (told old) (told now) (told new) (flat_map f (take i ys)) (f y) put.so_far then); no_failure = kept ∙ put.no_failure }
 
   -- the sink failed at this one
-  pub put-stop : {E F : Type 0} (old mid new : Option (List ℕ)) (m n k : ℕ) (e : E) (e' : F) → slice_get ys i ≡ Some y → Appends old mid (flat_map f (take i ys)) → n ≡ m → IsPut mid new n k (f y) (Err e) → IsPut old new m k (flat_map f ys) (Err e')
-  put-stop old mid new m n k e e' at p same q =
-      rw (all at) (put-stops-within old mid new m n k (flat_map f (take i ys)) (f y) (flat_map f (drop (i + 1) ys)) e e' p same q)
+  pub put-stop : {E F : Type 0} (e : E) (e' : F) → IsPut (told now) (told new) (failures now) (failures new) (f y) (Err e) → IsPut (told old) (told new) (failures old) (failures new) (flat_map f ys) (Err e')
+  put-stop e e' failed =
+      rw (all f ys i y at)
+      (put-stops-within (told old) (told now) (told new) (failures old) (failures now) (failures new) (flat_map f (take i ys)) (f y) (flat_map f (drop (i + 1) ys)) e e' put.so_far put.no_failure failed)
 
 pub map-flat : {X : Type 0} (f : X → ℕ) (xs : List X) → map f xs ≡ flat_map (λ x. f x ∷ []) xs
 map-flat f [] = refl

@@ -1,8 +1,13 @@
--- What is placed comes after the barrier and after its dependencies.
-use Rattle.std.proofs.Common.{◌≡◌, ◌≢◌, ℕ, zero, suc, ◌+◌, ◌-◌, ◌<◌, ◌≤◌, true, false, ◌==◌, List, [], ◌∷◌, ◌++◌, length, take, drop, set, Option, Some, None, refl, sym, ◌∙◌, ap, subst, ◌⊎◌, inl, inr, ⊎_elim, arith, Contains}
+-- How what is touched of a list grows with the list.
+use Rattle.std.proofs.Common.{◌≡◌, ◌≢◌, ℕ, zero, suc, ◌+◌, ◌<◌, ◌≤◌, Bool, true, false, List, [], ◌∷◌, ◌++◌, length, take, drop, map, get_or, Some, refl, sym, ◌∙◌, ap, ◌⊎◌, inl, inr, ⊎_elim, arith, ◌-◌, ◌==◌, set, Option, None, subst, Contains}
 use Rattle.std.specs.List.{slice_get, slice_range}
-use Rattle.std.proofs.lemmas.Bool.{cases_eq}
+use Rattle.std.proofs.lemmas.List.{map-append, take-append-drop, take_all}
 use Rattle.std.proofs.lemmas.Option.{slice_get_within, slice_get_past, slice_get-get_or}
+use Rattle.shred_run.proofs.Groups.{read_more, length-read, eqb-refl_at, eqb_other, Contains-nil, Contains-head, Contains-tail, Contains-from_same, Contains-cons_cases, Contains-flat_map_cases}
+use Rattle.shred_stage.specs.declared.dispatch.stage.Touched.{Touched}
+use Rattle.shred_stage.specs.declared.dispatch.stage.Touched.TheVariants.{Nothing, One, Several}
+use Rattle.shred_stage.specs.Search.{TouchedIs}
+use Rattle.std.proofs.lemmas.Bool.{cases_eq}
 use Rattle.shred_model.specs.Plan.{PlanEntry, Group, Stage, Plan, group_ids, stage_ids, plan_ids, entry_at}
 use Rattle.shred_model.specs.Record.{Agent}
 use Rattle.shred_model.proofs.Records.Places.{slice_get-set_same}
@@ -10,10 +15,71 @@ use Rattle.shred_stage.specs.Added.{IsNewAt}
 use Rattle.shred_stage.specs.Earlier.{IsEarlier, IsFromBarrier, HasIdAt, HasId, ComesAfter, AllBeforeBarrier}
 use Rattle.shred_stage.specs.Placement.{dependencies_left, IsPlaced, in_new_group, at_end_of_group, in_new_stage, HoldsTheOneLeft}
 use Rattle.shred_run.specs.Left.{without_one, difference}
-use Rattle.shred_run.proofs.Groups.Ids.{eqb-refl_at, eqb_other}
-use Rattle.shred_run.proofs.Groups.Membership.{Contains-nil, Contains-head, Contains-tail, Contains-from_same, Contains-cons_cases, Contains-flat_map_cases}
-use Rattle.shred_stage.proofs.Planner.Touching.{slice_get-push_end}
 
+-- an item of the longer list is one of the shorter, or the last
+pub slice_get-push_cases : {X : Type 0} (xs : List X) (y : X) (k : ℕ) (x : X) → slice_get (xs ++ y ∷ []) k ≡ Some x → (slice_get xs k ≡ Some x) ⊎ ((k ≡ length xs) × (y ≡ x))
+slice_get-push_cases [] y zero x h = inr (refl, cc)
+slice_get-push_cases [] y (suc k) x h = absurd (cc)
+slice_get-push_cases (z ∷ zs) y zero x h = inl h
+slice_get-push_cases (z ∷ zs) y (suc k) x h = ⊎_elim (λ e. inl e) (λ e. inr (ap (λ n. suc n) e.0, e.1)) (slice_get-push_cases zs y k x h)
+
+slice_get-append : {X : Type 0} (xs ys : List X) (k : ℕ) (x : X) → slice_get xs k ≡ Some x → slice_get (xs ++ ys) k ≡ Some x
+slice_get-append [] ys k x h = absurd (cc)
+slice_get-append (z ∷ zs) ys zero x h = h
+slice_get-append (z ∷ zs) ys (suc k) x h = slice_get-append zs ys k x h
+
+pub slice_get-push_end : {X : Type 0} (xs : List X) (y : X) → slice_get (xs ++ y ∷ []) (length xs) ≡ Some y
+slice_get-push_end [] y = refl
+slice_get-push_end (z ∷ zs) y = slice_get-push_end zs y
+
+pub Nothing-push : {X : Type 0} (test : X → Bool) (xs : List X) (y : X) → TouchedIs test xs Nothing → test y ≡ true → TouchedIs test (xs ++ y ∷ []) (One (length xs))
+Nothing-push test xs y none is_touched =
+    (y, slice_get-push_end xs y, is_touched, λ h x at ne. ⊎_elim (λ old. none h x old) (λ last. absurd (ne last.0)) (slice_get-push_cases xs y h x at))
+
+pub One-push : {X : Type 0} (test : X → Bool) (xs : List X) (y : X) (g : ℕ) → TouchedIs test xs (One g) → test y ≡ true → TouchedIs test (xs ++ y ∷ []) Several
+One-push test xs y g one is_touched =
+    let apart : g ≢ length xs = λ e. absurd (omega (arith, slice_get_within xs g one.0 one.1, e)) in
+    (g, length xs, one.0, y, apart, slice_get-append xs (y ∷ []) g one.0 one.1, slice_get-push_end xs y, one.2, is_touched)
+
+pub Touched-push : {X : Type 0} (test : X → Bool) (xs : List X) (y : X) (t : Touched) → TouchedIs test xs t → test y ≡ false → TouchedIs test (xs ++ y ∷ []) t
+Touched-push test xs y Nothing none not_y = λ h x at. ⊎_elim (λ old. none h x old) (λ last. rw (← last.1) not_y) (slice_get-push_cases xs y h x at)
+Touched-push test xs y (One g) one not_y =
+    (one.0, slice_get-append xs (y ∷ []) g one.0 one.1, one.2, λ h x at ne. ⊎_elim (λ old. one.3 h x old ne) (λ last. rw (← last.1) not_y) (slice_get-push_cases xs y h x at))
+Touched-push test xs y Several two not_y =
+    (two.0, two.1, two.2, two.3, two.4, slice_get-append xs (y ∷ []) two.0 two.2 two.5, slice_get-append xs (y ∷ []) two.1 two.3 two.6, two.7, two.8)
+
+-- two touched items of a front are touched in the whole
+pub Several-front : {X : Type 0} (test : X → Bool) (xs ys : List X) → TouchedIs test xs Several → TouchedIs test (xs ++ ys) Several
+Several-front test xs ys two =
+    (two.0, two.1, two.2, two.3, two.4, slice_get-append xs ys two.0 two.2 two.5, slice_get-append xs ys two.1 two.3 two.6, two.7, two.8)
+
+-- the steps of a loop over the items, of which it has read i
+pub touched_stays : {X Y : Type 0} (f : X → Y) (test : Y → Bool) (xs : List X) (i : ℕ) (x : X) (t : Touched) → i < length xs → x ≡ get_or xs i x
+    → TouchedIs test (map f (take i xs)) t → test (f x) ≡ false → TouchedIs test (map f (take (i + 1) xs)) t
+touched_stays f test xs i x t lt is before not_x = rw (read_more f xs i x lt is) (Touched-push test (map f (take i xs)) (f x) t before not_x)
+
+pub touched_first : {X Y : Type 0} (f : X → Y) (test : Y → Bool) (xs : List X) (i : ℕ) (x : X) → i < length xs → x ≡ get_or xs i x
+    → TouchedIs test (map f (take i xs)) Nothing → test (f x) ≡ true → TouchedIs test (map f (take (i + 1) xs)) (One i)
+touched_first f test xs i x lt is none is_touched =
+    rw (read_more f xs i x lt is) (rw (length-read f xs i lt) at (Nothing-push test (map f (take i xs)) (f x) none is_touched))
+
+two_of : {Y : Type 0} (test : Y → Bool) (ys : List Y) (y : Y) (t : Touched) → t ≢ Nothing → TouchedIs test ys t → test y ≡ true → TouchedIs test (ys ++ y ∷ []) Several
+two_of test ys y Nothing some before is_touched = absurd (some refl)
+two_of test ys y (One g) some before is_touched = One-push test ys y g before is_touched
+two_of test ys y Several some before is_touched = Several-front test ys (y ∷ []) before
+
+pub touched_second : {X Y : Type 0} (f : X → Y) (test : Y → Bool) (xs : List X) (i : ℕ) (x : X) (t : Touched) → i < length xs → x ≡ get_or xs i x → t ≢ Nothing
+    → TouchedIs test (map f (take i xs)) t → test (f x) ≡ true → TouchedIs test (map f xs) Several
+touched_second f test xs i x t lt is some before is_touched =
+    let front : TouchedIs test (map f (take (i + 1) xs)) Several = rw (read_more f xs i x lt is) (two_of test (map f (take i xs)) (f x) t some before is_touched) in
+    let whole : map f xs ≡ map f (take (i + 1) xs) ++ map f (drop (i + 1) xs) = ap (map f) (sym (take-append-drop (i + 1) xs)) ∙ map-append f (take (i + 1) xs) (drop (i + 1) xs) in
+    rw whole (Several-front test (map f (take (i + 1) xs)) (map f (drop (i + 1) xs)) front)
+
+-- the loop has read all items
+pub touched_all : {X Y : Type 0} (f : X → Y) (test : Y → Bool) (xs : List X) (i : ℕ) (t : Touched) → length xs ≤ i → TouchedIs test (map f (take i xs)) t → TouchedIs test (map f xs) t
+touched_all f test xs i t past h = rw take_all at h
+
+-- What is placed comes after the barrier and after its dependencies.
 -- two places are the same, or not
 pub same_place : (p q : Agent) → (p ≡ q) ⊎ (p ≢ q)
 same_place [] [] = inl refl

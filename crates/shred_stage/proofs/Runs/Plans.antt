@@ -1,12 +1,13 @@
 -- Runs of stages, one after the other, leave what a dispatch promises.
-use Rattle.std.proofs.Common.{◌≡◌, ℕ, List, [], ◌∷◌, All, Ok, Err, refl, ap, arith}
+use Rattle.std.proofs.Common.{◌≡◌, ℕ, ◌<◌, ◌≤◌, ◌+◌, List, [], ◌∷◌, All, length, get_or, set, Ok, Err, refl, ◌∙◌, arith}
+use Rattle.std.proofs.Math.Seq.{map-set_same}
 use Rattle.std.proofs.lemmas.List.Elements.{All-nil, All-cons}
 use Rattle.shred_model.specs.Beside.{AreApart}
 use Rattle.shred_model.specs.Plan as model
 use Rattle.shred_model.specs.Runs.{Answer, Ran, RunsUpToFault}
 use Rattle.shred_model.specs.States.{configuration_of}
 use Rattle.shred_model.proofs.Joined.Ran.{Ran-as}
-use Rattle.shred_model.proofs.Joined.UpToFault.{SoFar-start, SoFar-more, SoFar-fault, SoFar-end}
+use Rattle.shred_model.proofs.Joined.UpToFault.{SoFar, SoFar-start, SoFar-more, SoFar-fault, SoFar-end}
 use Rattle.shred_table.specs.declared.id.Kind.{Kind}
 use Rattle.shred_table.specs.declared.id.ResourceId.{ResourceId}
 use Rattle.shred_world.specs.Worked.{Held}
@@ -41,17 +42,45 @@ module _ {V S C N A M B E : Type 0} {vd : _} {sd : _} {ad : _} {cd : _} {bd : _}
   stages-dispatched answers old new before after answer ran same kinds =
       own-plan-dispatched kind related answers (plan_states old) (plan_states new) before after (plan_of old) (plan_of new) answer ran (own-plan-fits declared (λ stage. stage.groups.items) own old) (plan-apart old) same kinds
 
-  -- a stage alone, as the plan of that one stage
-  one-ran : (old new : Stage V S C N A M B vd sd ad cd bd) (before after : Held V) (answer : Answer (StageFault E)) → StageTook kind related old before answer new after
-      → Ran (RunsUpToFault (ToldTurn kind (OwnStep kind related) stage_answer) 0 (plan_of (old ∷ []))) (configuration_of (plan_states (old ∷ [])) before) answer (configuration_of (plan_states (new ∷ [])) after)
-  one-ran old new before after (Ok done) took =
-      SoFar-end (ToldTurn kind (OwnStep kind related) stage_answer) stage_plan stage_states (new ∷ []) after (ap (λ (stage : model.Stage ResourceId). stage ∷ []) took.plan)
-      (SoFar-more (ToldTurn kind (OwnStep kind related) stage_answer) stage_plan stage_states (old ∷ []) before refl (SoFar-start (ToldTurn kind (OwnStep kind related) stage_answer) (plan_of (old ∷ [])) _) old new after (omega arith)
-      (turn-told kind related stage_answer 0 (stage_plan old) _ _ (Ok tt) (Ok tt) refl took.ran)) (omega arith)
-  one-ran old new before after (Err fault) took =
-      SoFar-fault (ToldTurn kind (OwnStep kind related) stage_answer) stage_plan stage_states (old ∷ []) before refl (SoFar-start (ToldTurn kind (OwnStep kind related) stage_answer) (plan_of (old ∷ [])) _) old new after (omega arith) fault
-      (turn-told kind related stage_answer 0 (stage_plan old) _ _ (Err fault) (Err fault) refl took.ran)
+module _ {V S C N A M B E F : Type 0} {vd : _} {sd : _} {ad : _} {cd : _} {bd : _} (kind : V → Kind) (related : Related V S C E) (answers : ℕ → Answer (StageFault E) → Answer F) (start : List (Stage V S C N A M B vd sd ad cd bd)) (before : Held V) where
+  -- Those before place n took their turn and were Done; their plans stay, and the ids that are held with the kinds of their values.
+  pub record StagesRan (n : ℕ) (stages : List (Stage V S C N A M B vd sd ad cd bd)) (now : Held V) : Type 0 where
+    pub plan : plan_of stages ≡ plan_of start
+    pub kinds : KeepsKinds kind before now
+    pub ran : SoFar (ToldTurn kind (OwnStep kind related) answers) n (plan_of start) (configuration_of (plan_states start) before) (configuration_of (plan_states stages) now)
 
-  pub stage-dispatched : (old new : Stage V S C N A M B vd sd ad cd bd) (before after : Held V) (answer : Answer (StageFault E)) → StageTook kind related old before answer new after
-      → Dispatched kind related stage_answer (stages_with (old ∷ []) before) answer (stages_with (new ∷ []) after)
-  stage-dispatched old new before after answer took = stages-dispatched stage_answer (old ∷ []) (new ∷ []) before after answer (one-ran old new before after answer took) (ap (λ (stage : model.Stage ResourceId). stage ∷ []) took.plan) took.kinds
+  pub stages-start : StagesRan 0 start before
+  stages-start = record { plan = refl; kinds = λ id. refl; ran = SoFar-start (ToldTurn kind (OwnStep kind related) answers) _ _ }
+
+module _ {V S C N A M B E F : Type 0} {vd : _} {sd : _} {ad : _} {cd : _} {bd : _} {kind : V → Kind} {related : Related V S C E} {answers : ℕ → Answer (StageFault E) → Answer F} {start : List (Stage V S C N A M B vd sd ad cd bd)} {before : Held V}
+    {n : ℕ} {stages : List (Stage V S C N A M B vd sd ad cd bd)} {now : Held V} (so_far : StagesRan kind related answers start before n stages now) (declared : Declared S C)
+    (own : (stage : Stage V S C N A M B vd sd ad cd bd) → All (IsGroupOf (OwnsItself declared)) stage.groups.items) (apart : (stage : Stage V S C N A M B vd sd ad cd bd) → AreApart model.group_access (stage_plan stage)) where
+  -- past the last, all were Done
+  pub stages-end : length stages ≤ n → Dispatched kind related answers (stages_with start before) (Ok tt) (stages_with stages now)
+  stages-end past = stages-dispatched kind related declared own apart answers start stages before now (Ok tt) (SoFar-end (ToldTurn kind (OwnStep kind related) answers) stage_plan stage_states stages now so_far.plan so_far.ran past) so_far.plan so_far.kinds
+
+  module _ (d new : Stage V S C N A M B vd sd ad cd bd) (below : n < length stages) {answer : Answer (StageFault E)} {after : Held V} (took : StageTook kind related (get_or stages n d) now answer new after) where
+    plan-stays : plan_of (set stages n new) ≡ plan_of start
+    plan-stays = map-set_same stage_plan stages n new d took.plan ∙ so_far.plan
+
+    -- a fault ends the run of all
+    pub stages-fault : (fault : F) → Err fault ≡ answers n answer → Dispatched kind related answers (stages_with start before) (Err fault) (stages_with (set stages n new) after)
+    stages-fault fault is = stages-dispatched kind related declared own apart answers start (set stages n new) before after (Err fault)
+        (SoFar-fault (ToldTurn kind (OwnStep kind related) answers) stage_plan stage_states stages now so_far.plan so_far.ran d new after below fault (turn-told kind related answers n (stage_plan (get_or stages n d)) _ _ answer (Err fault) is took.ran))
+        plan-stays (λ id. took.kinds id ∙ so_far.kinds id)
+
+    -- one that is Done brings them a place further
+    pub stages-more : Ok tt ≡ answers n answer → StagesRan kind related answers start before (n + 1) (set stages n new) after
+    stages-more is = record {
+      plan = plan-stays;
+      kinds = λ id. took.kinds id ∙ so_far.kinds id;
+      ran = SoFar-more (ToldTurn kind (OwnStep kind related) answers) stage_plan stage_states stages now so_far.plan so_far.ran d new after below (turn-told kind related answers n (stage_plan (get_or stages n d)) _ _ answer (Ok tt) is took.ran);
+    }
+
+-- a stage alone, as the plan of that one stage
+pub stage-dispatched : {V S C N A M B E : Type 0} {vd : _} {sd : _} {ad : _} {cd : _} {bd : _} (kind : V → Kind) (related : Related V S C E) (declared : Declared S C)
+    (own : (stage : Stage V S C N A M B vd sd ad cd bd) → All (IsGroupOf (OwnsItself declared)) stage.groups.items) (apart : (stage : Stage V S C N A M B vd sd ad cd bd) → AreApart model.group_access (stage_plan stage))
+    (old new : Stage V S C N A M B vd sd ad cd bd) (before after : Held V) (answer : Answer (StageFault E)) → StageTook kind related old before answer new after → Dispatched kind related stage_answer (stages_with (old ∷ []) before) answer (stages_with (new ∷ []) after)
+stage-dispatched kind related declared own apart old new before after (Ok done) took =
+    stages-end (stages-more (stages-start kind related stage_answer (old ∷ []) before) declared own apart old new (omega arith) took refl) declared own apart (omega arith)
+stage-dispatched kind related declared own apart old new before after (Err fault) took = stages-fault (stages-start kind related stage_answer (old ∷ []) before) declared own apart old new (omega arith) took fault refl

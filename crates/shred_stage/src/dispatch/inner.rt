@@ -6,7 +6,7 @@ ghost use Rattle.shred_stage.specs.Inner.{tiers_states};
 ghost use Rattle.shred_stage.specs.Plans.{plan_states};
 ghost use Rattle.shred_stage.specs.StagePlan.{plan_of};
 ghost use Rattle.shred_run.specs.Batches.{IsTierOf};
-ghost use Rattle.shred_run.specs.Depths.{Declared, lists_of};
+ghost use Rattle.shred_run.specs.Depths.{lists_of};
 ghost use Rattle.shred_run.specs.OwnDepth.{OwnsItself};
 
 use crate::dispatch::stage::Stage;

@@ -1,6 +1,6 @@
 //! The stages of a plan, one after the other.
 ghost use Rattle.std.specs.Prelude.{◌≡◌, Err};
-ghost use Rattle.shred_run.specs.Depths.{Related, lists_of, relations_of};
+ghost use Rattle.shred_run.specs.Depths.{lists_of, relations_of};
 ghost use Rattle.shred_run.specs.Dispatched.{Dispatched};
 ghost use Rattle.shred_stage.specs.Situations.{dispatch_answer, stages_with};
 ghost use Rattle.shred_world.specs.Worlds.{local_held};

@@ -14,7 +14,7 @@ ghost use Rattle.shred_stage.specs.Search.{may_end, OthersDoNotConflict, SpotIs,
 ghost use Rattle.shred_run.specs.Touching.{is_touched};
 ghost use Rattle.shred_run.specs.Sides.{stage_side};
 ghost use Rattle.shred_stage.specs.Soundness.{IsSmallGroup};
-ghost use Rattle.shred_run.specs.Depths.{Declared, Related, lists_of, relations_of};
+ghost use Rattle.shred_run.specs.Depths.{lists_of, relations_of};
 ghost use Rattle.shred_run.specs.OwnDepth.{OwnsItself};
 ghost use Rattle.shred_run.specs.OwnFacts.{owns_itself-is_fact};
 ghost use Rattle.std.specs.Coded.{Coded-set};
@@ -63,8 +63,12 @@ pub struct Stage<
 }
 
 impl<V: ResourceValue, S: System<V>, C: BatchController<V>> Stage<V, S, C> {
+    ghost use Rattle.shred_model.specs.Record.{Agent};
+    ghost use Rattle.shred_run.specs.Batches.{IsTierOf};
+    ghost use Rattle.shred_run.specs.Works.{tier_plan, tier_states};
     ghost use Rattle.shred_stage.specs.Added.{nothing_at, AreSame, IsNew};
     ghost use Rattle.shred_stage.specs.EntriesAt.{stage_entries};
+    ghost use Rattle.shred_stage.specs.Plans.{stage_states};
     ghost use Rattle.shred_stage.specs.StagePlan.{stage_plan};
 
     /// A stage with this entry alone.
@@ -123,6 +127,7 @@ impl<V: ResourceValue, S: System<V>, C: BatchController<V>> Stage<V, S, C> {
     }
 
     /// Which groups the entry has to come after.
+    #[tactic(auto, using(crate::proofs::Planner::Earlier::touched_all))]
     fn touched(&self, left: &[SystemId], entry: &GroupEntry<V, Work<S, Nested<V, S, C>>>) -> Touched
         ensures { TouchedIs (is_touched same_id (numbers_of left.now) (access_of entry.now)) (stage_plan self.now) result }
     {
@@ -231,14 +236,6 @@ impl<V: ResourceValue, S: System<V>, C: BatchController<V>> Stage<V, S, C> {
     {
         self.groups[group].push(entry)
     }
-}
-
-impl<V: ResourceValue, S: System<V>, C: BatchController<V>> Stage<V, S, C> {
-    ghost use Rattle.shred_run.specs.Works.{tier_plan, tier_states};
-    ghost use Rattle.shred_model.specs.Record.{Agent};
-    ghost use Rattle.shred_stage.specs.Plans.{stage_states};
-    ghost use Rattle.shred_stage.specs.StagePlan.{stage_plan};
-    ghost use Rattle.shred_run.specs.Batches.{IsTierOf};
 
     /// Its groups, as a tier of the inner plan of a batch.
     pub(crate) fn into_tier(self) -> Tier<V, Work<S, Nested<V, S, C>>>

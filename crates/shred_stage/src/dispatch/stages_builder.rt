@@ -1,22 +1,21 @@
 //! The planner: it gives each new system a place in the plan.
-ghost use Rattle.std.specs.Prelude.{◌≡◌, ◌↔◌, ◌<◌, ◌≤◌, ℕ, length, [], ◌∷◌, ◌++◌, slice_index_or, slice_set, All, AllPairs, Contains, IfOk, OnOk, OnErr};
+ghost use Rattle.std.specs.Prelude.{◌≡◌, ◌↔◌, ◌<◌, ◌≤◌, length, [], ◌∷◌, ◌++◌, AllPairs, Contains, IfOk, OnOk, OnErr};
 ghost use Rattle.std.specs.List.{flat_map};
 ghost use Rattle.shred_table.specs.Id.{IsBefore};
 ghost use Rattle.shred_table.specs.declared.id.ResourceId.{ResourceId};
 ghost use Rattle.shred_model.specs.Plan as model;
-ghost use Rattle.shred_model.specs.Access.{Conflicts};
-ghost use Rattle.shred_model.specs.Plan.{group_access, plan_ids};
-ghost use Rattle.shred_stage.specs.Earlier.{IsFromBarrier, ComesAfter, AllBeforeBarrier};
+ghost use Rattle.shred_model.specs.Plan.{plan_ids};
+ghost use Rattle.shred_stage.specs.Earlier.{AllBeforeBarrier};
 ghost use Rattle.shred_run.specs.Kept.{IsKept};
 ghost use Rattle.shred_stage.specs.Names.{first_unnamed, named_ids};
 ghost use Rattle.shred_stage.specs.Placement.{IsPlaced};
 ghost use Rattle.shred_stage.specs.Printed.{plan_text};
 ghost use Rattle.shred_stage.specs.Prints.{IsPrinted};
-ghost use Rattle.shred_run.specs.Depths.{Declared, lists_of};
+ghost use Rattle.shred_run.specs.Depths.{lists_of};
 ghost use Rattle.shred_run.specs.OwnDepth.{OwnsItself};
 ghost use Rattle.shred_run.specs.OwnLists.{IsEntryOf};
-ghost use Rattle.shred_run.specs.PlanOf.{access_of, entry_plan, numbers_of};
-ghost use Rattle.shred_stage.specs.Search.{OthersDoNotConflict, PlaceIs};
+ghost use Rattle.shred_run.specs.PlanOf.{entry_plan, numbers_of};
+ghost use Rattle.shred_stage.specs.Search.{PlaceIs};
 ghost use Rattle.shred_run.specs.Sides.{stage_side, plan_reads, plan_writes};
 ghost use Rattle.shred_stage.specs.StagePlan.{plan_of};
 
@@ -173,57 +172,9 @@ impl<V: ResourceValue, S: System<V>, C: BatchController<V>> StagesBuilder<V, S, 
         let left = SmallVec::from_slice(alloc, dependencies)?;
         match self.find(start, left, &entry) {
             None => self.push_stage(entry),
-            Some((stage, Spot::NewGroup)) => self.push_group(stage, entry),
-            Some((stage, Spot::EndOf(group))) => self.push_entry(stage, group, entry),
+            Some((stage, Spot::NewGroup)) => self.stages[stage].push_group(entry),
+            Some((stage, Spot::EndOf(group))) => self.stages[stage].push_entry(group, entry),
         }
-    }
-
-    /// Gives the entry a new last group of this stage.
-    fn push_group(
-        &mut self,
-        stage: usize,
-        entry: GroupEntry<V, Work<S, Nested<V, S, C>>>,
-    ) -> Result<(), OutOfMemory>
-    where
-        V: Drop,
-        S: Drop,
-        C: Drop,
-        requires within { stage < length (planned self.old) }
-        requires free { All (λ group. Conflicts (group_access group) (access_of entry) → ⊥) (slice_index_or (planned self.old) stage []) }
-        requires own_lists { IsEntryOf (OwnsItself (lists_of S.reads S.writes C.reads C.writes)) entry }
-        ensures ok { OnOk result (planned self.new ≡ slice_set (planned self.old) stage (slice_index_or (planned self.old) stage [] ++ (entry_plan entry ∷ []) ∷ [])) }
-        ensures err { OnErr result (planned self.new ≡ planned self.old) }
-        ensures added { OnOk result (IsNew (builder_entries self.old) (builder_entries self.new) entry) }
-        ensures unchanged { OnErr result (AreSame (builder_entries self.old) (builder_entries self.new)) }
-        ensures barrier { barrier_of self.new ≡ barrier_of self.old }
-    {
-        self.stages[stage].push_group(entry)
-    }
-
-    /// Puts the entry at the end of this group.
-    fn push_entry(
-        &mut self,
-        stage: usize,
-        group: usize,
-        entry: GroupEntry<V, Work<S, Nested<V, S, C>>>,
-    ) -> Result<(), OutOfMemory>
-    where
-        V: Drop,
-        S: Drop,
-        C: Drop,
-        requires within { stage < length (planned self.old) }
-        requires within_stage { group < length (slice_index_or (planned self.old) stage []) }
-        requires room { length (slice_index_or (slice_index_or (planned self.old) stage []) group []) < 4 }
-        requires others { OthersDoNotConflict (slice_index_or (planned self.old) stage []) group (access_of entry) }
-        requires own_lists { IsEntryOf (OwnsItself (lists_of S.reads S.writes C.reads C.writes)) entry }
-        ensures ok { let here = slice_index_or (planned self.old) stage [] in
-            OnOk result (planned self.new ≡ slice_set (planned self.old) stage (slice_set here group (slice_index_or here group [] ++ entry_plan entry ∷ []))) }
-        ensures err { OnErr result (planned self.new ≡ planned self.old) }
-        ensures added { OnOk result (IsNew (builder_entries self.old) (builder_entries self.new) entry) }
-        ensures unchanged { OnErr result (AreSame (builder_entries self.old) (builder_entries self.new)) }
-        ensures barrier { barrier_of self.new ≡ barrier_of self.old }
-    {
-        self.stages[stage].push_entry(group, entry)
     }
 
     /// Gives the entry a new last stage.

@@ -4,7 +4,7 @@ use Rattle.shred_table.specs.declared.id.ResourceId.{ResourceId}
 use Rattle.shred_table.specs.Shown.{shown}
 use Rattle.shred_table.specs.Slots.{slot_at, held, among}
 use Rattle.shred_run.specs.Steps.{declared_of}
-use Rattle.shred_run.proofs.Runs.Alone.{shows-held, held-shows}
+use Rattle.shred_run.proofs.Runs.Handed.{shows-held, held-shows}
 use Rattle.shred_run.proofs.alone.step_in.Goals as goal
 
 pub returns-clause-step : goal.returns-clause-step

@@ -1,77 +1,41 @@
 use Rattle.std.proofs.Common.{◌≡◌, ℕ, ◌≤◌, ◌==◌, ◌+◌, ◌-◌, Ok, List, length, refl, sym, ◌∙◌, ap, subst, arith, rules}
-use Rattle.shred_run.proofs.Circle.Handed.{handed}
-use Rattle.shred_run.proofs.Inner.Turns.Tiers.{has-still}
+use Rattle.shred_run.proofs.Runs.Handed.{handed}
+use Rattle.shred_run.proofs.Circle.Tiers.{has-still, tiers-end, tiers-fault, tiers-next, tiers-start, tier-back, tier-out, tier-ready, tier-took}
 use Rattle.shred_run.specs.Depths.{lists_of, relations_of}
 use Rattle.shred_run.specs.declared.work.Nested.TheViews.{out-roll-Nested}
 use Rattle.shred_run.proofs.Called.{AllWent-called}
-use Rattle.shred_run.proofs.Runs.Places.{place_single}
+use Rattle.shred_run.proofs.Circle.Entries.{entries-more, entries-start, entry-slots, group-done, group-faulted}
 use Rattle.shred_run.specs.Lanes.{GroupWent, IsReady}
-use Rattle.shred_run.specs.OwnSlots.{HasOnlySlots}
 use Rattle.shred_table.specs.Slots.{among}
 use Rattle.shred_table.specs.declared.id.ResourceId.{ResourceId}
 use Rattle.shred_world.specs.Views.{lent_slot}
 use Rattle.std.proofs.Math.ListN.{length-set, set}
 use Rattle.std.proofs.lemmas.List.{with_items_is}
 use Rattle.shred_run.specs.Rules.{RuleOwns, RuleStep, bound_of, rule_depth}
-use Rattle.shred_run.proofs.Circle.Depths.{rule-below}
+use Rattle.shred_run.proofs.Circle.WorkSteps.{rule-below, batch-deep, batch-within, ran-batch, ran-system, system-lists}
 use Rattle.shred_run.proofs.Circle.Bounds.{bounded_beside}
-use Rattle.shred_run.proofs.Circle.Batches.{batch-ran, batch-refused, parts-begun}
-use Rattle.shred_run.proofs.Circle.Entries.{entries-more, entries-start, entry-slots, group-done, group-faulted}
-use Rattle.shred_run.proofs.Circle.Rounds.{rounds-asked, rounds-end, rounds-fault, rounds-inner_fault, rounds-more, rounds-next, rounds-no, rounds-start}
-use Rattle.shred_run.proofs.Circle.Tiers.{tiers-end, tiers-fault, tiers-kept, tiers-next, tiers-start}
-use Rattle.shred_run.proofs.Circle.TierTurns.{tier-apart, tier-empty, tier-fits, tier-ready, tier-took, tier-writes_apart}
-use Rattle.shred_run.proofs.Circle.WorkSteps.{batch-deep, batch-within, ran-batch, ran-system, system-lists}
+use Rattle.shred_run.proofs.Circle.Rounds.{batch-ran, parts-begun, rounds-end, rounds-fault, rounds-inner_fault, rounds-next, rounds-no}
 use Rattle.shred_run.proofs.beside.+beside.Goals as goal
-
-pub rounds-loop-round-init : goal.rounds-loop-round-init
-rounds-loop-round-init g t c = let all : c.args.most - 0 ≡ c.args.most = omega arith in rounds-start _ _ _ _ _ _ _ _ _ _ _ c.requires.parts all
 
 pub rounds-loop-round-preserved : goal.rounds-loop-round-preserved
 rounds-loop-round-preserved g t c = rounds-next c.requires.parts c.loop-round.invariant (c.args.most - (c.loop-round.round + 1)) (omega arith) c.call_kept.new.entry c.call_kept.new.own c.call_kept.ensures.ran c.call_kept.ensures.slots c.call_kept.ensures.own_lists c.call_kept.ensures.access (c.in-Ok-true.is ∙ ap Ok c.in-Ok-true.field-0-test) c.run_tiers.new.own c.run_tiers.ensures.ran c.run_tiers.ensures.kept (search rules)
 
-pub rounds-returns-clause-ran : goal.rounds-returns-clause-ran
-rounds-returns-clause-ran g t c = rounds-end c.requires.parts c.loop-round.invariant (omega arith)
+pub rounds-returns : goal.rounds-returns
+rounds-returns g t c = rounds-end c.requires.parts c.loop-round.invariant (omega arith)
 
-pub rounds-returns-clause-kept : goal.rounds-returns-clause-kept
-rounds-returns-clause-kept g t c = c.loop-round.invariant.kept
+pub rounds-returns-in-Ok-false : goal.rounds-returns-in-Ok-false
+rounds-returns-in-Ok-false g t c = rounds-no c.requires.parts c.loop-round.invariant (c.args.most - (c.loop-round.round + 1)) (omega arith) c.call_kept.new.entry c.call_kept.new.own c.call_kept.ensures.ran c.call_kept.ensures.slots c.call_kept.ensures.own_lists c.call_kept.ensures.access (c.in-Ok-false.is ∙ ap Ok c.in-Ok-false.field-0-test)
 
-pub rounds-returns-in-Ok-false-clause-ran : goal.rounds-returns-in-Ok-false-clause-ran
-rounds-returns-in-Ok-false-clause-ran g t c = rounds-no c.requires.parts c.loop-round.invariant (c.args.most - (c.loop-round.round + 1)) (omega arith) c.call_kept.new.entry c.call_kept.new.own c.call_kept.ensures.ran c.call_kept.ensures.slots c.call_kept.ensures.own_lists c.call_kept.ensures.access (c.in-Ok-false.is ∙ ap Ok c.in-Ok-false.field-0-test)
+pub rounds-returns-in-Err : goal.rounds-returns-in-Err
+rounds-returns-in-Err g t c = rounds-fault c.requires.parts c.loop-round.invariant (c.args.most - (c.loop-round.round + 1)) (omega arith) c.call_kept.new.entry c.call_kept.new.own c.call_kept.ensures.ran c.call_kept.ensures.slots c.call_kept.ensures.own_lists c.call_kept.ensures.access c.in-Err.fault c.in-Err.is
 
-pub rounds-returns-in-Ok-false-clause-kept : goal.rounds-returns-in-Ok-false-clause-kept
-rounds-returns-in-Ok-false-clause-kept g t c = rounds-asked c.requires.parts c.loop-round.invariant (c.args.most - (c.loop-round.round + 1)) (omega arith) c.call_kept.new.entry c.call_kept.new.own c.call_kept.ensures.ran c.call_kept.ensures.slots c.call_kept.ensures.own_lists c.call_kept.ensures.access
-
-pub rounds-returns-in-Err-clause-ran : goal.rounds-returns-in-Err-clause-ran
-rounds-returns-in-Err-clause-ran g t c = rounds-fault c.requires.parts c.loop-round.invariant (c.args.most - (c.loop-round.round + 1)) (omega arith) c.call_kept.new.entry c.call_kept.new.own c.call_kept.ensures.ran c.call_kept.ensures.slots c.call_kept.ensures.own_lists c.call_kept.ensures.access c.in-Err.fault c.in-Err.is
-
-pub rounds-returns-in-Err-clause-kept : goal.rounds-returns-in-Err-clause-kept
-rounds-returns-in-Err-clause-kept g t c = rounds-asked c.requires.parts c.loop-round.invariant (c.args.most - (c.loop-round.round + 1)) (omega arith) c.call_kept.new.entry c.call_kept.new.own c.call_kept.ensures.ran c.call_kept.ensures.slots c.call_kept.ensures.own_lists c.call_kept.ensures.access
-
-pub rounds-returns-in-Err-run_tiers-clause-ran : goal.rounds-returns-in-Err-run_tiers-clause-ran
-rounds-returns-in-Err-run_tiers-clause-ran g t c = rounds-inner_fault c.requires.parts c.loop-round.invariant (c.args.most - (c.loop-round.round + 1)) (omega arith) c.call_kept.new.entry c.call_kept.new.own c.call_kept.ensures.ran c.call_kept.ensures.slots c.call_kept.ensures.own_lists c.call_kept.ensures.access (c.in-Ok-true.is ∙ ap Ok c.in-Ok-true.field-0-test) c.run_tiers.new.own c.run_tiers.ensures.ran c.run_tiers.ensures.kept c.in-Err-run_tiers.fault c.in-Err-run_tiers.is c.within.ensures
-
-pub rounds-returns-in-Err-run_tiers-clause-kept : goal.rounds-returns-in-Err-run_tiers-clause-kept
-rounds-returns-in-Err-run_tiers-clause-kept g t c = rounds-more c.requires.parts c.loop-round.invariant (c.args.most - (c.loop-round.round + 1)) (omega arith) c.call_kept.new.entry c.call_kept.new.own c.call_kept.ensures.ran c.call_kept.ensures.slots c.call_kept.ensures.own_lists c.call_kept.ensures.access (c.in-Ok-true.is ∙ ap Ok c.in-Ok-true.field-0-test) c.run_tiers.new.own c.run_tiers.ensures.ran c.run_tiers.ensures.kept
-
-pub rounds-call_kept-requires-clause-own_lists : goal.rounds-call_kept-requires-clause-own_lists
-rounds-call_kept-requires-clause-own_lists g t c = c.loop-round.invariant.kept.own_lists
-
-pub rounds-call_kept-requires-clause-writes_within : goal.rounds-call_kept-requires-clause-writes_within
-rounds-call_kept-requires-clause-writes_within g t c = λ id some. c.requires.parts.writes_within id (ap (λ access. among access.writes id) (sym c.loop-round.invariant.kept.access) ∙ some)
-
-pub rounds-call_kept-requires-clause-has : goal.rounds-call_kept-requires-clause-has
-rounds-call_kept-requires-clause-has g t c = has-still c.args.loan.now c.args.own.now c.loop-round.own c.loop-round.invariant.kept.tiers.keeps.slots c.requires.has
-
-pub rounds-run_tiers-requires : goal.rounds-run_tiers-requires
-rounds-run_tiers-requires g t c κs within = ((let down = c.decreases in omega (arith, down)), bounded_beside within (search rules, (search rules, (search rules, (search rules, (search rules, (search rules, (search rules, (search rules, (has-still c.args.loan.now c.args.own.now c.call_kept.new.own (λ id. c.call_kept.ensures.slots id ∙ c.loop-round.invariant.kept.tiers.keeps.slots id) c.requires.has, c.loop-round.invariant.kept.tiers.within))))))))))
+pub rounds-returns-in-Err-run_tiers : goal.rounds-returns-in-Err-run_tiers
+rounds-returns-in-Err-run_tiers g t c = rounds-inner_fault c.requires.parts c.loop-round.invariant (c.args.most - (c.loop-round.round + 1)) (omega arith) c.call_kept.new.entry c.call_kept.new.own c.call_kept.ensures.ran c.call_kept.ensures.slots c.call_kept.ensures.own_lists c.call_kept.ensures.access (c.in-Ok-true.is ∙ ap Ok c.in-Ok-true.field-0-test) c.run_tiers.new.own c.run_tiers.ensures.ran c.run_tiers.ensures.kept c.in-Err-run_tiers.fault c.in-Err-run_tiers.is c.within.ensures
 
 pub run_batch-returns-in-Ok : goal.run_batch-returns-in-Ok
 run_batch-returns-in-Ok g t c =
     let same : length c.rounds.new.tiers ≡ c.args.batch.now.tiers.len = c.rounds.auto.tiers ∙ c.as_mut_slice.ensures.len in
     batch-ran c.args.loan.now c.requires.within c.args.own.now c.call_kept.new.entry c.call_kept.new.own c.call_kept.ensures.ran c.call_kept.ensures.slots c.call_kept.ensures.own_lists c.call_kept.ensures.access c.in-Ok.most c.in-Ok.is c.as_mut_slice.ensures.value c.rounds.ensures.ran c.rounds.ensures.kept refl (with_items_is c.args.batch.now.tiers c.rounds.new.tiers same) refl
-
-pub run_batch-returns-in-Err : goal.run_batch-returns-in-Err
-run_batch-returns-in-Err g t c = batch-refused c.args.loan.now c.requires.within c.args.own.now c.call_kept.new.entry c.call_kept.new.own c.call_kept.ensures.ran c.call_kept.ensures.slots c.call_kept.ensures.own_lists c.call_kept.ensures.access c.in-Err.fault c.in-Err.is refl refl refl
 
 pub run_batch-rounds-requires : goal.run_batch-rounds-requires
 run_batch-rounds-requires g t c κs within =
@@ -83,37 +47,25 @@ run_tiers-loop-tier-init g t c = tiers-start _ _ _ _ _ _ c.requires.within
 pub run_tiers-loop-tier-preserved : goal.run_tiers-loop-tier-preserved
 run_tiers-loop-tier-preserved g t c = tiers-next c.loop-tier.invariant c.tier-item.result (omega arith) c.turn.new.tier c.turn.ensures (search rules)
 
-pub run_tiers-returns-clause-ran : goal.run_tiers-returns-clause-ran
-run_tiers-returns-clause-ran g t c = tiers-end c.loop-tier.invariant (omega arith)
+pub run_tiers-returns : goal.run_tiers-returns
+run_tiers-returns g t c = tiers-end c.loop-tier.invariant (omega arith)
 
-pub run_tiers-returns-clause-kept : goal.run_tiers-returns-clause-kept
-run_tiers-returns-clause-kept g t c = c.loop-tier.invariant.kept
-
-pub run_tiers-returns-in-Err-clause-ran : goal.run_tiers-returns-in-Err-clause-ran
-run_tiers-returns-in-Err-clause-ran g t c = tiers-fault c.loop-tier.invariant c.tier-item.result (omega arith) c.turn.new.tier c.turn.ensures c.in-Err.fault c.in-Err.is
-
-pub run_tiers-returns-in-Err-clause-kept : goal.run_tiers-returns-in-Err-clause-kept
-run_tiers-returns-in-Err-clause-kept g t c = tiers-kept c.loop-tier.invariant c.tier-item.result (omega arith) c.turn.new.tier c.turn.ensures
+pub run_tiers-returns-in-Err : goal.run_tiers-returns-in-Err
+run_tiers-returns-in-Err g t c = tiers-fault c.loop-tier.invariant c.tier-item.result (omega arith) c.turn.new.tier c.turn.ensures c.in-Err.fault c.in-Err.is
 
 pub run_tiers-turn-requires : goal.run_tiers-turn-requires
 run_tiers-turn-requires g t c κs within =
     ((let down = c.decreases in omega (arith, down)), bounded_beside within (search rules, (search rules, (search rules, (search rules, (search rules, (search rules, (search rules, (search rules, (has-still c.args.loan.now c.args.own.now c.loop-tier.own c.loop-tier.invariant.kept.keeps.slots c.requires.has, c.loop-tier.invariant.kept.within c.loop-tier.tier-index c.tier-item.result (omega arith)))))))))))
 
-pub turn-move_groups_out-requires-clause-apart : goal.turn-move_groups_out-requires-clause-apart
-turn-move_groups_out-requires-clause-apart g t c = tier-writes_apart c.args.loan.now c.requires.within c.as_mut_slice-groups.ensures.value
-
-pub turn-move_groups_out-requires-clause-empty : goal.turn-move_groups_out-requires-clause-empty
-turn-move_groups_out-requires-clause-empty g t c = λ k d below. (tier-empty c.args.loan.now c.requires.within c.as_mut_slice-groups.ensures.value k d below).empty
+pub turn-move_groups_out-requires : goal.turn-move_groups_out-requires
+turn-move_groups_out-requires g t c = tier-out c.args.loan.now c.requires.within c.as_mut_slice-groups.ensures.value
 
 pub turn-run_groups-answer-requires : goal.turn-run_groups-answer-requires
 turn-run_groups-answer-requires g t c κs within =
     ((let down = c.decreases in omega (arith, down)), bounded_beside within (search rules, (search rules, (search rules, (search rules, (search rules, (search rules, (search rules, (search rules, (omega arith, tier-ready c.args.loan.now c.requires.within c.move_groups_out.new.table c.move_groups_out.new.groups c.requires.has c.as_mut_slice-groups.ensures.value c.move_groups_out.ensures.hands c.move_groups_out.ensures.left c.behind-nearest.ensures))))))))))
 
-pub turn-move_groups_back-requires-clause-apart : goal.turn-move_groups_back-requires-clause-apart
-turn-move_groups_back-requires-clause-apart g t c = tier-apart c.args.loan.now c.requires.within c.move_groups_out.new.table c.move_groups_out.new.groups c.requires.has c.as_mut_slice-groups.ensures.value c.move_groups_out.ensures.hands c.move_groups_out.ensures.left c.behind-nearest.ensures _ _ c.run_groups-answer.result c.run_groups-answer.new.groups c.run_groups-answer.ensures
-
-pub turn-move_groups_back-requires-clause-fit : goal.turn-move_groups_back-requires-clause-fit
-turn-move_groups_back-requires-clause-fit g t c = tier-fits c.args.loan.now c.requires.within c.move_groups_out.new.table c.move_groups_out.new.groups c.requires.has c.as_mut_slice-groups.ensures.value c.move_groups_out.ensures.hands c.move_groups_out.ensures.left c.behind-nearest.ensures _ _ c.run_groups-answer.result c.run_groups-answer.new.groups c.run_groups-answer.ensures
+pub turn-move_groups_back-requires : goal.turn-move_groups_back-requires
+turn-move_groups_back-requires g t c = tier-back c.args.loan.now c.requires.within c.move_groups_out.new.table c.move_groups_out.new.groups c.requires.has c.as_mut_slice-groups.ensures.value c.move_groups_out.ensures.hands c.move_groups_out.ensures.left c.behind-nearest.ensures _ _ c.run_groups-answer.result c.run_groups-answer.new.groups c.run_groups-answer.ensures
 
 pub turn-returns : goal.turn-returns
 turn-returns g t c =
@@ -152,12 +104,6 @@ run_group-run_entry-requires g t c κs within =
     let just_slots = λ (id : ResourceId). c.loop-entry.invariant.slots id ∙ c.requires.ready.just_slots id ∙ ap (λ (ids : List ResourceId). among ids id) (sym c.as_slice-written.ensures.value) in
     let place = c.loop-entry.invariant.places c.loop-entry.entry-index c.entry-item.result (omega arith) in
     ((let down = c.decreases in omega (arith, down)), bounded_beside within (search rules, (search rules, (search rules, (search rules, (search rules, (search rules, (search rules, (search rules, (omega arith, (own_lists, (own_slots, (just_slots, place)))))))))))))
-
-pub run_entry-run_work-requires : goal.run_entry-run_work-requires
-run_entry-run_work-requires g t c κs within = ((let down = c.decreases in omega (arith, down)), bounded_beside within (search rules, (search rules, (search rules, (search rules, (search rules, (search rules, (search rules, (search rules, (omega arith, (search rules, (search rules, subst (λ (writes : List ResourceId). HasOnlySlots writes c.args.own.now) (sym c.as_slice-then-single.ensures.value) (place_single c.args.single c.args.own.now c.args.entry.now (search rules) c.requires.place)))))))))))))
-
-pub run_entry-run_work-outcome-requires : goal.run_entry-run_work-outcome-requires
-run_entry-run_work-outcome-requires g t c κs within = ((let down = c.decreases in omega (arith, down)), bounded_beside within (search rules, (search rules, (search rules, (search rules, (search rules, (search rules, (search rules, (search rules, (omega arith, (search rules, (search rules, search rules))))))))))))
 
 pub run_entry-returns-clause-stepped : goal.run_entry-returns-clause-stepped
 run_entry-returns-clause-stepped g t c =

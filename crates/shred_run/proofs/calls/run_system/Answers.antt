@@ -2,7 +2,7 @@ use Rattle.std.proofs.Common.{◌≡◌, Bool, false, ◌||◌, length, sym, sub
 use Rattle.std.specs.Prelude.{is_some, ◌==◌}
 use Rattle.std.proofs.lemmas.Bool.Decides.{nat_tests}
 use Rattle.shred_run.specs.Steps.{declared_of}
-use Rattle.shred_run.proofs.Runs.Viewed.{declared_shown, still_has_slots, still_only_slots}
+use Rattle.shred_run.proofs.Runs.Hands.{declared_shown, still_has_slots, still_only_slots}
 use Rattle.shred_table.specs.Shown.{shown}
 use Rattle.shred_table.specs.Listed.{listed_at}
 use Rattle.shred_table.specs.Slots.{among, slot_at}

@@ -1,5 +1,4 @@
-use Rattle.std.proofs.Common.{◌≡◌, ◌+◌, ◌*◌, ◌++◌, length}
-use Rattle.std.specs.Vec.Iter.{into_iter_items, into_iter_len}
+use Rattle.std.proofs.Common.{◌+◌, ◌*◌}
 use Rattle.shred_model.specs.InTurn.{AllInTurn}
 use Rattle.shred_world.specs.Worlds.{world_held}
 use Rattle.shred_run.specs.Setups.{EntryDisposal, GroupDisposal}
@@ -26,22 +25,10 @@ abbrev pub decreases-dispose_of_entry : goal.decreases-dispose_of_entry
 decreases-dispose_of_entry g a = 8 * bound_of a.at + 1
 
 abbrev pub invariant-dispose_of_tiers-loop-tier : goal.invariant-dispose_of_tiers-loop-tier
-invariant-dispose_of_tiers-loop-tier g l = record {
-  all : l.yielded ++ into_iter_items l.tier-iterator ≡ into_iter_items l.initial.tier-iterator;
-  long : into_iter_len l.tier-iterator ≡ length (into_iter_items l.tier-iterator);
-  turns : AllInTurn (λ place. TierDisposal (WorkDisposal g.row.C.Denot g.S.System.disposes l.less)) 0 l.yielded (world_held g.V.ResourceValue.kind_of l.initial.world) l.answer (world_held g.V.ResourceValue.kind_of l.world);
-}
+invariant-dispose_of_tiers-loop-tier g l = AllInTurn (λ place. TierDisposal (WorkDisposal g.row.C.Denot g.S.System.disposes l.less)) 0 l.yielded (world_held g.V.ResourceValue.kind_of l.initial.world) l.answer (world_held g.V.ResourceValue.kind_of l.world)
 
 abbrev pub invariant-dispose_of_groups-loop-group : goal.invariant-dispose_of_groups-loop-group
-invariant-dispose_of_groups-loop-group g l = record {
-  all : l.yielded ++ into_iter_items l.group-iterator ≡ into_iter_items l.initial.group-iterator;
-  long : into_iter_len l.group-iterator ≡ length (into_iter_items l.group-iterator);
-  turns : AllInTurn (λ place. GroupDisposal (RuleDisposal g.S.System.disposes l.at)) 0 l.yielded (world_held g.V.ResourceValue.kind_of l.initial.world) l.answer (world_held g.V.ResourceValue.kind_of l.world);
-}
+invariant-dispose_of_groups-loop-group g l = AllInTurn (λ place. GroupDisposal (RuleDisposal g.S.System.disposes l.at)) 0 l.yielded (world_held g.V.ResourceValue.kind_of l.initial.world) l.answer (world_held g.V.ResourceValue.kind_of l.world)
 
 abbrev pub invariant-dispose_of_group-loop-entry : goal.invariant-dispose_of_group-loop-entry
-invariant-dispose_of_group-loop-entry g l = record {
-  all : l.yielded ++ into_iter_items l.entry-iterator ≡ into_iter_items l.initial.entry-iterator;
-  long : into_iter_len l.entry-iterator ≡ length (into_iter_items l.entry-iterator);
-  turns : AllInTurn (λ place. EntryDisposal (RuleDisposal g.S.System.disposes l.at)) 0 l.yielded (world_held g.V.ResourceValue.kind_of l.initial.world) l.answer (world_held g.V.ResourceValue.kind_of l.world);
-}
+invariant-dispose_of_group-loop-entry g l = AllInTurn (λ place. EntryDisposal (RuleDisposal g.S.System.disposes l.at)) 0 l.yielded (world_held g.V.ResourceValue.kind_of l.initial.world) l.answer (world_held g.V.ResourceValue.kind_of l.world)

@@ -2,7 +2,7 @@ use Rattle.std.proofs.Common.{◌≡◌, true, false, rules, tests}
 use Rattle.std.specs.Prelude.{nat_eq}
 use Rattle.std.proofs.lemmas.Iterator.{YieldsList-from_slice, IsFirst-from_position}
 use Rattle.shred_run.specs.declared.entry.SystemId.{SystemId}
-use Rattle.shred_run.proofs.Groups.Ids.{without-found}
+use Rattle.shred_run.proofs.Groups.{without-found}
 use Rattle.shred_run.proofs.entry.place_of.Goals as goal
 
 pub returns : goal.returns

@@ -7,7 +7,7 @@ use Rattle.shred_table.specs.Slots.{slot_at, among}
 use Rattle.shred_table.proofs.Parted.Pairs.{zip-at, zip-more, zip-end}
 use Rattle.shred_run.specs.Hands.{FitsGroup, IsLeftEmpty, some_writes}
 use Rattle.shred_run.specs.declared.entry.Group.{Group}
-use Rattle.shred_run.proofs.Runs.Sweeps.{Untouched, untouched-start, untouched-length, joined-more, joined-rest, joined-all}
+use Rattle.shred_run.proofs.Runs.Hands.{Untouched, untouched-start, untouched-length, joined-more, joined-rest, joined-all}
 use Rattle.shred_run.proofs.hands.move_groups_back.Goals as goal
 
 pub loop-group-init : goal.loop-group-init
@@ -34,18 +34,14 @@ loop-group-preserved g c =
       table = λ q. back q ∙ ap (λ (o : Option (Slot g.row.V.Denot)). cond (among here.written.items q) (given (slot_value (slot_at here.hand q)) o) o) (c.loop-group.invariant.table q) ∙ sym (joined-more i groups (slot_at table) c.group-item.result q (omega arith));
     }
 
-pub returns-clause-hands : goal.returns-clause-hands
-returns-clause-hands g c =
-    let long = untouched-length FitsGroup IsLeftEmpty c.loop-group.group-index c.args.groups.now c.loop-group.groups c.loop-group.invariant.hands in
-    zip-end IsLeftEmpty (Untouched FitsGroup) c.loop-group.group-index c.args.groups.now c.loop-group.groups (omega arith) c.loop-group.invariant.hands
-
-pub returns-clause-back : goal.returns-clause-back
-returns-clause-back g c =
-    let long = untouched-length FitsGroup IsLeftEmpty c.loop-group.group-index c.args.groups.now c.loop-group.groups c.loop-group.invariant.hands in
-    joined-all c.loop-group.group-index c.args.groups.now (slot_at c.args.table.now) (slot_at c.loop-group.table) c.requires.apart (omega arith) c.loop-group.invariant.table
-
-pub returns-clause-others : goal.returns-clause-others
-returns-clause-others g c = λ q out.
-    let long = untouched-length FitsGroup IsLeftEmpty c.loop-group.group-index c.args.groups.now c.loop-group.groups c.loop-group.invariant.hands in
-    let whole : take c.loop-group.group-index c.args.groups.now ≡ c.args.groups.now = take_all c.loop-group.group-index c.args.groups.now (omega arith) in
-    c.loop-group.invariant.table q ∙ joined-rest c.loop-group.group-index c.args.groups.now (slot_at c.args.table.now) q (ap (λ gs. some_writes gs q) whole ∙ out)
+pub returns : goal.returns
+returns g c =
+    let i = c.loop-group.group-index in
+    let groups = c.args.groups.now in
+    let long = untouched-length FitsGroup IsLeftEmpty i groups c.loop-group.groups c.loop-group.invariant.hands in
+    let whole : take i groups ≡ groups = take_all i groups (omega arith) in
+    record {
+      hands = zip-end IsLeftEmpty (Untouched FitsGroup) i groups c.loop-group.groups (omega arith) c.loop-group.invariant.hands;
+      back = joined-all i groups (slot_at c.args.table.now) (slot_at c.loop-group.table) c.requires.apart (omega arith) c.loop-group.invariant.table;
+      others = λ q out. c.loop-group.invariant.table q ∙ joined-rest i groups (slot_at c.args.table.now) q (ap (λ gs. some_writes gs q) whole ∙ out);
+    }

@@ -3,7 +3,7 @@ use Rattle.shred_table.specs.declared.id.ResourceId.{ResourceId}
 use Rattle.shred_table.specs.Slots.{slot_at}
 use Rattle.shred_table.proofs.Parted.Pairs.{ZipTo}
 use Rattle.shred_run.specs.Hands.{FitsGroup, IsLeftEmpty}
-use Rattle.shred_run.proofs.Runs.Sweeps.{Untouched, joined}
+use Rattle.shred_run.proofs.Runs.Hands.{Untouched, joined}
 use Rattle.shred_run.proofs.hands.move_groups_back.Given as goal
 
 abbrev pub invariant-loop-group : goal.invariant-loop-group

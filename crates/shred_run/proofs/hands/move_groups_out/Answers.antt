@@ -1,5 +1,4 @@
 use Rattle.std.proofs.Common.{◌≡◌, Bool, cond, get_or, take, sym, ◌∙◌, ap, subst, arith}
-use Rattle.std.proofs.lemmas.List.{take_all}
 use Rattle.std.proofs.lemmas.List.Folds.{list_any_more}
 use Rattle.shred_table.specs.declared.id.ResourceId.{ResourceId}
 use Rattle.shred_table.specs.Parting.{emptied}
@@ -8,7 +7,7 @@ use Rattle.shred_table.specs.Slots.{slot_at, among}
 use Rattle.shred_table.proofs.Parted.Pairs.{zip-at, zip-more, zip-end, left-or}
 use Rattle.shred_run.specs.Hands.{HasEmptyHand, IsMovedOut, some_writes}
 use Rattle.shred_run.specs.declared.entry.Group.{Group}
-use Rattle.shred_run.proofs.Runs.Sweeps.{carried-now, Untouched, untouched-start, untouched-length, written-before}
+use Rattle.shred_run.proofs.Runs.Hands.{carried-now, Untouched, untouched-start, untouched-length, written-before}
 use Rattle.shred_run.proofs.hands.move_groups_out.Goals as goal
 
 pub loop-group-init : goal.loop-group-init
@@ -47,9 +46,3 @@ pub returns-clause-hands : goal.returns-clause-hands
 returns-clause-hands g c =
     let long = untouched-length HasEmptyHand (IsMovedOut (slot_at c.args.table.now)) c.loop-group.group-index c.args.groups.now c.loop-group.groups c.loop-group.invariant.hands in
     zip-end (IsMovedOut (slot_at c.args.table.now)) (Untouched HasEmptyHand) c.loop-group.group-index c.args.groups.now c.loop-group.groups (omega arith) c.loop-group.invariant.hands
-
-pub returns-clause-left : goal.returns-clause-left
-returns-clause-left g c = λ q.
-    let long = untouched-length HasEmptyHand (IsMovedOut (slot_at c.args.table.now)) c.loop-group.group-index c.args.groups.now c.loop-group.groups c.loop-group.invariant.hands in
-    let whole : take c.loop-group.group-index c.args.groups.now ≡ c.args.groups.now = take_all c.loop-group.group-index c.args.groups.now (omega arith) in
-    rw (← whole) (c.loop-group.invariant.left q)

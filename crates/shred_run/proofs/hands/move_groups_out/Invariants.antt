@@ -4,7 +4,7 @@ use Rattle.shred_table.specs.Parting.{emptied}
 use Rattle.shred_table.specs.Slots.{slot_at}
 use Rattle.shred_table.proofs.Parted.Pairs.{ZipTo}
 use Rattle.shred_run.specs.Hands.{HasEmptyHand, IsMovedOut, some_writes}
-use Rattle.shred_run.proofs.Runs.Sweeps.{Untouched}
+use Rattle.shred_run.proofs.Runs.Hands.{Untouched}
 use Rattle.shred_run.proofs.hands.move_groups_out.Given as goal
 
 abbrev pub invariant-loop-group : goal.invariant-loop-group

@@ -1,8 +1,7 @@
 use Rattle.std.proofs.Common.{◌≡◌, ◌+◌, ◌∙◌, suc, ap, arith, refl, rules}
 use Rattle.shred_run.specs.Time.{time_count}
-use Rattle.shred_run.specs.KeptControllers.{control_access}
 use Rattle.shred_run.specs.declared.work.Nested.TheViews.{roll-Nested, out-roll-Nested}
-use Rattle.shred_run.proofs.Inner.Joined.{batch-owned}
+use Rattle.shred_run.proofs.Inner.{batch-owned}
 use Rattle.shred_run.proofs.kept.batch_entry.Goals as goal
 use Rattle.shred_run.specs.Depths.{lists_of}
 
@@ -18,21 +17,6 @@ returns-clause-kept g c =
       same_writes = rw writes at c.in_ok-reads.ensures.same_writes;
       same_time = ap time_count c.running_time-time.ensures;
     }
-
-pub returns-clause-batch : goal.returns-clause-batch
-returns-clause-batch g c = record {
-  nested = roll-Nested g.row.V.Denot g.row.S.Denot g.row.C.Denot (record { batch = record { control = c.in_ok-control.control; tiers = c.args.tiers; depth = c.in-Some.depth } });
-  is_batch = refl;
-  same_controller = ap (λ level. level.batch.control.controller) (out-roll-Nested _ _ _ _) ∙ c.in_ok-control.ensures.controller;
-  same_access = ap (λ level. control_access level.batch.control) (out-roll-Nested _ _ _ _) ∙ c.in_ok-control.ensures.access;
-  same_tiers = ap (λ level. level.batch.tiers.items) (out-roll-Nested _ _ _ _);
-  depth = record {
-    greatest = c.deepest.result;
-    noted = c.deepest.ensures.noted;
-    least = c.deepest.ensures.least;
-    one_more = ap (λ level. level.batch.depth) (out-roll-Nested _ _ _ _) ∙ (let next : c.in-Some.depth ≡ c.deepest.result + 1 = search rules in omega (arith, next));
-  };
-}
 
 pub returns-clause-own_lists : goal.returns-clause-own_lists
 returns-clause-own_lists g c =

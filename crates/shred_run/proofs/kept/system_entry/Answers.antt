@@ -2,8 +2,7 @@ use Rattle.std.proofs.Common.{◌≡◌, ◌∙◌, List, ap, refl, subst, rules
 use Rattle.shred_table.specs.declared.id.ResourceId.{ResourceId}
 use Rattle.shred_table.specs.Parting.{IsEmptyHand}
 use Rattle.shred_run.specs.Time.{time_count}
-use Rattle.shred_run.proofs.Inner.Occupants.{system-owns}
-use Rattle.shred_run.proofs.Inner.OwnLists.{own_lists-of_same}
+use Rattle.shred_run.proofs.Inner.{system-owns, own_lists-of_same}
 use Rattle.shred_run.proofs.kept.system_entry.Goals as goal
 use Rattle.shred_run.specs.Depths.{lists_of}
 

@@ -1,4 +1,4 @@
-use Rattle.std.proofs.Common.{◌≡◌, ◌≤◌, ◌-◌, ℕ, suc, List, get_or, map, length, refl, sym, ◌∙◌, ap, subst, arith, Ok, Err, rules}
+use Rattle.std.proofs.Common.{◌≡◌, ◌-◌, suc, List, get_or, map, length, refl, sym, ◌∙◌, ap, subst, arith, Ok, Err}
 use Rattle.std.proofs.Math.Seq.{map-set_same}
 use Rattle.std.proofs.lemmas.List.{with_items_is}
 use Rattle.std.proofs.lemmas.List.Elements.{All-set}
@@ -10,19 +10,16 @@ use Rattle.shred_run.specs.Hands.{KeepsRoom}
 use Rattle.shred_run.specs.OwnLists.{IsEntryOf, IsGroupOf}
 use Rattle.shred_run.specs.PlanOf.{entry_plan, group_numbers, group_plan, numbers_of}
 use Rattle.shred_run.specs.Setups.{EntrySetup, GroupSetup}
-use Rattle.shred_run.proofs.Groups.GrownGroups.{room-kept}
+use Rattle.shred_run.proofs.Groups.{room-kept}
 use Rattle.shred_run.specs.Depths.{Owns, lists_of}
-use Rattle.shred_run.specs.OwnDepth.{depth_of}
-use Rattle.shred_run.specs.Owned.{HasOwnGroups}
-use Rattle.shred_run.specs.Rules.{RuleOwns, RuleSetup, bound_of}
-use Rattle.shred_run.proofs.Circle.Depths.{rule-below}
+use Rattle.shred_run.specs.Rules.{RuleOwns, RuleSetup}
 use Rattle.shred_run.specs.Works.{tier_numbers, tiers_plan}
 use Rattle.shred_run.specs.declared.work.Nested.{Nested}
 use Rattle.shred_run.specs.declared.work.Nested.TheViews.{roll-Nested, out-roll-Nested}
 use Rattle.shred_run.specs.declared.work.Tier.{Tier}
 use Rattle.shred_run.specs.declared.work.Work.{Work}
 use Rattle.shred_run.specs.WorkSetups.{TiersSetup, TierSetup, WorkSetup}
-use Rattle.shred_run.proofs.Inner.Stays.{batch-setup, owned-deep, owned-parts, stays-owned, system-setup, system-stays, tier-set_up, tiers-set_up}
+use Rattle.shred_run.proofs.Inner.{batch-setup, owned-deep, owned-parts, stays-owned, system-setup, system-stays, tier-set_up, tiers-set_up}
 use Rattle.shred_run.proofs.setup.+set_up.Goals as goal
 
 pub set_up_work-overflow_sub-depth : goal.set_up_work-overflow_sub-depth
@@ -74,9 +71,6 @@ set_up_batch-returns-in-Ok-clause-set_up g c = λ x.
       same_depth = refl {a = depth};
     }
 
-pub set_up_batch-returns-in-Err-clause-set_up : goal.set_up_batch-returns-in-Err-clause-set_up
-set_up_batch-returns-in-Err-clause-set_up g c = λ x. search rules
-
 pub set_up_batch-returns-in-Err-set_up_tiers-clause-set_up : goal.set_up_batch-returns-in-Err-set_up_tiers-clause-set_up
 set_up_batch-returns-in-Err-set_up_tiers-clause-set_up g c = λ x.
     let was = x.args.batch.now.tiers in
@@ -113,21 +107,16 @@ set_up_tiers-loop-tier-preserved g c = λ x.
       turns = Turns-more (λ place. TierSetup (WorkSetup g.S.System.sets_up g.C.BatchController.sets_up x.args.less)) x.loop-tier.invariant.turns x.tier-item.result new (omega arith) (world_held g.V.ResourceValue.kind_of x.set_up_groups.new.world) went.turns;
     }
 
-pub set_up_tiers-returns-in-Err-clause-set_up : goal.set_up_tiers-returns-in-Err-clause-set_up
-set_up_tiers-returns-in-Err-clause-set_up g c = λ x.
+pub set_up_tiers-returns-in-Err : goal.set_up_tiers-returns-in-Err
+set_up_tiers-returns-in-Err g c = λ x.
     let was = get_or x.loop-tier.tiers x.loop-tier.tier-index x.tier-item.result in
     let new : Tier g.row.V.Denot (Work g.row.S.Denot (Nested g.row.V.Denot g.row.S.Denot g.row.C.Denot)) = record { groups = with_items was.groups x.set_up_groups.new.groups } in
     let same : length x.set_up_groups.new.groups ≡ was.groups.len = x.set_up_groups.auto.groups ∙ x.as_mut_slice.ensures.len in
     let went = tier-set_up (Owns (lists_of g.S.System.reads g.S.System.writes g.C.BatchController.reads g.C.BatchController.writes) x.args.less) (WorkSetup g.S.System.sets_up g.C.BatchController.sets_up x.args.less) was new x.as_mut_slice.result.now x.set_up_groups.new.groups x.as_mut_slice.ensures.value (with_items_is was.groups x.set_up_groups.new.groups same) (world_held g.V.ResourceValue.kind_of x.loop-tier.world) (Err x.in-Err.fault) (world_held g.V.ResourceValue.kind_of x.set_up_groups.new.world) x.in-Err.ensures in
-    Turns-fault (λ place. TierSetup (WorkSetup g.S.System.sets_up g.C.BatchController.sets_up x.args.less)) x.loop-tier.invariant.turns x.tier-item.result new (omega arith) x.in-Err.fault (world_held g.V.ResourceValue.kind_of x.set_up_groups.new.world) went.turns
-
-pub set_up_tiers-returns-in-Err-clause-stay : goal.set_up_tiers-returns-in-Err-clause-stay
-set_up_tiers-returns-in-Err-clause-stay g c = λ x.
-    let was = get_or x.loop-tier.tiers x.loop-tier.tier-index x.tier-item.result in
-    let new : Tier g.row.V.Denot (Work g.row.S.Denot (Nested g.row.V.Denot g.row.S.Denot g.row.C.Denot)) = record { groups = with_items was.groups x.set_up_groups.new.groups } in
-    let same : length x.set_up_groups.new.groups ≡ was.groups.len = x.set_up_groups.auto.groups ∙ x.as_mut_slice.ensures.len in
-    let went = tier-set_up (Owns (lists_of g.S.System.reads g.S.System.writes g.C.BatchController.reads g.C.BatchController.writes) x.args.less) (WorkSetup g.S.System.sets_up g.C.BatchController.sets_up x.args.less) was new x.as_mut_slice.result.now x.set_up_groups.new.groups x.as_mut_slice.ensures.value (with_items_is was.groups x.set_up_groups.new.groups same) (world_held g.V.ResourceValue.kind_of x.loop-tier.world) (Err x.in-Err.fault) (world_held g.V.ResourceValue.kind_of x.set_up_groups.new.world) x.in-Err.ensures in
-    tiers-set_up (Owns (lists_of g.S.System.reads g.S.System.writes g.C.BatchController.reads g.C.BatchController.writes) x.args.less) (WorkSetup g.S.System.sets_up g.C.BatchController.sets_up x.args.less) x.args.tiers.now x.loop-tier.tiers (record { plan = x.loop-tier.invariant.plan; ids = x.loop-tier.invariant.ids; groups = x.loop-tier.invariant.groups }) x.loop-tier.tier-index x.tier-item.result new (world_held g.V.ResourceValue.kind_of x.loop-tier.world) (Err x.in-Err.fault) (world_held g.V.ResourceValue.kind_of x.set_up_groups.new.world) went
+    record {
+      set_up = Turns-fault (λ place. TierSetup (WorkSetup g.S.System.sets_up g.C.BatchController.sets_up x.args.less)) x.loop-tier.invariant.turns x.tier-item.result new (omega arith) x.in-Err.fault (world_held g.V.ResourceValue.kind_of x.set_up_groups.new.world) went.turns;
+      stay = tiers-set_up (Owns (lists_of g.S.System.reads g.S.System.writes g.C.BatchController.reads g.C.BatchController.writes) x.args.less) (WorkSetup g.S.System.sets_up g.C.BatchController.sets_up x.args.less) x.args.tiers.now x.loop-tier.tiers (record { plan = x.loop-tier.invariant.plan; ids = x.loop-tier.invariant.ids; groups = x.loop-tier.invariant.groups }) x.loop-tier.tier-index x.tier-item.result new (world_held g.V.ResourceValue.kind_of x.loop-tier.world) (Err x.in-Err.fault) (world_held g.V.ResourceValue.kind_of x.set_up_groups.new.world) went;
+    }
 
 pub set_up_tiers-returns-clause-set_up : goal.set_up_tiers-returns-clause-set_up
 set_up_tiers-returns-clause-set_up g c = λ x. Turns-end (λ place. TierSetup (WorkSetup g.S.System.sets_up g.C.BatchController.sets_up x.args.less)) x.loop-tier.invariant.turns (omega arith)
@@ -168,42 +157,6 @@ set_up_groups-returns g c = λ x.
 pub set_up_entries-returns-clause-set_up : goal.set_up_entries-returns-clause-set_up
 set_up_entries-returns-clause-set_up g c = λ x. Turns-end (λ place. EntrySetup (RuleSetup g.S.System.sets_up g.C.BatchController.sets_up x.args.at)) x.loop-entry.invariant.turns (omega arith)
 
-pub set_up_batch-set_up_tiers-requires : goal.set_up_batch-set_up_tiers-requires
-set_up_batch-set_up_tiers-requires g c = λ x κs within.
-    (omega arith, (within.0, (within.1.0, (within.1.1.0, (within.1.1.1.0, (within.1.1.1.1.0, (within.1.1.1.1.1, subst (All (HasOwnGroups (Owns (lists_of g.S.System.reads g.S.System.writes g.C.BatchController.reads g.C.BatchController.writes) x.args.less))) (sym x.as_mut_slice.ensures.value) x.requires.tiers)))))))
-
-pub set_up_batch-returns-in-Ok-clause-tiers : goal.set_up_batch-returns-in-Ok-clause-tiers
-set_up_batch-returns-in-Ok-clause-tiers g c = λ x.
-    let was = x.args.batch.now.tiers in
-    let put = with_items_is was x.set_up_tiers.new.tiers (x.set_up_tiers.auto.tiers ∙ x.as_mut_slice.ensures.len) in
-    let stay = x.in-Ok.ensures.stay in
-    record {
-      plan = ap tiers_plan put ∙ stay.plan ∙ ap tiers_plan x.as_mut_slice.ensures.value;
-      ids = ap (map tier_numbers) put ∙ stay.ids ∙ ap (map tier_numbers) x.as_mut_slice.ensures.value;
-      groups = subst (All (HasOwnGroups (Owns (lists_of g.S.System.reads g.S.System.writes g.C.BatchController.reads g.C.BatchController.writes) x.args.less))) (sym put) stay.groups;
-    }
-
-pub set_up_batch-returns-in-Err-set_up_tiers-clause-tiers : goal.set_up_batch-returns-in-Err-set_up_tiers-clause-tiers
-set_up_batch-returns-in-Err-set_up_tiers-clause-tiers g c = λ x.
-    let was = x.args.batch.now.tiers in
-    let put = with_items_is was x.set_up_tiers.new.tiers (x.set_up_tiers.auto.tiers ∙ x.as_mut_slice.ensures.len) in
-    let stay = x.in-Err-set_up_tiers.ensures.stay in
-    record {
-      plan = ap tiers_plan put ∙ stay.plan ∙ ap tiers_plan x.as_mut_slice.ensures.value;
-      ids = ap (map tier_numbers) put ∙ stay.ids ∙ ap (map tier_numbers) x.as_mut_slice.ensures.value;
-      groups = subst (All (HasOwnGroups (Owns (lists_of g.S.System.reads g.S.System.writes g.C.BatchController.reads g.C.BatchController.writes) x.args.less))) (sym put) stay.groups;
-    }
-
-pub set_up_group-returns-clause-plan : goal.set_up_group-returns-clause-plan
-set_up_group-returns-clause-plan g c = λ x.
-    let put = with_items_is x.args.group.now.entries x.set_up_entries.new.entries (x.set_up_entries.auto.entries ∙ x.as_mut_slice.ensures.len) in
-    ap (map entry_plan) put ∙ x.set_up_entries.ensures.plan ∙ ap (map entry_plan) x.as_mut_slice.ensures.value
-
-pub set_up_group-returns-clause-owns : goal.set_up_group-returns-clause-owns
-set_up_group-returns-clause-owns g c = λ x.
-    let put = with_items_is x.args.group.now.entries x.set_up_entries.new.entries (x.set_up_entries.auto.entries ∙ x.as_mut_slice.ensures.len) in
-    subst (All (IsEntryOf (RuleOwns (lists_of g.S.System.reads g.S.System.writes g.C.BatchController.reads g.C.BatchController.writes) x.args.at))) (sym put) x.set_up_entries.ensures.owns
-
 pub set_up_entries-loop-entry-preserved : goal.set_up_entries-loop-entry-preserved
 set_up_entries-loop-entry-preserved g c = λ x.
     let is = x.in_default.ensures in
@@ -227,16 +180,3 @@ set_up_entries-returns-in-Err g c = λ x.
       plan = map-set_same entry_plan x.loop-entry.entries i new old is.plan ∙ x.loop-entry.invariant.plan;
       owns = All-set (IsEntryOf (RuleOwns (lists_of g.S.System.reads g.S.System.writes g.C.BatchController.reads g.C.BatchController.writes) x.args.at)) x.loop-entry.entries i new is.owns x.loop-entry.invariant.owns;
     }
-
-pub set_up_entry-set_up_work-requires : goal.set_up_entry-set_up_work-requires
-set_up_entry-set_up_work-requires g c = λ x κs within.
-    let depth = x.depth_by-depth in
-    let was = x.args.entry.now in
-    let below : depth.result ≤ bound_of x.args.at = rule-below x.args.at was.work depth.result depth.ensures (omega arith) in
-    (omega (arith, below), (within.0, (within.1.0, (within.1.1.0, (within.1.1.1.0, (within.1.1.1.1.0, (within.1.1.1.1.1, record { reads = was.reads.items; writes = was.writes.items; owns = subst (λ (n : ℕ). Owns (lists_of g.S.System.reads g.S.System.writes g.C.BatchController.reads g.C.BatchController.writes) n was.work was.reads.items was.writes.items) (sym depth.ensures) x.requires.lists })))))))
-
-pub set_up_work-returns-in-System-clause-noted : goal.set_up_work-returns-in-System-clause-noted
-set_up_work-returns-in-System-clause-noted g c = λ x. sym (ap depth_of x.in-System.is)
-
-pub set_up_work-returns-in-Batch-clause-noted : goal.set_up_work-returns-in-Batch-clause-noted
-set_up_work-returns-in-Batch-clause-noted g c = λ x. ap (λ level. level.batch.depth) (out-roll-Nested _ _ _ _) ∙ x.set_up_batch.ensures.set_up.same_depth ∙ sym (ap depth_of x.in-Batch.is)

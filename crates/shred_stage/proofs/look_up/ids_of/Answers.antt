@@ -1,16 +1,10 @@
-use Rattle.std.proofs.Common.{◌≡◌, ◌≤◌, ◌∙◌, ap, ℕ, List, [], take, get_or, length, arith}
+use Rattle.std.proofs.Common.{ℕ, List, [], get_or}
 use Rattle.shred_stage.specs.Known.{texts_of}
 use Rattle.shred_stage.specs.Names.{names_of}
 use Rattle.shred_stage.proofs.Names.Known.{known-number, ids-next}
-use Rattle.shred_stage.proofs.Planner.Searching.{mapped_at}
+use Rattle.shred_stage.proofs.Planner.Spots.{mapped_at}
 use Rattle.shred_stage.proofs.look_up.ids_of.Goals as goal
 use denote.Ref.{Bor}
-use Rattle.std.proofs.lemmas.List.{length-map, take_all}
-use Rattle.shred_stage.specs.Known.{known_ids}
-use Rattle.shred_run.specs.PlanOf.{numbers_of}
-
-pub loop-place-init : goal.loop-place-init
-loop-place-init c = ap numbers_of c.new-ids.ensures.items
 
 pub loop-place-preserved : goal.loop-place-preserved
 loop-place-preserved c =
@@ -21,10 +15,3 @@ loop-place-preserved c =
     let at = mapped_at (λ (t : Bor (List ℕ)). t.now) wanted place (record { ref_ptr = (0, 0); now = [] }) c.loop-place-test.true in
     ids-next known (texts_of wanted) place name c.loop-place.ids.items c.push.new.self.items c.unwrap_or-id.result at c.loop-place.invariant (known-number c.id_of.result (known name) c.unwrap_or-id.result c.unwrap_or-id.ensures c.id_of.ensures)
     c.in_ok-push.ensures.items
-
-pub returns : goal.returns
-returns c =
-    let texts = texts_of c.args.wanted.now in
-    let past : length texts ≤ c.loop-place.place = omega (arith, length-map c.args.wanted.now (λ (t : Bor (List ℕ)). t.now), c.loop-place-test.false) in
-    let whole : take c.loop-place.place texts ≡ texts = take_all c.loop-place.place texts past in
-    c.loop-place.invariant ∙ ap (known_ids (names_of c.args.names.now)) whole

@@ -1,7 +1,6 @@
-use Rattle.std.proofs.Common.{◌≡◌, ◌++◌, take}
+use Rattle.std.proofs.Common.{◌≡◌, ◌++◌, take, map}
 use Rattle.shred_run.specs.PlanOf.{entry_plan}
 use Rattle.shred_run.specs.Sides.{group_side}
-use Rattle.std.proofs.Common.{map}
 use Rattle.shred_run.proofs.entry.Group.append_to.Given as goal
 
 abbrev pub invariant-loop-entry : goal.invariant-loop-entry

@@ -4,7 +4,7 @@ use Rattle.std.proofs.lemmas.Iterator.Search.{any_from_yields_List}
 use Rattle.shred_table.specs.Id.{same_id}
 use Rattle.shred_run.specs.PlanOf.{access_of, entry_plan}
 use Rattle.shred_run.specs.Touching.{accesses_conflict}
-use Rattle.shred_run.proofs.Groups.Membership.{list_any-map}
+use Rattle.shred_run.proofs.Groups.{list_any-map}
 use Rattle.shred_run.proofs.entry.Group.conflicts.Goals as goal
 
 pub returns : goal.returns

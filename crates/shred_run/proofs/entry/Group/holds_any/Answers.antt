@@ -2,7 +2,7 @@ use Rattle.std.proofs.Common.{◌∙◌, ap}
 use Rattle.std.specs.Prelude.{not}
 use Rattle.shred_model.specs.Plan.{group_ids}
 use Rattle.shred_run.specs.PlanOf.{group_plan}
-use Rattle.shred_run.proofs.Groups.Ids.{share_item-none, share_item-numbers_of}
+use Rattle.shred_run.proofs.Groups.{share_item-none, share_item-numbers_of}
 use Rattle.shred_run.proofs.entry.Group.holds_any.Goals as goal
 
 pub returns-then-not-is_empty : goal.returns-then-not-is_empty

@@ -1,6 +1,6 @@
 use Rattle.std.proofs.Common.{◌≡◌, length, ap, arith, rules}
 use Rattle.std.proofs.lemmas.List.{length-map}
-use Rattle.shred_run.proofs.Groups.GrownGroups.{room-grown}
+use Rattle.shred_run.proofs.Groups.{room-grown}
 use Rattle.shred_run.proofs.entry.Group.push.Goals as goal
 
 pub returns-clause-room : goal.returns-clause-room

@@ -3,7 +3,7 @@ use Rattle.std.proofs.lemmas.Iterator.{YieldsList-from_slice, YieldsList-from_ma
 use Rattle.std.proofs.lemmas.Iterator.Consumers.{sum_by_from_yields_List}
 use Rattle.shred_run.specs.Time.{time_count}
 use Rattle.shred_run.specs.declared.entry.GroupEntry.{GroupEntry}
-use Rattle.shred_run.proofs.Groups.Times.{times-small}
+use Rattle.shred_run.proofs.Groups.{times-small}
 use Rattle.shred_run.proofs.entry.Group.time.Goals as goal
 
 pub returns-clause-small : goal.returns-clause-small

@@ -8,7 +8,7 @@ use Rattle.shred_stage.specs.Inner.{tiers_states}
 use Rattle.shred_stage.specs.Plans.{stage_states}
 use Rattle.shred_stage.specs.StagePlan.{plan_of, stage_plan}
 use Rattle.shred_run.specs.Batches.{IsTierOf}
-use Rattle.shred_stage.proofs.Planner.Tiers.{listed-pushed}
+use Rattle.shred_stage.proofs.Planner.EntriesAt.{listed-pushed}
 use Rattle.shred_run.specs.OwnDepth.{OwnsItself}
 use Rattle.shred_stage.proofs.dispatch.inner.tiers_of.Goals as goal
 use Rattle.shred_run.specs.Depths.{lists_of}

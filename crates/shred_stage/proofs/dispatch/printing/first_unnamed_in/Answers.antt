@@ -1,10 +1,10 @@
-use Rattle.std.proofs.Common.{◌≡◌, ◌<◌, ◌≤◌, [], false, true, length, arith, ◌∙◌, ap}
+use Rattle.std.proofs.Common.{◌≡◌, ◌<◌, [], false, true, length, arith, ◌∙◌, ap}
 use Rattle.std.specs.Prelude.{slice_index_or}
 use Rattle.std.proofs.lemmas.Option.{slice_get-get_or}
 use Rattle.shred_model.specs.Plan.{group_ids, stage_ids}
 use Rattle.shred_stage.specs.Names.{first_unnamed, named_ids}
 use Rattle.shred_stage.specs.StagePlan.{stage_plan}
-use Rattle.shred_stage.proofs.Names.Unnamed.{unnamed-next, unnamed-found, unnamed-ended}
+use Rattle.shred_stage.proofs.Names.Known.{unnamed-next, unnamed-found}
 use Rattle.shred_stage.proofs.dispatch.printing.first_unnamed_in.Goals as goal
 use Rattle.shred_stage.proofs.dispatch.printing.first_unnamed_in.Goals.{in-Some+in_default-first_unnamed_of, in_default}
 
@@ -29,10 +29,3 @@ loop-place-preserved g c =
           (w.in_default-first_unnamed_of.ensures ∙ ap (first_unnamed names) w.in-Some.ensures.ids)
       | in_default w ↦ absurd (let f : false ≡ true = w.in_default.ensures.some.1 within in cc)
     ]
-
-pub returns : goal.returns
-returns g c =
-    let stage = stage_plan c.args.stage.now in
-    let names = named_ids c.args.names.now in
-    let past : length stage ≤ c.loop-place.place = omega (arith, c.loop-place-test.false, c.max_threads-place-end.ensures) in
-    unnamed-ended names group_ids stage c.loop-place.place (first_unnamed names (stage_ids stage)) past c.loop-place.invariant

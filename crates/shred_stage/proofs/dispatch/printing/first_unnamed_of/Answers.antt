@@ -1,10 +1,9 @@
-use Rattle.std.proofs.Common.{◌≤◌, get_or, length, arith}
-use Rattle.std.proofs.lemmas.List.{length-map}
+use Rattle.std.proofs.Common.{get_or}
 use Rattle.shred_stage.specs.Names.{first_unnamed, named_ids}
 use Rattle.shred_run.specs.PlanOf.{numbers_of}
 use Rattle.shred_run.specs.declared.entry.SystemId.{SystemId}
-use Rattle.shred_stage.proofs.Planner.Searching.{mapped_at}
-use Rattle.shred_stage.proofs.Names.Unnamed.{unnamed-passed, unnamed-is, unnamed-passed-all, none-copied}
+use Rattle.shred_stage.proofs.Planner.Spots.{mapped_at}
+use Rattle.shred_stage.proofs.Names.Known.{unnamed-passed, unnamed-is, none-copied}
 use Rattle.shred_stage.proofs.dispatch.printing.first_unnamed_of.Goals as goal
 
 pub returns-then-is_none : goal.returns-then-is_none
@@ -20,9 +19,3 @@ loop-id-preserved c =
     let place = c.loop-id.id-index in
     unnamed-passed (named_ids c.args.names.now) (numbers_of ids) place (get_or ids place (record { 0 = 0 })).0 (first_unnamed (named_ids c.args.names.now) (numbers_of ids)) (mapped_at (λ (id : SystemId). id.0) ids place (record { 0 = 0 }) c.loop-id-test.true)
     c.loop-id.invariant (none-copied c.least_name.result _ _ c.if-is_none.ensures c.least_name.ensures)
-
-pub returns : goal.returns
-returns c =
-    let ids = c.args.ids.now in
-    let past : length (numbers_of ids) ≤ c.loop-id.id-index = omega (arith, length-map ids (λ (id : SystemId). id.0), c.loop-id-test.false) in
-    unnamed-passed-all (named_ids c.args.names.now) (numbers_of ids) c.loop-id.id-index (first_unnamed (named_ids c.args.names.now) (numbers_of ids)) past c.loop-id.invariant

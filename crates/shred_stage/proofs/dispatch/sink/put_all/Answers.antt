@@ -1,9 +1,6 @@
-use Rattle.std.proofs.Common.{arith, refl, ◌∙◌}
-use Rattle.shred_stage.proofs.Names.Sinks.{Appends-nothing, put-more, put-failed}
+use Rattle.std.proofs.Common.{arith, ◌∙◌}
+use Rattle.shred_stage.proofs.Names.Sinks.{put-more}
 use Rattle.shred_stage.proofs.dispatch.sink.put_all.Goals as goal
-
-pub loop-done-init : goal.loop-done-init
-loop-done-init g c = record { within = omega arith; so_far = Appends-nothing _; no_failure = refl }
 
 pub loop-done-preserved : goal.loop-done-preserved
 loop-done-preserved g c = record {
@@ -11,7 +8,3 @@ loop-done-preserved g c = record {
   so_far = put-more _ (g.W.PlanSink.told c.loop-done.sink) _ c.args.text.now c.split_at.result.1.now c.loop-done.done c.in-Ok.count c.loop-done.invariant.so_far c.split_at.ensures.back c.in-Ok.ensures.taken;
   no_failure = c.in-Ok.ensures.no_failure ∙ c.loop-done.invariant.no_failure;
 }
-
-pub returns-in-Err : goal.returns-in-Err
-returns-in-Err g c =
-    put-failed _ (g.W.PlanSink.told c.loop-done.sink) _ _ (g.W.PlanSink.failures c.loop-done.sink) _ c.args.text.now c.loop-done.done c.in-Err.e c.loop-done.invariant.so_far c.loop-done.invariant.no_failure c.in-Err.ensures.nothing c.in-Err.ensures.counted

@@ -1,4 +1,4 @@
-use Rattle.shred_run.proofs.Inner.Occupants.{groups-nest}
+use Rattle.shred_run.proofs.Inner.{groups-nest}
 use Rattle.shred_stage.proofs.dispatch.stage.Stage.dispose.Goals as goal
 use Rattle.shred_run.specs.Depths.{lists_of}
 

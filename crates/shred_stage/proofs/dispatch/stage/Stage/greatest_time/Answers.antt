@@ -1,5 +1,5 @@
 use Rattle.std.proofs.Common.{◌≡◌, ◌<◌, length, get_or, rules, arith}
-use Rattle.shred_stage.proofs.Planner.Times.{small_read, greatest_more}
+use Rattle.shred_stage.proofs.Planner.Spots.{small_read, greatest_more}
 use Rattle.shred_stage.proofs.dispatch.stage.Stage.greatest_time.Goals as goal
 
 pub time-requires : goal.time-requires

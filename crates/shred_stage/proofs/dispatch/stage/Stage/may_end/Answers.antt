@@ -1,10 +1,9 @@
 use Rattle.std.proofs.Common.{◌<◌, ◌≤◌, length, arith}
 use Rattle.std.proofs.lemmas.List.{length-map}
-use Rattle.std.proofs.lemmas.Grind.{common_steps}
 use Rattle.shred_model.specs.Plan.{group_time}
 use Rattle.shred_stage.specs.Placement.{greatest_time}
 use Rattle.shred_run.specs.PlanOf.{group_plan, groups_plan}
-use Rattle.shred_stage.proofs.Planner.Times.{group_read, group_time-le-greatest}
+use Rattle.shred_stage.proofs.Planner.Spots.{group_read, group_time-le-greatest}
 use Rattle.shred_stage.proofs.dispatch.stage.Stage.may_end.Goals as goal
 
 pub overflow_sub-result : goal.overflow_sub-result
@@ -13,6 +12,3 @@ overflow_sub-result g c =
     let here = group_read c.args.self.now.groups.items c.args.group c.index-group.result.now within c.index-group.ensures in
     let below : group_time (group_plan c.index-group.result.now) ≤ greatest_time (groups_plan c.args.self.now.groups.items) = rw here at (group_time-le-greatest (groups_plan c.args.self.now.groups.items) c.args.group c.requires) in
     omega (arith, below, c.time.ensures.value, c.greatest_time.ensures.value)
-
-pub returns-then-not-conflicts : goal.returns-then-not-conflicts
-returns-then-not-conflicts g c = grind (arith, common_steps)

@@ -1,9 +1,7 @@
 use Rattle.std.proofs.Common.{◌≡◌, [], ◌∷◌, rules}
 use Rattle.shred_stage.specs.EntriesAt.{group_entries}
-use Rattle.shred_stage.proofs.Planner.Added.{new_alone_in}
-use Rattle.shred_stage.proofs.Planner.EntriesAt.{new_in_group}
-use Rattle.shred_stage.proofs.Planner.KeptLists.{own_alone}
-use Rattle.shred_stage.proofs.Planner.StageKeeps.{kept_alone}
+use Rattle.shred_stage.proofs.Planner.EntriesAt.{new_alone_in, new_in_group}
+use Rattle.shred_stage.proofs.Planner.StageKeeps.{own_alone, kept_alone}
 use Rattle.shred_run.specs.OwnDepth.{OwnsItself}
 use Rattle.shred_stage.proofs.dispatch.stage.Stage.new.Goals as goal
 use Rattle.shred_run.specs.Depths.{lists_of}

@@ -1,21 +1,14 @@
-use Rattle.std.proofs.Common.{◌<◌, ◌≡◌, length, arith, rules}
+use Rattle.std.proofs.Common.{◌<◌, length}
 use Rattle.std.proofs.lemmas.List.{length-map}
 use Rattle.std.proofs.lemmas.Result.{on_ok_weaker, on_err_weaker}
 use Rattle.shred_stage.specs.EntriesAt.{group_entries}
 use Rattle.shred_run.specs.PlanOf.{entry_plan, group_plan}
-use Rattle.shred_stage.proofs.Planner.Added.{new_when_done, same_when_refused}
-use Rattle.shred_stage.proofs.Planner.EntriesAt.{new_at_end_of_group, same_in_group}
-use Rattle.shred_stage.proofs.Planner.Times.{group_read}
-use Rattle.shred_stage.proofs.Planner.KeptLists.{own_after_push}
-use Rattle.shred_stage.proofs.Planner.StageKeeps.{IsKeptBy, kept_after_entry, plan_when_pushed, plan_when_refused}
+use Rattle.shred_stage.proofs.Planner.EntriesAt.{new_when_done, same_when_refused, new_at_end_of_group, same_in_group}
+use Rattle.shred_stage.proofs.Planner.Spots.{group_read}
+use Rattle.shred_stage.proofs.Planner.StageKeeps.{own_after_push, IsKeptBy, kept_after_entry, plan_when_pushed, plan_when_not_pushed}
 use Rattle.shred_run.specs.OwnDepth.{OwnsItself}
 use Rattle.shred_stage.proofs.dispatch.stage.Stage.push_entry.Goals as goal
 use Rattle.shred_run.specs.Depths.{lists_of}
-
-pub push-requires-clause-room : goal.push-requires-clause-room
-push-requires-clause-room g c =
-    let within : c.args.group < length c.args.self.now.groups.items = rw (length-map c.args.self.now.groups.items group_plan) at c.requires.within in
-    rw c.index_mut.ensures.value (c.args.self.now.keep_room c.args.group c.index_mut.result.now within)
 
 pub invariant_of-self : goal.invariant_of-self
 invariant_of-self g c =
@@ -26,35 +19,16 @@ invariant_of-self g c =
     kept_after_entry (OwnsItself (lists_of g.S.System.reads g.S.System.writes g.C.BatchController.reads g.C.BatchController.writes)) c.push.result old.groups.items c.args.group c.push.new.self c.args.entry before c.requires.within c.requires.room c.requires.others (rw here (c.push.ensures.ok, c.push.ensures.err)) c.push.ensures.ids c.push.ensures.room
     (own_after_push (OwnsItself (lists_of g.S.System.reads g.S.System.writes g.C.BatchController.reads g.C.BatchController.writes)) c.push.result c.index_mut.result.now c.push.new.self c.args.entry c.push.ensures.added c.push.ensures.unchanged (rw c.index_mut.ensures.value (old.own_lists c.args.group c.index_mut.result.now within)) c.requires.own_lists)
 
-pub returns-clause-ok : goal.returns-clause-ok
-returns-clause-ok g c =
-    let old = c.args.self.now in
-    let within : c.args.group < length old.groups.items = rw (length-map old.groups.items group_plan) at c.requires.within in
-    let here = group_read old.groups.items c.args.group c.index_mut.result.now within c.index_mut.ensures.value in
-    plan_when_pushed c.push.result old.groups.items c.args.group c.push.new.self (entry_plan c.args.entry) (rw here (c.push.ensures.ok, c.push.ensures.err))
-
-pub returns-clause-err : goal.returns-clause-err
-returns-clause-err g c =
-    let old = c.args.self.now in
-    let within : c.args.group < length old.groups.items = rw (length-map old.groups.items group_plan) at c.requires.within in
-    let here = group_read old.groups.items c.args.group c.index_mut.result.now within c.index_mut.ensures.value in
-    plan_when_refused c.push.result old.groups.items c.args.group c.push.new.self (entry_plan c.args.entry) (rw here (c.push.ensures.ok, c.push.ensures.err))
-
-pub returns-clause-added : goal.returns-clause-added
-returns-clause-added g c =
+pub returns : goal.returns
+returns g c =
     let groups = c.args.self.now.groups.items in
     let within : c.args.group < length groups = rw (length-map groups group_plan) at c.requires.within in
-    new_when_done group_entries c.push.result groups c.args.group c.index_mut.result.now c.push.new.self c.args.entry within c.index_mut.ensures.value
-    (on_ok_weaker c.push.result (new_at_end_of_group c.index_mut.result.now c.push.new.self c.args.entry) c.push.ensures.added)
-
-pub returns-clause-unchanged : goal.returns-clause-unchanged
-returns-clause-unchanged g c =
-    same_when_refused group_entries c.push.result c.args.self.now.groups.items c.args.group c.index_mut.result.now c.push.new.self c.index_mut.ensures.value
-    (on_err_weaker c.push.result (same_in_group c.index_mut.result.now c.push.new.self) c.push.ensures.unchanged)
-
-pub index_mut-requires : goal.index_mut-requires
-index_mut-requires g c =
-    let groups = c.args.self.now.groups in
-    let within : c.args.group < length groups.items = rw (length-map groups.items group_plan) at c.requires.within in
-    let same : length groups.items ≡ groups.len = search rules in
-    omega (arith, same, within)
+    let here = group_read groups c.args.group c.index_mut.result.now within c.index_mut.ensures.value in
+    record {
+      ok = plan_when_pushed c.push.result groups c.args.group c.push.new.self (entry_plan c.args.entry) (rw here (c.push.ensures.ok, c.push.ensures.err));
+      err = plan_when_not_pushed c.push.result groups c.args.group c.push.new.self (entry_plan c.args.entry) (rw here (c.push.ensures.ok, c.push.ensures.err));
+      added = new_when_done group_entries c.push.result groups c.args.group c.index_mut.result.now c.push.new.self c.args.entry within c.index_mut.ensures.value
+          (on_ok_weaker c.push.result (new_at_end_of_group c.index_mut.result.now c.push.new.self c.args.entry) c.push.ensures.added);
+      unchanged = same_when_refused group_entries c.push.result groups c.args.group c.index_mut.result.now c.push.new.self c.index_mut.ensures.value
+          (on_err_weaker c.push.result (same_in_group c.index_mut.result.now c.push.new.self) c.push.ensures.unchanged);
+    }

@@ -2,12 +2,8 @@ use Rattle.std.proofs.Common.{ap, is_ok}
 use Rattle.std.proofs.lemmas.Result.{err_from_is_err_and}
 use Rattle.shred_model.specs.States.{listed_states}
 use Rattle.shred_stage.specs.EntriesAt.{group_entries}
-use Rattle.shred_run.specs.PlanOf.{entry_plan}
-use Rattle.shred_stage.proofs.Planner.Added.{new_after_push}
-use Rattle.shred_stage.proofs.Planner.EntriesAt.{new_in_group}
-use Rattle.shred_stage.proofs.Planner.KeptLists.{own_alone}
-use Rattle.shred_stage.proofs.Planner.Pushed.{holds_after_push}
-use Rattle.shred_stage.proofs.Planner.StageKeeps.{IsKeptBy, kept_after_group, plan_after_group}
+use Rattle.shred_stage.proofs.Planner.EntriesAt.{new_after_push, new_in_group}
+use Rattle.shred_stage.proofs.Planner.StageKeeps.{own_alone, holds_after_push, IsKeptBy, kept_after_group}
 use Rattle.shred_run.specs.OwnDepth.{OwnsItself}
 use Rattle.shred_stage.proofs.dispatch.stage.Stage.push_group.Goals as goal
 use Rattle.shred_run.specs.Depths.{lists_of}
@@ -21,9 +17,6 @@ invariant_of-self g c =
 
 pub returns-clause-added : goal.returns-clause-added
 returns-clause-added g c = new_after_push group_entries c.args.self.now.groups.items c.in_ok-group.group c.push.new.self.items c.args.entry c.in_ok-push.ensures.items (new_in_group c.in_ok-group.group c.args.entry c.in_ok-group.ensures.entries)
-
-pub returns-clause-ok : goal.returns-clause-ok
-returns-clause-ok g c = plan_after_group c.args.self.now.groups.items c.push.new.self.items c.in_ok-group.group (entry_plan c.args.entry) c.in_ok-push.ensures.items c.in_ok-group.ensures.plan
 
 pub returns-in_err-push-clause-unchanged : goal.returns-in_err-push-clause-unchanged
 returns-in_err-push-clause-unchanged g c = let p = err_from_is_err_and c.from_residual-in_err-push.result c.from_residual-in_err-push.ensures.1 in rw p.1 (λ path. ap (λ items. listed_states group_entries items path) c.in_err-push.ensures.items)

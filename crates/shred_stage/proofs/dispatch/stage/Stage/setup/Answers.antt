@@ -1,6 +1,6 @@
 use Rattle.std.proofs.Common.{◌≡◌, length, rules}
 use Rattle.std.proofs.lemmas.List.{with_items_is}
-use Rattle.shred_stage.proofs.Planner.StageStays.{stays}
+use Rattle.shred_stage.proofs.Planner.StageKeeps.{stays}
 use Rattle.shred_run.specs.OwnDepth.{OwnsItself}
 use Rattle.shred_stage.proofs.dispatch.stage.Stage.setup.Goals as goal
 use Rattle.shred_run.specs.Depths.{lists_of}

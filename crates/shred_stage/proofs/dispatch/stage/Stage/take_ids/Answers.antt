@@ -1,8 +1,8 @@
 use Rattle.std.proofs.Common.{◌≡◌, ◌<◌, [], length, rules}
 use Rattle.shred_model.specs.Plan.{group_ids}
 use Rattle.shred_run.specs.PlanOf.{group_plan, numbers_of}
-use Rattle.shred_run.proofs.Groups.Ids.{numbers_of-none}
-use Rattle.shred_stage.proofs.Planner.Left.{left_more, left_none}
+use Rattle.shred_run.proofs.Groups.{numbers_of-none}
+use Rattle.shred_stage.proofs.Planner.Spots.{left_more, left_none}
 use Rattle.shred_stage.proofs.dispatch.stage.Stage.take_ids.Goals as goal
 
 pub returns-then-is_empty : goal.returns-then-is_empty

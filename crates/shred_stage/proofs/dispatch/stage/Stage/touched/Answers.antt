@@ -1,8 +1,8 @@
-use Rattle.std.proofs.Common.{◌≡◌, ◌<◌, ◌≤◌, length, get_or, rules, sym, ◌∙◌}
+use Rattle.std.proofs.Common.{◌≡◌, ◌<◌, length, get_or, rules, sym, ◌∙◌}
 use Rattle.shred_table.specs.Id.{same_id}
 use Rattle.shred_run.specs.PlanOf.{access_of, group_plan, numbers_of}
 use Rattle.shred_run.specs.Touching.{is_touched}
-use Rattle.shred_stage.proofs.Planner.Touching.{touched_stays, touched_first, touched_second, touched_all}
+use Rattle.shred_stage.proofs.Planner.Earlier.{touched_stays, touched_first, touched_second}
 use Rattle.shred_stage.proofs.dispatch.stage.Stage.touched.Goals as goal
 use Rattle.shred_stage.proofs.dispatch.stage.Stage.touched.Goals.{then-is_touched+in-Nothing, else-is_touched}
 
@@ -22,11 +22,3 @@ loop-place-preserved g c =
       | then-is_touched+in-Nothing w ↦ rw w.touched-is (touched_first group_plan test c.args.self.now.groups.items c.loop-place.place c.group-item.result within is (rw w.in-Nothing.is at c.loop-place.invariant) (sym c.is_touched.ensures ∙ w.if-is_touched.true))
       | else-is_touched w ↦ rw w.touched-is (touched_stays group_plan test c.args.self.now.groups.items c.loop-place.place c.group-item.result c.loop-place.touched within is c.loop-place.invariant (sym c.is_touched.ensures ∙ w.if-is_touched.false))
     ]
-
-pub returns : goal.returns
-returns g c =
-    let past : length c.args.self.now.groups.items ≤ c.loop-place.place = search rules in
-    touched_all group_plan (is_touched same_id (numbers_of c.args.left.now) (access_of c.args.entry.now)) c.args.self.now.groups.items c.loop-place.place c.loop-place.touched past c.loop-place.invariant
-
-pub loop-place-init : goal.loop-place-init
-loop-place-init g c = search rules

@@ -1,21 +1,14 @@
-use Rattle.std.proofs.Common.{◌≡◌, List, length, sym, subst, rules}
+use Rattle.std.proofs.Common.{◌≡◌, length, sym, subst, rules}
 use Rattle.std.proofs.lemmas.List.{with_items_is}
-use Rattle.shred_model.specs.Beside.{AreApart}
-use Rattle.shred_model.specs.Plan.{group_access}
 use Rattle.shred_table.specs.Slots.{held}
-use Rattle.shred_run.specs.declared.work.Nested.{Nested}
-use Rattle.shred_run.specs.declared.work.Work.{Work}
 use Rattle.shred_run.specs.OwnDepth.{OwnStep, OwnsItself}
-use Rattle.shred_run.specs.PlanOf.{groups_plan}
-use Rattle.shred_run.specs.declared.entry.Group.{Group}
 use Rattle.shred_run.specs.Turns.{TookTurn}
-use Rattle.shred_stage.proofs.Planner.StageStays.{stays}
+use Rattle.shred_stage.proofs.Planner.StageKeeps.{stays}
 use Rattle.shred_stage.proofs.dispatch.stage.Stage.turn_in_order.Goals as goal
 use Rattle.shred_run.specs.Depths.{relations_of, lists_of}
 
 pub turn_in_order-requires-clause-apart : goal.turn_in_order-requires-clause-apart
-turn_in_order-requires-clause-apart g c =
-    subst (λ (groups : List (Group g.row.V.Denot (Work g.row.S.Denot (Nested g.row.V.Denot g.row.S.Denot g.row.C.Denot)))). AreApart group_access (groups_plan groups)) (sym c.as_mut_slice.ensures.value) c.args.self.now.apart
+turn_in_order-requires-clause-apart g c = rw c.as_mut_slice.ensures.value c.args.self.now.apart
 
 pub invariant_of-self : goal.invariant_of-self
 invariant_of-self g c =

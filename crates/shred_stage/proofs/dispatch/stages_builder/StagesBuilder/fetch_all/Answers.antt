@@ -4,9 +4,6 @@ use Rattle.shred_stage.specs.BuilderPlan.{planned}
 use Rattle.shred_run.specs.Sides.{stage_side}
 use Rattle.shred_stage.proofs.dispatch.stages_builder.StagesBuilder.fetch_all.Goals as goal
 
-pub returns-in-Ok-clause-in_order : goal.returns-in-Ok-clause-in_order
-returns-in-Ok-clause-in_order g c = c.sort_without_doubles.ensures.in_order
-
 pub returns-in-Ok-clause-same : goal.returns-in-Ok-clause-same
 returns-in-Ok-clause-same g c =
     let all = c.in-Ok.ensures ∙ ap (λ ids. ids ++ flat_map (stage_side c.args.side) (planned c.args.self.now)) c.new-ids.ensures.items in

@@ -2,7 +2,7 @@ use Rattle.std.proofs.Common.{◌<◌, ◌∙◌, ap, length, rules, arith}
 use Rattle.shred_stage.specs.BuilderPlan.{planned}
 use Rattle.shred_run.specs.PlanOf.{entry_plan, numbers_of}
 use Rattle.shred_stage.specs.StagePlan.{stage_plan}
-use Rattle.shred_stage.proofs.Planner.Searching.{found_place, none_yet, left_then, mapped_read}
+use Rattle.shred_stage.proofs.Planner.Spots.{found_place, none_yet, left_then, mapped_read}
 use Rattle.shred_stage.proofs.dispatch.stages_builder.StagesBuilder.find.Goals as goal
 use Rattle.shred_stage.proofs.dispatch.stages_builder.StagesBuilder.find.Goals.{then-start-place+in_default, else-start-place}
 

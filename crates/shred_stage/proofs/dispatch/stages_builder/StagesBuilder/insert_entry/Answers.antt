@@ -5,7 +5,7 @@ use Rattle.shred_run.specs.PlanOf.{entry_plan, numbers_of}
 use Rattle.shred_stage.specs.StagePlan.{stage_plan, plan_of}
 use Rattle.shred_stage.proofs.Planner.Earlier.{stands-after}
 use Rattle.shred_stage.proofs.Planner.EntriesAt.{added_with, states_stay}
-use Rattle.shred_stage.proofs.Planner.PlanKeeps.{OnOk-both}
+use Rattle.shred_stage.proofs.Planner.StageKeeps.{OnOk-both}
 use Rattle.shred_stage.proofs.dispatch.stages_builder.StagesBuilder.insert_entry.Goals as goal
 
 pub returns-clause-inserted : goal.returns-clause-inserted

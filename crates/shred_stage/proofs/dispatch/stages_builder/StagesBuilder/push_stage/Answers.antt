@@ -1,11 +1,10 @@
-use Rattle.std.proofs.Common.{◌∷◌, ◌++◌, [], ◌∙◌, ap, arith, refl}
+use Rattle.std.proofs.Common.{◌∷◌, ◌++◌, [], ◌∙◌, ap, arith}
 use Rattle.std.proofs.lemmas.List.{map_push}
-use Rattle.std.proofs.lemmas.Result.{on_ok_weaker, on_err_weaker}
+use Rattle.std.proofs.lemmas.Result.{on_ok_weaker}
 use Rattle.shred_stage.specs.EntriesAt.{stage_entries}
 use Rattle.shred_stage.specs.StagePlan.{stage_plan, plan_of}
-use Rattle.shred_stage.proofs.Planner.Added.{new_after_push}
-use Rattle.shred_stage.proofs.Planner.PlanKeeps.{few_stages}
-use Rattle.shred_stage.proofs.Planner.Pushed.{longer_after_push}
+use Rattle.shred_stage.proofs.Planner.EntriesAt.{new_after_push}
+use Rattle.shred_stage.proofs.Planner.StageKeeps.{few_stages, longer_after_push}
 use Rattle.shred_stage.proofs.dispatch.stages_builder.StagesBuilder.push_stage.Goals as goal
 
 pub invariant_of-self : goal.invariant_of-self
@@ -22,15 +21,3 @@ returns-in-Ok-clause-ok g c =
 pub returns-in-Ok-clause-added : goal.returns-in-Ok-clause-added
 returns-in-Ok-clause-added g c =
     on_ok_weaker c.push_or_drop.result (λ is. new_after_push stage_entries c.args.self.now.stages.items c.in-Ok.stage c.push_or_drop.new.items.items c.args.entry is c.in-Ok.ensures.added) c.push_or_drop.ensures.ok
-
-pub returns-in-Ok-clause-err : goal.returns-in-Ok-clause-err
-returns-in-Ok-clause-err g c = on_err_weaker c.push_or_drop.result (λ is. ap plan_of is) c.push_or_drop.ensures.err
-
-pub returns-in-Ok-clause-barrier : goal.returns-in-Ok-clause-barrier
-returns-in-Ok-clause-barrier g c = refl
-
-pub returns-in-Err-clause-err : goal.returns-in-Err-clause-err
-returns-in-Err-clause-err g c = refl
-
-pub returns-in-Err-clause-barrier : goal.returns-in-Err-clause-barrier
-returns-in-Err-clause-barrier g c = refl

@@ -1,4 +1,0 @@
-pub mod Before
-pub mod Handed
-pub mod Rounds
-pub mod Tiers

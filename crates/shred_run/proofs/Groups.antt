@@ -1,4 +1,4 @@
--- A list of which a loop has read i items.
+-- Groups: what loops read of them, their room, times and ids.
 use Rattle.std.proofs.Common.{◌≡◌, ℕ, ◌+◌, ◌<◌, List, [], ◌∷◌, ◌++◌, length, take, map, get_or, refl, ◌∙◌, arith, sym, ap, subst, ◌*◌, ◌≤◌, zero, suc, Bool, ◌||◌, ◌⊎◌, inl, inr, ⊎_elim, ◌≢◌, Option, Some, None, true, false, drop, Ordering}
 use Rattle.std.proofs.lemmas.List.{map_more, length-map, length-take-le, flat_map_more, map_push, nil_from_length, get_or-map, map-append, take-map, drop-map, map-id}
 use Rattle.std.specs.List.{flat_map, All, sum_by, Contains, list_any, AllWithin, HoldsAt, remove, AllPairs, Any}
@@ -28,6 +28,8 @@ use Rattle.std.proofs.lemmas.List.Kept.{AllPairs-cons}
 use Rattle.std.proofs.lemmas.Iterator.Consumers.{YieldsList-turn, YieldsList-end}
 use Rattle.std.specs.Iterator.{Yields}
 use Rattle.std.proofs.lemmas.Iterator.{YieldsList}
+
+-- A list of which a loop has read i items.
 
 pub read_more : {X Y : Type 0} (f : X → Y) (xs : List X) (i : ℕ) (x : X) → i < length xs → x ≡ get_or xs i x → map f (take (i + 1) xs) ≡ map f (take i xs) ++ f x ∷ []
 read_more f xs i x lt is = map_more f xs i x lt ∙ rw (← is) refl

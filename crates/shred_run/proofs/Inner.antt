@@ -1,4 +1,4 @@
--- Kept lists have the ids that were declared.
+-- Inner plans: the lists that they are kept with, their setup, depth and disposal.
 use Rattle.std.proofs.Common.{◌≡◌, ◌↔◌, ◌∙◌, Bool, true, false, List, Contains, sym, refl, ap, ℕ, zero, suc, None, ◌≤◌, subst, arith, ◌<◌, ◌||◌, length, get_or, ◌++◌, ◌+◌, [], ◌∷◌, take, Some, max, take_all}
 use Rattle.shred_table.specs.declared.id.ResourceId.{ResourceId}
 use Rattle.shred_table.specs.Slots.{among}
@@ -43,6 +43,8 @@ use Rattle.shred_run.specs.Steps.{Outcome, Step}
 use Rattle.shred_run.specs.Setups.{AreSetUp}
 use Rattle.shred_run.specs.Owned.{HasOwnGroups, IsOwned, StaysOwned, StayTiers}
 use Rattle.shred_run.specs.WorkSetups.{BatchSetup, WorkSetup, BatchDisposal, WorkDisposal}
+
+-- Kept lists have the ids that were declared.
 
 -- two lists of the same ids find the same ids
 among-same : (xs ys : List ResourceId) → ((id : ResourceId) → Contains xs id ↔ Contains ys id) → (id : ResourceId) → among xs id ≡ among ys id

@@ -1,4 +1,4 @@
--- The step of an entry's work, as a record.
+-- Entries in the circle: one by one, and as a group runs them.
 use Rattle.std.proofs.Common.{◌≡◌, Bool, true, false, cond, ◌||◌, [], Option, None, inl, inr, refl, ap, ℕ, Some, List, set, sym, subst, ◌<◌, length, map, get_or, arith, ◌≤◌, ◌+◌, Ok, Err, ◌∙◌, subst₂}
 use Rattle.std.specs.Option.{option_map}
 use Rattle.shred_model.specs.Access.{Access, Declares}
@@ -34,6 +34,8 @@ use Rattle.shred_run.specs.Lanes.{GroupWent, IsReady}
 use Rattle.shred_run.specs.OwnLists.{IsEntryOf}
 use Rattle.shred_run.specs.PlanOf.{entry_plan}
 use Rattle.shred_run.specs.Steppers.{IsStepBy}
+
+-- The step of an entry's work, as a record.
 
 -- under a declared id, the declared values are those that are held
 pub declared_of-declared : {V : Type 0} (a : Access ResourceId) (held : Held V) (id : ResourceId) → Declares a id → held id ≡ declared_of a held id

@@ -1,4 +1,4 @@
--- What a batch's rounds keep, and what a call of its controller and a run of its inner plan do.
+-- The rounds of a batch.
 use Rattle.std.specs.Prelude.{List, Result}
 use Rattle.std.proofs.Common.{◌≡◌, ℕ, zero, suc, Bool, true, false, Ok, Err, refl, sym, ◌∙◌, ap, subst, subst₂}
 use Rattle.std.proofs.lemmas.Bool.{false_from_ne_true, false≢true}
@@ -25,6 +25,8 @@ use Rattle.shred_run.specs.Rounds.{IsControlOver, Rounds, BatchRun, fault_within
 use Rattle.shred_run.specs.Works.{InnerRun, IsBatchWithin}
 use Rattle.shred_run.specs.declared.work.Batch.{Batch}
 use Rattle.shred_run.specs.BatchRuns.{RanAsBatch}
+
+-- What a batch's rounds keep, and what a call of its controller and a run of its inner plan do.
 
 module _ {V C P E : Type 0} (kind : V → Kind) (asks : Control V C Bool E) (access : Access ResourceId) (Inner : P → Held V → Answer (StageFault E) → P → Held V → Type 0)
     {K : Type 0} (view : P → K) (kept : (p : P) (m : Held V) (a : Answer (StageFault E)) (r : P) (l : Held V) → Inner p m a r l → view r ≡ view p) where

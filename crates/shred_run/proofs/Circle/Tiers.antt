@@ -1,4 +1,4 @@
--- Tiers that took their turn are within the lists still, and leave what is not written.
+-- The tiers of an inner plan, and the turn of each.
 use Rattle.std.proofs.Common.{◌≡◌, ℕ, ◌<◌, Bool, true, false, ◌||◌, List, [], ◌∷◌, length, get_or, refl, sym, ◌∙◌, ap, subst, ◌≤◌, ◌+◌, map, Ok, Err, Option, Some, None, cond}
 use Rattle.std.specs.List.{All, AllByRecursion, list_any, AllZip}
 use Rattle.std.proofs.Math.ListN.{set}
@@ -40,6 +40,8 @@ use Rattle.std.proofs.lemmas.Bool.{false_from_ne_true, false≢true}
 use Rattle.shred_run.proofs.Runs.Forked.{same-written, out-fits, zip-both, forked-back, ready-all, wrote, turn-taken}
 use Rattle.shred_run.proofs.Groups.{list_any_decides}
 use Rattle.shred_run.specs.Lanes.{GroupWent, IsReady}
+
+-- Tiers that took their turn are within the lists still, and leave what is not written.
 
 -- what groups with their hands write is what their plan writes
 pub written-by_plan : {V X : Type 0} (groups : List (Group V X)) → AllByRecursion KeepsRoom groups → (q : ResourceId) → some_writes groups q ≡ list_any (λ (p : model.Group ResourceId). among (group_access p).writes q) (groups_plan groups)

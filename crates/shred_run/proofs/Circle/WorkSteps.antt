@@ -1,4 +1,4 @@
--- Steps to the depth to which what makes them is followed.
+-- Steps of what stands in entries, to a depth.
 use Rattle.std.proofs.Common.{◌≡◌, ◌≤◌, ◌<◌, ℕ, List, Option, Some, None, refl, sym, subst, arith, zero, suc, Bool, true, false, cond, ◌||◌, [], ◌∷◌, Ok, Err, Contains, inl, inr, ap, subst₂, ◌-◌, ◌∙◌, map, ⊎_elim}
 use Rattle.shred_table.specs.declared.id.Kind.{Kind}
 use Rattle.shred_table.specs.declared.id.ResourceId.{ResourceId}
@@ -43,6 +43,8 @@ use Rattle.shred_run.specs.declared.work.Work.TheVariants.{System, Batch}
 use Rattle.shred_run.proofs.Inner.{deep}
 use Rattle.shred_run.proofs.Circle.Rounds.{batch_keeps}
 use Rattle.shred_run.proofs.Circle.Tiers.{written-by_plan}
+
+-- Steps to the depth to which what makes them is followed.
 
 -- what keeps the depth that is noted of it is followed to the same depth
 pub rule-same : {V S C : Type 0} (at : Option ℕ) (old new : Work S (Nested V S C)) → depth_of new ≡ depth_of old → rule_depth at new ≡ rule_depth at old

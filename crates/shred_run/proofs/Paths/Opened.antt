@@ -1,4 +1,4 @@
--- What is at each path, by the place of an element.
+-- Records that are opened into those of the agents inside.
 use Rattle.std.proofs.Common.{◌≡◌, ◌≢◌, ℕ, zero, suc, [], ◌∷◌, ◌++◌, length, Option, Some, inl, inr, refl, sym, ◌∙◌, ap, subst, List, map, append_assoc, Ok, Err, append-nil, All, None}
 use Rattle.std.specs.Prelude.{option_and_then}
 use Rattle.shred_model.specs.Record.{Agent, Record, under}
@@ -22,6 +22,8 @@ use Rattle.shred_model.specs.Plan as model
 use Rattle.shred_table.specs.declared.id.ResourceId.{ResourceId}
 use Rattle.shred_run.specs.Sides.{plan_reads, plan_writes}
 use Rattle.shred_run.specs.WithinEntries.{IsNoMore}
+
+-- What is at each path, by the place of an element.
 
 module _ {X T : Type 0} (within : X → Agent → Option T) where
   -- inside the element at a place

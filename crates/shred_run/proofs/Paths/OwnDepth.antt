@@ -1,4 +1,4 @@
--- Where each step lies also in another relation, so it is of each entry's, group's, stage's and inner plan's run, and of a batch's.
+-- Runs at each depth, and the one depth for all steps of a run.
 use Rattle.std.proofs.Common.{ℕ, zero, suc, Bool, true, false, List, [], ◌∷◌, Ok, Err, inl, inr, ◌≤◌, arith, ◌≡◌, Option, All, ◌+◌, ◌||◌, Contains, map, Some, slice_get, refl, sym, ap, subst, ⊎_elim}
 use Rattle.shred_model.specs.Access.{Access, Declares}
 use Rattle.shred_model.specs.Plan as model
@@ -47,6 +47,8 @@ use Rattle.shred_run.specs.declared.entry.Group.{Group}
 use Rattle.shred_run.specs.declared.entry.Side.TheVariants.{Reads, Writes}
 use Rattle.shred_run.specs.WithinEntries.{IsNoMore}
 use Rattle.shred_run.specs.OwnDepth.{OwnStep, OwnsItself, depth_of}
+
+-- Where each step lies also in another relation, so it is of each entry's, group's, stage's and inner plan's run, and of a batch's.
 
 -- Where each element's run is also a run of another kind, so are the runs of lists of elements.
 module _ {X I V S O F : Type 0} (Run Wider : ℕ → X → List (Record Agent I V S O) → Answer F → Type 0) (weaker : (n : ℕ) (x : X) (list : List (Record Agent I V S O)) (a : Answer F) → Run n x list a → Wider n x list a) where

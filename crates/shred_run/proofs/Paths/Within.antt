@@ -1,4 +1,4 @@
--- The records of runs at every depth keep within the accesses of the entries that they are inside of.
+-- Records stay within the accesses of the entries that they are inside of.
 use Rattle.std.proofs.Common.{◌≡◌, ℕ, zero, suc, Bool, true, false, List, [], ◌∷◌, ◌++◌, Option, Some, None, Ok, Err, Result, Contains, inl, inr, subst, ◌+◌, ◌<◌, ◌⊎◌, All, length, get_or, slice_get, refl, sym, ◌∙◌, ap, arith, ◌≢◌}
 use Rattle.std.specs.List.{AllByRecursion}
 use Rattle.shred_model.specs.Access.{Access, Declares, Conflicts}
@@ -27,6 +27,8 @@ use Rattle.shred_run.specs.Dispatched.{IsPlanRun}
 use Rattle.std.proofs.Math.Decide.{dec_lt}
 use Rattle.shred_model.proofs.Orders.Reorder.{All-at}
 use Rattle.shred_run.specs.Parallel.{AreParallel}
+
+-- The records of runs at every depth keep within the accesses of the entries that they are inside of.
 
 module _ {V S C E : Type 0} where
   -- a record of one step keeps within an access that has the step's

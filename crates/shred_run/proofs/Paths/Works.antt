@@ -1,4 +1,4 @@
--- What is inside a batch: its own, and beside it what its inner plan has.
+-- What is inside what stands in entries, and how its steps are opened.
 use Rattle.std.proofs.Common.{◌≡◌, [], ◌∷◌, List, Option, Some, refl, true, ℕ, suc, ◌++◌, length, map, inl, inr, sym, ◌∙◌, ap, subst, append-nil, zero, ◌≢◌, Bool, false, Ok, Err, Result, None, subst₂, Contains}
 use Rattle.std.proofs.Math.Path.{fun_ext}
 use Rattle.shred_model.specs.Record.{Agent, under, Record}
@@ -40,6 +40,8 @@ use Rattle.shred_run.proofs.Circle.WorkSteps.{control-restricted}
 use Rattle.std.specs.Option.{option_map}
 use Rattle.shred_model.proofs.Joined.Ran.{Ran-one, Goes-alone}
 use Rattle.shred_run.proofs.Paths.Within.{nested_within}
+
+-- What is inside a batch: its own, and beside it what its inner plan has.
 
 -- one itself, and what is inside it
 abbrev pub with_own : {T : Type 0} → T → (Agent → Option T) → Agent → Option T

@@ -1,4 +1,4 @@
--- The records of a group's run keep within the group's access.
+-- Groups that run over their hands, and what they leave.
 use Rattle.std.proofs.Common.{ℕ, List, [], ◌∷◌, Contains, subst, ◌≡◌, Bool, false, map, refl, zero, suc, ◌<◌, true, ◌&&◌, Option, Some, None, cond, length, get_or, sym, ◌∙◌, ap, inl, inr, arith, append-nil}
 use Rattle.std.specs.List.{AllByRecursion, list_any, All, AllZip, flat_map}
 use Rattle.shred_model.specs.Access.{Access, Declares, Conflicts}
@@ -42,6 +42,8 @@ use Rattle.shred_model.proofs.Joined.AllWent.{RanBeside-from_went}
 use Rattle.shred_model.proofs.Joined.BesideAsOne.{beside_as_one_thread}
 use Rattle.shred_model.proofs.Joined.Ran.{Ran-from_alike, Ran-to_alike, Ran-of_one_thread, Ran-as}
 use Rattle.shred_run.specs.Turns.{TookTurn}
+
+-- The records of a group's run keep within the group's access.
 
 module _ {V S E : Type 0} (kind : V → Kind) (step : Step V S E) where
   entry-within : (place : ℕ) (entry : model.PlanEntry ResourceId) (list : List (Written V S E)) (a : Answer (StageFault E)) → EntryRun kind step place entry list a → AllByRecursion (IsWithin entry.access) list

@@ -1,4 +1,4 @@
--- One step over a hand, with what it writes moved out of the slots before and back after.
+-- Steps and calls over a hand.
 use Rattle.std.proofs.Common.{◌≡◌, Bool, true, false, Option, Some, None, cond, List, refl, sym, ◌∙◌, ap, subst, subst₂}
 use Rattle.std.specs.Prelude.{is_some, Result}
 use Rattle.std.specs.Option.{option_map}
@@ -23,6 +23,8 @@ use Rattle.shred_run.specs.declared.control.KeptController.{KeptController}
 use Rattle.shred_run.proofs.Circle.Tiers.{left-before, has-after, given-first, own-first}
 use Rattle.shred_world.specs.Worked.{Held}
 use Rattle.shred_run.specs.Steppers.{IsStepBy}
+
+-- One step over a hand, with what it writes moved out of the slots before and back after.
 
 module _ {V : Type 0} (before after : Lent V) (writes : List ResourceId) (room hand : Table V)
     (empty : IsEmptyHand writes room)

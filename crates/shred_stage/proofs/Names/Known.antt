@@ -1,4 +1,4 @@
--- Names that are entered, and taken away again.
+-- Names that are known, and ids without one.
 use Rattle.std.proofs.Common.{◌≡◌, ℕ, ◌+◌, Bool, true, false, cond, List, [], ◌∷◌, ◌++◌, take, is_some, subst, Option, Some, None, IsSome, refl, sym, ◌∙◌, ap, ⊎_elim, arith, suc, drop, drop-cons, Bor, add-one}
 use Rattle.std.proofs.lemmas.Bool.{cases_eq}
 use Rattle.std.proofs.lemmas.Map.Text.{hash_map_updates_text}
@@ -16,6 +16,8 @@ use Rattle.shred_run.specs.PlanOf.{numbers_of}
 use Rattle.shred_run.proofs.Groups.{read_more}
 use Rattle.shred_stage.specs.Names.{names_of, NamedId, least_name, first_unnamed}
 use Rattle.shred_run.specs.declared.entry.SystemId.{SystemId}
+
+-- Names that are entered, and taken away again.
 
 cond-map : (b : Bool) (x y : Option SystemId) → option_map (λ id. id.0) (cond b x y) ≡ cond b (option_map (λ id. id.0) x) (option_map (λ id. id.0) y)
 cond-map true x y = refl

@@ -1,4 +1,4 @@
--- How what is touched of a list grows with the list.
+-- What is touched, and what is placed after what.
 use Rattle.std.proofs.Common.{◌≡◌, ◌≢◌, ℕ, zero, suc, ◌+◌, ◌<◌, ◌≤◌, Bool, true, false, List, [], ◌∷◌, ◌++◌, length, take, drop, map, get_or, Some, refl, sym, ◌∙◌, ap, ◌⊎◌, inl, inr, ⊎_elim, arith, ◌-◌, ◌==◌, set, Option, None, subst, Contains}
 use Rattle.std.specs.List.{slice_get, slice_range}
 use Rattle.std.proofs.lemmas.List.{map-append, take-append-drop, take_all}
@@ -15,6 +15,8 @@ use Rattle.shred_stage.specs.Added.{IsNewAt}
 use Rattle.shred_stage.specs.Earlier.{IsEarlier, IsFromBarrier, HasIdAt, HasId, ComesAfter, AllBeforeBarrier}
 use Rattle.shred_stage.specs.Placement.{dependencies_left, IsPlaced, in_new_group, at_end_of_group, in_new_stage, HoldsTheOneLeft}
 use Rattle.shred_run.specs.Left.{without_one, difference}
+
+-- How what is touched of a list grows with the list.
 
 -- an item of the longer list is one of the shorter, or the last
 pub slice_get-push_cases : {X : Type 0} (xs : List X) (y : X) (k : ℕ) (x : X) → slice_get (xs ++ y ∷ []) k ≡ Some x → (slice_get xs k ≡ Some x) ⊎ ((k ≡ length xs) × (y ≡ x))

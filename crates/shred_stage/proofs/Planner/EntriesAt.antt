@@ -1,4 +1,4 @@
--- What is new in an element of a list is new in the list.
+-- Entries and states by their places.
 use Rattle.std.proofs.Common.{◌≡◌, ◌≢◌, ℕ, zero, suc, ◌<◌, List, [], ◌∷◌, ◌++◌, length, get_or, set, map, Option, None, Result, Ok, Err, refl, sym, ◌∙◌, ap, subst, arith}
 use Rattle.std.specs.Option.{option_map}
 use Rattle.std.specs.Result.{OnOk, OnErr}
@@ -16,6 +16,8 @@ use Rattle.shred_run.specs.declared.entry.Group.{Group}
 use Rattle.shred_run.specs.declared.work.Nested.{Nested}
 use Rattle.shred_run.specs.declared.work.Work.{Work}
 use Rattle.shred_stage.specs.declared.dispatch.stage.Stage.{Stage}
+
+-- What is new in an element of a list is new in the list.
 
 step : (n k : ℕ) (a b : Agent) → (suc n ∷ a ≢ suc k ∷ b) → n ∷ a ≢ k ∷ b
 step n k a b ne e = ne (cc)

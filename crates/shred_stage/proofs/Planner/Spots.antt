@@ -1,4 +1,4 @@
--- Sizes and times of a stage's groups, read one by one.
+-- Where a stage takes an entry.
 use Rattle.std.proofs.Common.{◌≡◌, ℕ, ◌+◌, ◌<◌, ◌≤◌, List, [], ◌∷◌, ◌++◌, length, take, get_or, max, refl, sym, ◌∙◌, ap, Bool, ◌||◌, ◌⊎◌, inl, inr, ⊎_elim, drop, map, ◌-◌, Some, subst, arith, length-drop, ◌≢◌, ◌*◌, true, false, Option}
 use Rattle.std.specs.List.{All, Contains, Any, list_any, flat_map, slice_get, slice_range}
 use Rattle.std.proofs.lemmas.List.{length-map, get_or-map, map-append, take-append-drop, append-nil, take_more, get_or-drop, nil_from_length}
@@ -24,6 +24,8 @@ use Rattle.shred_stage.specs.Search.{SpotIs, PlaceIs, waits_for_group, may_end, 
 use Rattle.shred_stage.specs.declared.dispatch.stage.Spot.{Spot}
 use Rattle.shred_stage.specs.declared.dispatch.stage.Spot.TheVariants.{NewGroup, EndOf}
 use Rattle.shred_stage.specs.declared.dispatch.stage.Touched.TheVariants.{Nothing, One, Several}
+
+-- Sizes and times of a stage's groups, read one by one.
 
 -- the group that is read at i
 pub group_read : {V S : Type 0} (groups : List (Group V S)) (i : ℕ) (x : Group V S) → i < length groups → x ≡ get_or groups i x → get_or (groups_plan groups) i [] ≡ group_plan x

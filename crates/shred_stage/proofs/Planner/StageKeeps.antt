@@ -1,4 +1,4 @@
--- What holds of a list before a push and of the list with the item holds after a push that may have failed.
+-- What stages and plans keep as entries come in.
 use Rattle.std.proofs.Common.{◌≡◌, ◌≤◌, Bool, true, false, cond, List, [], ◌∷◌, ◌++◌, length, Result, Ok, Err, ap, arith, ◌≢◌, ℕ, ◌<◌, get_or, set, Some, ◌⊎◌, inl, inr, ⊎_elim, get_or-set_other, get_or-set_same, length-set, sym, subst, ◌+◌, refl, ◌∙◌, Option, None, length-append, zero, suc, map}
 use Rattle.std.specs.Result.{OnOk, OnErr}
 use Rattle.std.proofs.lemmas.List.{length_push, map-set, map_push, set-get_or, get_or-map, length-map}
@@ -26,6 +26,8 @@ use Rattle.shred_stage.specs.StagePlan.{stage_plan, plan_of}
 use Rattle.shred_stage.specs.declared.dispatch.stage.Spot.{Spot}
 use Rattle.shred_stage.specs.declared.dispatch.stage.Spot.TheVariants.{NewGroup, EndOf}
 use Rattle.shred_stage.specs.declared.dispatch.stage.Stage.{Stage}
+
+-- What holds of a list before a push and of the list with the item holds after a push that may have failed.
 
 pub holds_after_push : {X : Type 0} (P : List X → Type 0) (b : Bool) (xs : List X) (y : X) (new : List X) → new ≡ cond b (xs ++ y ∷ []) xs → P xs → P (xs ++ y ∷ []) → P new
 holds_after_push P true xs y new e before after = rw e after

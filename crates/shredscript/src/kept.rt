@@ -25,30 +25,30 @@ pub struct KeptNumber {
     pub number: i64,
 }
 
-/// Numbers that are kept, those that are written before those that are only read, and all others behind them.
+/// Numbers that are kept: of what is written, behind them those that operands name, and all others behind both.
 #[derive(Drop)]
 pub struct Keeping<'n, N> {
     pub written: ArrayVec<KeptNumber, 8>,
-    pub read: ArrayVec<KeptNumber, 8>,
+    pub named: ArrayVec<KeptNumber, 8>,
     pub behind: &'n N,
 }
 
 impl<N: Numbers> Numbers for Keeping<'_, N> {
     ghost use Rattle.std.proofs.Common.{refl, sym, subst, ◌∙◌};
 
-    ghost seen = { λ keeping. overlaid keeping.written.items (overlaid keeping.read.items (N.seen keeping.behind.now)) };
+    ghost seen = { λ keeping. overlaid keeping.written.items (overlaid keeping.named.items (N.seen keeping.behind.now)) };
 
     ghost is_ready = { λ keeping. N.is_ready keeping.behind.now };
 
     ghost allows = { λ keeping place. IsTrue (has_place (map kept_place keeping.written.items) place) };
 
-    ghost keeps = { λ old new. (new.behind.now ≡ old.behind.now) × (new.read.items ≡ old.read.items) × (map kept_place new.written.items ≡ map kept_place old.written.items) };
+    ghost keeps = { λ old new. (new.behind.now ≡ old.behind.now) × (new.named.items ≡ old.named.items) × (map kept_place new.written.items ≡ map kept_place old.written.items) };
 
     fn number(&self, place: usize) -> Result<i64, Fault<Refusal>> {
         if let Some(number) = number_in(self.written.as_slice(), place) {
             return Ok(number);
         }
-        match number_in(self.read.as_slice(), place) {
+        match number_in(self.named.as_slice(), place) {
             Some(number) => Ok(number),
             None => self.behind.number(place),
         }
@@ -95,14 +95,14 @@ impl<N: Numbers> Keeping<'_, N> {
     // Keeps the numbers of what operands name and of what is written, where all are held and there is room for them.
     fn keep(&mut self, declared: &Declared) -> Option<()>
         requires is_ready { N.is_ready self.old.behind.now }
-        requires empty { (self.old.read.items ≡ []) × (self.old.written.items ≡ []) }
+        requires empty { (self.old.named.items ≡ []) × (self.old.written.items ≡ []) }
         ensures behind { self.new.behind.now ≡ self.old.behind.now }
         ensures places { IfSome result (λ done. map kept_place self.new.written.items ≡ declared.now.written.items) }
-        ensures read { IfSome result (λ done. AreHeld (N.seen self.old.behind.now) self.new.read.items) }
+        ensures named { IfSome result (λ done. AreHeld (N.seen self.old.behind.now) self.new.named.items) }
         ensures written { IfSome result (λ done. AreHeld (N.seen self.old.behind.now) self.new.written.items) }
     {
         let behind = self.behind;
-        keep_each(&mut self.read, behind, declared.named.as_slice())?;
+        keep_each(&mut self.named, behind, declared.named.as_slice())?;
         keep_each(&mut self.written, behind, declared.written.as_slice())
     }
 }
@@ -127,16 +127,12 @@ fn keep_each<N: Numbers>(
     ensures held { IfSome result (λ done. AreHeld (N.seen numbers.now) kept.new.items) }
 {
     for place in places {
-        let Ok(number) = numbers.number(*place) else {
-            return None;
-        };
+        let number = numbers.number(*place).ok()?;
         let one = KeptNumber {
             place: *place,
             number,
         };
-        if kept.try_push(one).is_err() {
-            return None;
-        }
+        kept.try_push(one).ok()?;
     }
     Some(())
 }
@@ -157,8 +153,9 @@ fn write_kept<N: Numbers>(kept: &[KeptNumber], numbers: &mut N)
     }
 }
 
-// Runs the steps over the numbers that they name, which are read once before them and written once after. Where not all of
-// them are held, or there is no room to keep them, nothing is done.
+// Runs the steps over the numbers that their operands name and those that they write: all are read once before them, and what
+// is written is written once after. Where not all are held, or there are more than eight of each, nothing is done. It stands
+// apart so that a system of few steps makes no room for them.
 #[inline(never)]
 fn run_kept<N: Numbers>(
     steps: &[Step],
@@ -175,7 +172,7 @@ fn run_kept<N: Numbers>(
 {
     let mut keeping = Keeping {
         written: ArrayVec::new_in(()),
-        read: ArrayVec::new_in(()),
+        named: ArrayVec::new_in(()),
         behind: &*numbers,
     };
     keeping.keep(declared)?;
@@ -186,7 +183,7 @@ fn run_kept<N: Numbers>(
 }
 
 /// Runs the steps over the numbers, up to the first that refuses, which the answer tells. Where there are many of them, the
-/// numbers that they name are read once before them and written once after.
+/// numbers that they name or write are read once before them, and what they write is written once after.
 pub fn run_declared<N: Numbers>(
     steps: &[Step],
     declared: &Declared,

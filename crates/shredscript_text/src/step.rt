@@ -99,12 +99,8 @@ impl Step {
         ensures { result ≡ read_place self }
     {
         match self {
-            Step::Read(place)
-            | Step::Change {
-                operand: Operand::Resource(place),
-                ..
-            } => Some(place),
-            _ => None,
+            Step::Read(place) => Some(place),
+            _ => self.named_place(),
         }
     }
 

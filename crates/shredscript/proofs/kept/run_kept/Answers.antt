@@ -25,8 +25,8 @@ pub returns-clause-outcome : goal.returns-clause-outcome
 returns-clause-outcome g c =
     let keeping = c.keep.new.self in
     c.run_steps-outcome.ensures.outcome
-    ∙ ap (λ behind. steps_outcome c.args.steps.now (overlaid keeping.written.items (overlaid keeping.read.items (g.N.Numbers.seen behind)))) c.keep.ensures.behind
-    ∙ ap (steps_outcome c.args.steps.now) (overlaid-both (g.N.Numbers.seen c.args.numbers.now) keeping.written.items keeping.read.items c.in_ok-keep.ensures.written c.in_ok-keep.ensures.read)
+    ∙ ap (λ behind. steps_outcome c.args.steps.now (overlaid keeping.written.items (overlaid keeping.named.items (g.N.Numbers.seen behind)))) c.keep.ensures.behind
+    ∙ ap (steps_outcome c.args.steps.now) (overlaid-both (g.N.Numbers.seen c.args.numbers.now) keeping.written.items keeping.named.items c.in_ok-keep.ensures.written c.in_ok-keep.ensures.named)
 
 pub returns-clause-left : goal.returns-clause-left
 returns-clause-left g c =
@@ -36,7 +36,7 @@ returns-clause-left g c =
     let stays = c.run_steps-outcome.ensures.keeps in
     c.write_kept.ensures.left
     ∙ ap (λ kept. overlaid kept seen) c.as_slice.ensures.value
-    ∙ ap (overlaid left.written.items) (sym (overlaid-held seen keeping.read.items c.in_ok-keep.ensures.read) ∙ ap (λ read. overlaid read seen) (sym stays.1) ∙ ap (λ behind. overlaid left.read.items (g.N.Numbers.seen behind)) (sym c.keep.ensures.behind ∙ sym stays.0))
+    ∙ ap (overlaid left.written.items) (sym (overlaid-held seen keeping.named.items c.in_ok-keep.ensures.named) ∙ ap (λ named. overlaid named seen) (sym stays.1) ∙ ap (λ behind. overlaid left.named.items (g.N.Numbers.seen behind)) (sym c.keep.ensures.behind ∙ sym stays.0))
     ∙ c.run_steps-outcome.ensures.left
-    ∙ ap (λ behind. steps_left c.args.steps.now (overlaid keeping.written.items (overlaid keeping.read.items (g.N.Numbers.seen behind)))) c.keep.ensures.behind
-    ∙ ap (steps_left c.args.steps.now) (overlaid-both seen keeping.written.items keeping.read.items c.in_ok-keep.ensures.written c.in_ok-keep.ensures.read)
+    ∙ ap (λ behind. steps_left c.args.steps.now (overlaid keeping.written.items (overlaid keeping.named.items (g.N.Numbers.seen behind)))) c.keep.ensures.behind
+    ∙ ap (steps_left c.args.steps.now) (overlaid-both seen keeping.written.items keeping.named.items c.in_ok-keep.ensures.written c.in_ok-keep.ensures.named)

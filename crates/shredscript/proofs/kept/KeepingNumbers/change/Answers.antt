@@ -27,7 +27,7 @@ offset_bounds-as_mut_slice-at g c =
 pub returns-clause-outcome : goal.returns-clause-outcome
 returns-clause-outcome g c =
     let kept = c.args.self.now.written.items in
-    let seen = overlaid c.args.self.now.read.items (g.N.Numbers.seen c.args.self.now.behind.now) in
+    let seen = overlaid c.args.self.now.named.items (g.N.Numbers.seen c.args.self.now.behind.now) in
     let d : KeptNumber = record { place = 0; number = pos 0 } in
     let held = kept-number seen kept c.args.place c.in-Some.at d (rw c.as_slice.ensures.value at c.in-Some.ensures.kept) in
     let operand : FitsSigned w64 c.args.operand = search rules in
@@ -37,7 +37,7 @@ returns-clause-outcome g c =
 pub returns-clause-left : goal.returns-clause-left
 returns-clause-left g c =
     let kept = c.args.self.now.written.items in
-    let seen = overlaid c.args.self.now.read.items (g.N.Numbers.seen c.args.self.now.behind.now) in
+    let seen = overlaid c.args.self.now.named.items (g.N.Numbers.seen c.args.self.now.behind.now) in
     let at = c.in-Some.at in
     let d : KeptNumber = record { place = 0; number = pos 0 } in
     let here : IsKeptAt kept c.args.place at = rw c.as_slice.ensures.value at c.in-Some.ensures.kept in

@@ -1,13 +1,15 @@
 #!/usr/bin/env bash
-# docs/count.sh PROGRAM MODE PLAN NUMBER..: the instructions of one dispatch of a plan of docs/plan.sh by a program that reads
-# scripts: what 110 dispatches cost more than 10, divided by 100.
+# docs/count.sh MODE 'PLAN NUMBER..' PROGRAM WORD..: the instructions of one dispatch of a plan of docs/plan.sh by a program that
+# reads scripts: what 110 dispatches cost more than 10, divided by 100.
 set -euo pipefail
 plan=$(dirname "${BASH_SOURCE[0]}")/plan.sh
-program=$1 mode=$2
+mode=$1 script=$2
 shift 2
 
 spent() {
-    "$plan" "$1" "$mode" "${@:2}" | valgrind --tool=callgrind --callgrind-out-file=/dev/null "$program" 2>&1 >/dev/null |
-        awk '/Collected/ { print $4 }'
+    "$plan" "$1" "$mode" $script | valgrind --tool=callgrind --callgrind-out-file=/dev/null "${@:2}" 2>&1 >/dev/null |
+        awk '/Collected/ { print $4; told = 1 } END { if (!told) { print "count: nothing was counted" >"/dev/stderr"; exit 1 } }'
 }
-echo $((($(spent 110 "$@") - $(spent 10 "$@")) / 100))
+few=$(spent 10 "$@")
+many=$(spent 110 "$@")
+echo $(((many - few) / 100))

@@ -26,6 +26,7 @@ awk -v times="$1" -v mode="$2" -v plan="$3" -v first="${4:-0}" -v second="${5:-1
 
     BEGIN {
         row = 1
+        if (plan !~ /^(beside|chain|mixed|batch|depth|large)$/) { print "plan: no such plan" >"/dev/stderr"; exit 2 }
         if (plan == "beside") { print "res S 0"; resources("C", first); beside(first, second) }
         if (plan == "chain") {
             print "res S 0"; resources("C", first)

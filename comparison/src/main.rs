@@ -1,4 +1,4 @@
-//! Drives shred 0.12.0 by scripts, to be measured beside `shredrun`. It prints what `shredrun` prints, without the plan.
+//! Drives shred 0.12.0 by scripts, to be measured beside `shredrun`. Where nothing refuses or overflows it prints the same values.
 //!
 //!     comparison once <SCRIPT      each system fetches what it declares once a run, as its system data
 //!     comparison few <SCRIPT       it fetches in each step where there are few, by the rule of `shredrun`
@@ -11,39 +11,47 @@ mod systems;
 use script::{parse, Line};
 use shred::{Dispatcher, DispatcherBuilder, RunningTime, System, World};
 use std::hint::black_box;
-use std::io;
+use std::{io, process};
 use steps::{id_of, Compiled, Ids};
-use systems::{Either, Once, Planned, Rounds};
+use systems::{ByRule, Once, Planned, Rounds};
 
 /// The type of each resource.
 pub struct Value(pub i64);
 
 type Builder = DispatcherBuilder<'static, 'static>;
 
-trait Made: for<'a> System<'a> + Send + 'static {
-    fn make(time: RunningTime, compiled: Compiled) -> Self;
+trait FromLine: for<'a> System<'a> + Send + 'static {
+    fn from_line(time: RunningTime, compiled: Compiled) -> Self;
 }
 
-impl Made for Once {
-    fn make(time: RunningTime, compiled: Compiled) -> Self {
+impl FromLine for Once {
+    fn from_line(time: RunningTime, compiled: Compiled) -> Self {
         Once { time, compiled }
     }
 }
 
-impl Made for Either {
-    fn make(time: RunningTime, compiled: Compiled) -> Self {
-        let few = compiled.steps.len() / 4 < compiled.ids.writes.len();
-        Either { few, time, compiled }
+impl FromLine for ByRule {
+    fn from_line(time: RunningTime, compiled: Compiled) -> Self {
+        let few = compiled.count / 4 < compiled.ids.writes.len();
+        ByRule {
+            few,
+            time,
+            compiled,
+        }
     }
 }
 
-fn builder_of<S: Made>(lines: &[Line]) -> Builder {
+fn builder_of<S: FromLine>(lines: &[Line]) -> Builder {
     let mut builder = Builder::new();
     for line in lines {
         match line {
             Line::System(system) => {
                 let deps: Vec<&str> = system.deps.iter().map(String::as_str).collect();
-                builder.add(S::make(system.time, system.compiled.clone()), &system.name, &deps);
+                builder.add(
+                    S::from_line(system.time, system.compiled.clone()),
+                    &system.name,
+                    &deps,
+                );
             }
             Line::Batch(batch) => {
                 let deps: Vec<&str> = batch.deps.iter().map(String::as_str).collect();
@@ -51,7 +59,9 @@ fn builder_of<S: Made>(lines: &[Line]) -> Builder {
                 builder.add_batch(Rounds(batch.rounds), inner, &batch.name, &deps);
             }
             Line::Barrier => builder.add_barrier(),
-            Line::Local(compiled) => builder.add_thread_local(S::make(RunningTime::Average, compiled.clone())),
+            Line::Local(compiled) => {
+                builder.add_thread_local(S::from_line(RunningTime::Average, compiled.clone()))
+            }
         }
     }
     builder
@@ -64,8 +74,8 @@ fn dispatch_each(dispatcher: &mut Dispatcher<'static, 'static>, world: &World, t
     }
 }
 
-fn run<S: Made>(looks: bool) {
-    let text = io::read_to_string(io::stdin().lock()).expect("no script");
+fn run<S: FromLine>(looks: bool) {
+    let text = io::read_to_string(io::stdin().lock()).expect("standard input is text");
     let script = parse(&text, looks);
     let mut world = World::empty();
     for (place, (_, value)) in script.resources.iter().enumerate() {
@@ -75,14 +85,17 @@ fn run<S: Made>(looks: bool) {
     dispatcher.setup(&mut world);
     dispatch_each(&mut dispatcher, &world, script.times);
     for (place, (name, _)) in script.resources.iter().enumerate() {
-        let value = world.try_fetch_by_id::<Value>(id_of(place)).expect("no such resource");
+        let value = world
+            .try_fetch_by_id::<Value>(id_of(place))
+            .expect("no such resource");
         println!("{name}={}", value.0);
     }
     println!("ok");
 }
 
 fn next(seed: u64) -> u64 {
-    seed.wrapping_mul(6364136223846793005).wrapping_add(1442695040888963407)
+    seed.wrapping_mul(6364136223846793005)
+        .wrapping_add(1442695040888963407)
 }
 
 /// 1 to 6 of 300 resources, each read or written.
@@ -112,14 +125,23 @@ fn plan(count: u64, times: u64) {
     }
 }
 
+fn usage() -> ! {
+    eprintln!("usage: comparison once|few|declared <SCRIPT, or comparison plan SYSTEMS TIMES");
+    process::exit(2)
+}
+
+fn number(word: &str) -> u64 {
+    word.parse().unwrap_or_else(|_| usage())
+}
+
 fn main() {
     let words: Vec<String> = std::env::args().skip(1).collect();
     let words: Vec<&str> = words.iter().map(String::as_str).collect();
     match words[..] {
         ["once"] => run::<Once>(true),
-        ["few"] => run::<Either>(true),
-        ["declared"] => run::<Either>(false),
-        ["plan", count, times] => plan(count.parse().expect("no number"), times.parse().expect("no number")),
-        _ => panic!("comparison once|few|declared, or comparison plan SYSTEMS TIMES"),
+        ["few"] => run::<ByRule>(true),
+        ["declared"] => run::<ByRule>(false),
+        ["plan", count, times] => plan(number(count), number(times)),
+        _ => usage(),
     }
 }

@@ -1,4 +1,5 @@
-//! Reads a script. It has to be a good one: whatever is wrong in it ends the program.
+//! Reads a script. It has to be a good one without `refuse:`; whatever is wrong in it ends the program. `mode`, `workers` and `plan`
+//! are passed over: all runs on one thread, and nothing is printed of the plan.
 use crate::steps::{compile, Change, Compiled, Op, RawOperand, RawStep};
 use shred::RunningTime;
 use std::collections::HashMap;
@@ -48,7 +49,11 @@ fn deps_of(word: &str) -> Vec<String> {
 }
 
 fn step_of(word: &str, places: &HashMap<String, usize>) -> RawStep {
-    let place = |name: &str| *places.get(name).unwrap_or_else(|| panic!("no such resource {name}"));
+    let place = |name: &str| {
+        *places
+            .get(name)
+            .unwrap_or_else(|| panic!("no such resource {name}"))
+    };
     if let Some(name) = word.strip_prefix('?') {
         return RawStep::Read(place(name));
     }
@@ -77,7 +82,7 @@ fn step_of(word: &str, places: &HashMap<String, usize>) -> RawStep {
     })
 }
 
-pub fn parse(text: &str, reads_looks: bool) -> Script {
+pub fn parse(text: &str, looks: bool) -> Script {
     let mut resources = Vec::new();
     let mut places = HashMap::new();
     let mut open: Vec<(String, Vec<String>, usize, Vec<Line>)> = Vec::new();
@@ -112,12 +117,12 @@ pub fn parse(text: &str, reads_looks: bool) -> Script {
                     name,
                     time,
                     deps,
-                    compiled: compile(&steps, reads_looks),
+                    compiled: compile(&steps, looks),
                 }));
             }
             "local" => {
                 let steps: Vec<RawStep> = words.map(|w| step_of(w, &places)).collect();
-                lines.push(Line::Local(compile(&steps, reads_looks)));
+                lines.push(Line::Local(compile(&steps, looks)));
             }
             "barrier" => lines.push(Line::Barrier),
             "batch" => {

@@ -25,8 +25,7 @@ pub enum RawStep {
 }
 
 #[derive(Clone, Copy)]
-pub enum Operand {
-    Number(i64),
+pub enum Guard {
     /// Of the guards that read, the one at this index.
     Read(u32),
     /// Of the guards that write, the one at this index.
@@ -34,10 +33,20 @@ pub enum Operand {
 }
 
 #[derive(Clone, Copy)]
+pub enum Operand {
+    Number(i64),
+    Of(Guard),
+}
+
+#[derive(Clone, Copy)]
 pub enum Step {
-    Change { target: u32, op: Op, operand: Operand },
+    Change {
+        target: u32,
+        op: Op,
+        operand: Operand,
+    },
     /// `?X`: the value is read, and nothing done with it.
-    Look(Operand),
+    Look(Guard),
 }
 
 /// The ids that a system declares, each once; an id that is written is not declared as read besides.
@@ -55,7 +64,11 @@ impl Accessor for Ids {
         None
     }
     fn reads(&self) -> Vec<ResourceId> {
-        self.reads.iter().chain(&self.only_declared).cloned().collect()
+        self.reads
+            .iter()
+            .chain(&self.only_declared)
+            .cloned()
+            .collect()
     }
     fn writes(&self) -> Vec<ResourceId> {
         self.writes.clone()
@@ -66,6 +79,8 @@ impl Accessor for Ids {
 pub struct Compiled {
     pub ids: Ids,
     pub steps: Vec<Step>,
+    /// How many steps the line has, of which some do nothing.
+    pub count: usize,
 }
 
 pub fn id_of(place: usize) -> ResourceId {
@@ -107,9 +122,9 @@ pub fn compile(raw: &[RawStep], looks: bool) -> Compiled {
         }
     }
     let at = |list: &Vec<usize>, p: usize| list.iter().position(|x| *x == p).map(|i| i as u32);
-    let operand = |p: usize| match at(&writes, p) {
-        Some(i) => Operand::Written(i),
-        None => Operand::Read(at(&reads, p).unwrap()),
+    let guard = |p: usize| match at(&writes, p) {
+        Some(i) => Guard::Written(i),
+        None => Guard::Read(at(&reads, p).unwrap()),
     };
     let mut steps = Vec::new();
     for s in raw {
@@ -119,10 +134,10 @@ pub fn compile(raw: &[RawStep], looks: bool) -> Compiled {
                 op: c.op,
                 operand: match c.operand {
                     RawOperand::Number(n) => Operand::Number(n),
-                    RawOperand::Resource(p) => operand(p),
+                    RawOperand::Resource(p) => Operand::Of(guard(p)),
                 },
             }),
-            RawStep::Read(p) if looks => steps.push(Step::Look(operand(*p))),
+            RawStep::Read(p) if looks => steps.push(Step::Look(guard(*p))),
             _ => {}
         }
     }
@@ -134,6 +149,7 @@ pub fn compile(raw: &[RawStep], looks: bool) -> Compiled {
             only_declared: ids(&only),
         },
         steps,
+        count: raw.len(),
     }
 }
 

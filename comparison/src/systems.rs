@@ -1,8 +1,9 @@
 //! Systems whose ids are known at run time alone.
-use crate::steps::{apply, look, Compiled, Ids, Operand, Step};
+use crate::steps::{apply, look, Compiled, Guard, Ids, Operand, Step};
 use crate::Value;
 use shred::{
-    AccessorCow, BatchController, Dispatcher, DynamicSystemData, Fetch, FetchMut, RunningTime, System, World,
+    AccessorCow, BatchController, Dispatcher, DynamicSystemData, Fetch, FetchMut, RunningTime,
+    System, World,
 };
 use smallvec::SmallVec;
 
@@ -32,8 +33,12 @@ impl<'a> DynamicSystemData<'a> for Guards<'a> {
 
     fn fetch(ids: &Ids, world: &'a World) -> Self {
         Guards {
-            reads: (0..ids.reads.len()).map(|index| read(world, ids, index)).collect(),
-            writes: (0..ids.writes.len()).map(|index| write(world, ids, index)).collect(),
+            reads: (0..ids.reads.len())
+                .map(|index| read(world, ids, index))
+                .collect(),
+            writes: (0..ids.writes.len())
+                .map(|index| write(world, ids, index))
+                .collect(),
         }
     }
 }
@@ -55,17 +60,20 @@ fn run_over(steps: &[Step], guards: &mut Guards<'_>) {
     let Guards { reads, writes } = guards;
     for step in steps {
         match *step {
-            Step::Change { target, op, operand } => {
+            Step::Change {
+                target,
+                op,
+                operand,
+            } => {
                 let number = match operand {
                     Operand::Number(number) => number,
-                    Operand::Read(index) => reads[index as usize].0,
-                    Operand::Written(index) => writes[index as usize].0,
+                    Operand::Of(Guard::Read(index)) => reads[index as usize].0,
+                    Operand::Of(Guard::Written(index)) => writes[index as usize].0,
                 };
                 apply(op, &mut writes[target as usize].0, number);
             }
-            Step::Look(Operand::Read(index)) => look(&reads[index as usize].0),
-            Step::Look(Operand::Written(index)) => look(&writes[index as usize].0),
-            Step::Look(Operand::Number(_)) => {}
+            Step::Look(Guard::Read(index)) => look(&reads[index as usize].0),
+            Step::Look(Guard::Written(index)) => look(&writes[index as usize].0),
         }
     }
 }
@@ -74,17 +82,20 @@ fn run_each(compiled: &Compiled, world: &World) {
     let ids = &compiled.ids;
     for step in &compiled.steps {
         match *step {
-            Step::Change { target, op, operand } => {
+            Step::Change {
+                target,
+                op,
+                operand,
+            } => {
                 let number = match operand {
                     Operand::Number(number) => number,
-                    Operand::Read(index) => read(world, ids, index as usize).0,
-                    Operand::Written(index) => write(world, ids, index as usize).0,
+                    Operand::Of(Guard::Read(index)) => read(world, ids, index as usize).0,
+                    Operand::Of(Guard::Written(index)) => write(world, ids, index as usize).0,
                 };
                 apply(op, &mut write(world, ids, target as usize).0, number);
             }
-            Step::Look(Operand::Read(index)) => look(&read(world, ids, index as usize).0),
-            Step::Look(Operand::Written(index)) => look(&write(world, ids, index as usize).0),
-            Step::Look(Operand::Number(_)) => {}
+            Step::Look(Guard::Read(index)) => look(&read(world, ids, index as usize).0),
+            Step::Look(Guard::Written(index)) => look(&write(world, ids, index as usize).0),
         }
     }
 }
@@ -112,20 +123,23 @@ impl<'a> System<'a> for Once {
 }
 
 /// Fetches in each step where there are few, else once a run: by the rule of `shredrun`.
-pub struct Either {
+pub struct ByRule {
     pub few: bool,
     pub time: RunningTime,
     pub compiled: Compiled,
 }
 
-impl<'a> System<'a> for Either {
+impl<'a> System<'a> for ByRule {
     type SystemData = Behind<'a>;
 
     fn run(&mut self, Behind(world): Behind<'a>) {
         if self.few {
             run_each(&self.compiled, world)
         } else {
-            run_over(&self.compiled.steps, &mut Guards::fetch(&self.compiled.ids, world))
+            run_over(
+                &self.compiled.steps,
+                &mut Guards::fetch(&self.compiled.ids, world),
+            )
         }
     }
 

@@ -5,7 +5,7 @@ ghost use Rattle.shred_model.specs.Beside.{AllWent, AreApart};
 ghost use Rattle.shred_model.specs.Plan.{group_access};
 ghost use Rattle.shred_run.specs.Turns.{TookTurn};
 ghost use Rattle.shred_table.specs.Slots.{held};
-ghost use Rattle.shred_run.specs.Hands.{HasPlace, KeepsRoom};
+ghost use Rattle.shred_run.specs.Hands.{HasEntryRoom, HasPlace, KeepsRoom};
 ghost use Rattle.shred_run.specs.Lanes.{IsReady, GroupWent};
 ghost use Rattle.shred_run.specs.OwnLists.{IsEntryOf, IsGroupOf};
 ghost use Rattle.shred_run.specs.OwnSlots.{HasJustSlots, HasOnlySlots};
@@ -67,21 +67,33 @@ where
     requires only_own { HasOnlySlots writes.now own.old }
     ensures stepped { IsStepBy V.kind_of (RuleOwns (lists_of S.reads S.writes C.reads C.writes) at) (RuleStep V.kind_of (relations_of (lists_of S.reads S.writes C.reads C.writes) S.step C.begins C.asks) at) reads.now writes.now (lent_slot shelf.now) work.old own.old result work.new own.new }
 {
-    let loan = Loan {
-        reads,
-        writes,
-        shelf,
-    };
     let depth = depth_by(at, work);
     match work {
-        Work::System(system) => run_system(&loan, system, own),
-        Work::Batch(nested) => run_batch(rt, depth - 1, &mut nested.batch, &loan, own, workers),
+        Work::System(system) => {
+            let loan = Loan {
+                reads,
+                writes,
+                shelf,
+            };
+            run_system(&loan, system, own)
+        }
+        Work::Batch(nested) => run_batch(
+            rt,
+            depth - 1,
+            &mut nested.batch,
+            reads,
+            writes,
+            shelf,
+            own,
+            workers,
+        ),
     }
 }
 
 // A run of a batch: its controller begins, and the rounds follow.
 #[cycle(beside)]
 fn run_batch<
+    's,
     R: Threads + Sync,
     V: ResourceValue + Drop + Send + Sync,
     S: System<V, Error = E> + Send,
@@ -91,22 +103,30 @@ fn run_batch<
     rt: &R,
     less: usize,
     batch: &mut Batch<V, C, Work<S, Nested<V, S, C>>>,
-    loan: &Loan<V>,
+    reads: &'s [ResourceId],
+    writes: &'s [ResourceId],
+    shelf: &'s [Shelf<'s, V>; 1],
     own: &mut Table<V>,
     workers: usize,
 ) -> Result<(), Fault<E>>
 where
     S::Accessor: Send,
     C::Accessor: Send,
-    requires has { HasLoanSlots loan.now own.old }
-    requires within { IsBatchWithin C.reads C.writes (Owns (lists_of S.reads S.writes C.reads C.writes) less) loan.now.reads.now loan.now.writes.now batch.old }
-    ensures { RanAsBatch V.kind_of (Owns (lists_of S.reads S.writes C.reads C.writes) less) (WorkStep V.kind_of (relations_of (lists_of S.reads S.writes C.reads C.writes) S.step C.begins C.asks) less) C.reads C.writes (keeping C.reads C.writes C.begins) (keeping C.reads C.writes C.asks) loan.now.reads.now loan.now.writes.now (lent_slot loan.now.shelf.now) batch.old own.old result batch.new own.new }
+    requires own_slots { HasOwnSlots writes.now (lent_slot shelf.now) own.old }
+    requires only_own { HasOnlySlots writes.now own.old }
+    requires within { IsBatchWithin C.reads C.writes (Owns (lists_of S.reads S.writes C.reads C.writes) less) reads.now writes.now batch.old }
+    ensures { RanAsBatch V.kind_of (Owns (lists_of S.reads S.writes C.reads C.writes) less) (WorkStep V.kind_of (relations_of (lists_of S.reads S.writes C.reads C.writes) S.step C.begins C.asks) less) C.reads C.writes (keeping C.reads C.writes C.begins) (keeping C.reads C.writes C.asks) reads.now writes.now (lent_slot shelf.now) batch.old own.old result batch.new own.new }
 {
-    match call_kept(&mut batch.control, &Begin, loan, own) {
+    let loan = Loan {
+        reads,
+        writes,
+        shelf,
+    };
+    match call_kept(&mut batch.control, &Begin, &loan, own) {
         Ok(most) => rounds(
             rt,
             less,
-            loan,
+            &loan,
             &mut batch.control,
             batch.tiers.as_mut_slice(),
             own,
@@ -284,8 +304,54 @@ where
     Ok(())
 }
 
-// One step of what stands in the entry: over the table where it is the only one of its group, and else over its own hand, into
-// which what it writes is moved before, and out of it after.
+// One step of what stands in the entry over its own hand, into which what it writes is moved before, and out of it after. It
+// stands apart so that an entry that is alone in its group makes no room for it.
+#[inline(never)]
+#[cycle(beside)]
+fn run_in_hand<
+    R: Threads + Sync,
+    V: ResourceValue + Drop + Send + Sync,
+    S: System<V, Error = E> + Send,
+    C: BatchController<V, Error = E> + Send,
+    E: Drop + Send,
+>(
+    rt: &R,
+    at: Option<usize>,
+    entry: &mut GroupEntry<V, Work<S, Nested<V, S, C>>>,
+    written: &[ResourceId],
+    shelf: &[Shelf<V>; 1],
+    own: &mut Table<V>,
+    workers: usize,
+) -> Result<(), Fault<E>>
+where
+    S::Accessor: Send,
+    C::Accessor: Send,
+    requires own_lists { IsEntryOf (RuleOwns (lists_of S.reads S.writes C.reads C.writes) at) entry.old }
+    requires own_slots { HasOwnSlots entry.old.writes.items (lent_slot shelf.now) own.old }
+    requires just_slots { HasJustSlots written.now own.old }
+    requires room { HasEntryRoom own.old entry.old }
+    ensures stepped { IsStepBy V.kind_of (RuleOwns (lists_of S.reads S.writes C.reads C.writes) at) (RuleStep V.kind_of (relations_of (lists_of S.reads S.writes C.reads C.writes) S.step C.begins C.asks) at) entry.old.reads.items entry.old.writes.items (lent_slot shelf.now) entry.old.work own.old result entry.new.work own.new }
+    ensures plan { entry_plan entry.new ≡ entry_plan entry.old }
+    ensures own_lists { IsEntryOf (RuleOwns (lists_of S.reads S.writes C.reads C.writes) at) entry.new }
+    ensures room { HasEntryRoom own.new entry.new }
+{
+    move_out(own, entry.writes.as_slice(), &mut entry.hand);
+    let nearest = behind(&*own, &*written, &*shelf);
+    let outcome = run_work(
+        rt,
+        at,
+        entry.reads.as_slice(),
+        entry.writes.as_slice(),
+        &nearest,
+        &mut entry.work,
+        &mut entry.hand,
+        workers,
+    );
+    move_back(own, entry.writes.as_slice(), &mut entry.hand);
+    outcome
+}
+
+// One step of what stands in the entry: over the table where it is the only one of its group, and else over its own hand.
 #[cycle(beside)]
 #[tactic(auto, using(crate::proofs::Circle::Entries::place_single, crate::proofs::Circle::Entries::place_several, crate::proofs::Circle::Entries::several_place, crate::proofs::Circle::Entries::single_place))]
 fn run_entry<
@@ -317,7 +383,7 @@ where
     ensures place { HasPlace single own.new entry.new }
 {
     if single {
-        return run_work(
+        run_work(
             rt,
             at,
             entry.reads.as_slice(),
@@ -326,22 +392,10 @@ where
             &mut entry.work,
             own,
             workers,
-        );
+        )
+    } else {
+        run_in_hand(rt, at, entry, written, shelf, own, workers)
     }
-    move_out(own, entry.writes.as_slice(), &mut entry.hand);
-    let nearest = behind(&*own, &*written, &*shelf);
-    let outcome = run_work(
-        rt,
-        at,
-        entry.reads.as_slice(),
-        entry.writes.as_slice(),
-        &nearest,
-        &mut entry.work,
-        &mut entry.hand,
-        workers,
-    );
-    move_back(own, entry.writes.as_slice(), &mut entry.hand);
-    outcome
 }
 
 /// The turn of a stage's groups over what a table holds, beside each other on threads, what stands in each entry to the depth

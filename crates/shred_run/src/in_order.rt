@@ -2,7 +2,7 @@
 ghost use Rattle.std.specs.Prelude.{◌≡◌, ◌-◌, All};
 ghost use Rattle.shred_model.specs.Beside.{AllWent, AreApart};
 ghost use Rattle.shred_model.specs.Plan.{group_access};
-ghost use Rattle.shred_run.specs.Hands.{HasPlace, KeepsRoom};
+ghost use Rattle.shred_run.specs.Hands.{HasEntryRoom, HasPlace, KeepsRoom};
 ghost use Rattle.shred_run.specs.Turns.{TookTurn};
 ghost use Rattle.shred_table.specs.Slots.{held};
 ghost use Rattle.shred_run.specs.Lanes.{IsReady, GroupWent};
@@ -59,21 +59,24 @@ fn run_work<
     requires only_own { HasOnlySlots writes.now own.old }
     ensures stepped { IsStepBy V.kind_of (RuleOwns (lists_of S.reads S.writes C.reads C.writes) at) (RuleStep V.kind_of (relations_of (lists_of S.reads S.writes C.reads C.writes) S.step C.begins C.asks) at) reads.now writes.now (lent_slot shelf.now) work.old own.old result work.new own.new }
 {
-    let loan = Loan {
-        reads,
-        writes,
-        shelf,
-    };
     let depth = depth_by(at, work);
     match work {
-        Work::System(system) => run_system(&loan, system, own),
-        Work::Batch(nested) => run_batch(depth - 1, &mut nested.batch, &loan, own),
+        Work::System(system) => {
+            let loan = Loan {
+                reads,
+                writes,
+                shelf,
+            };
+            run_system(&loan, system, own)
+        }
+        Work::Batch(nested) => run_batch(depth - 1, &mut nested.batch, reads, writes, shelf, own),
     }
 }
 
 // A run of a batch: its controller begins, and the rounds follow.
 #[cycle(in_order)]
 fn run_batch<
+    's,
     V: ResourceValue + Drop,
     S: System<V, Error = E>,
     C: BatchController<V, Error = E>,
@@ -81,17 +84,25 @@ fn run_batch<
 >(
     less: usize,
     batch: &mut Batch<V, C, Work<S, Nested<V, S, C>>>,
-    loan: &Loan<V>,
+    reads: &'s [ResourceId],
+    writes: &'s [ResourceId],
+    shelf: &'s [Shelf<'s, V>; 1],
     own: &mut Table<V>,
 ) -> Result<(), Fault<E>>
-    requires has { HasLoanSlots loan.now own.old }
-    requires within { IsBatchWithin C.reads C.writes (Owns (lists_of S.reads S.writes C.reads C.writes) less) loan.now.reads.now loan.now.writes.now batch.old }
-    ensures { RanAsBatch V.kind_of (Owns (lists_of S.reads S.writes C.reads C.writes) less) (WorkStep V.kind_of (relations_of (lists_of S.reads S.writes C.reads C.writes) S.step C.begins C.asks) less) C.reads C.writes (keeping C.reads C.writes C.begins) (keeping C.reads C.writes C.asks) loan.now.reads.now loan.now.writes.now (lent_slot loan.now.shelf.now) batch.old own.old result batch.new own.new }
+    requires own_slots { HasOwnSlots writes.now (lent_slot shelf.now) own.old }
+    requires only_own { HasOnlySlots writes.now own.old }
+    requires within { IsBatchWithin C.reads C.writes (Owns (lists_of S.reads S.writes C.reads C.writes) less) reads.now writes.now batch.old }
+    ensures { RanAsBatch V.kind_of (Owns (lists_of S.reads S.writes C.reads C.writes) less) (WorkStep V.kind_of (relations_of (lists_of S.reads S.writes C.reads C.writes) S.step C.begins C.asks) less) C.reads C.writes (keeping C.reads C.writes C.begins) (keeping C.reads C.writes C.asks) reads.now writes.now (lent_slot shelf.now) batch.old own.old result batch.new own.new }
 {
-    match call_kept(&mut batch.control, &Begin, loan, own) {
+    let loan = Loan {
+        reads,
+        writes,
+        shelf,
+    };
+    match call_kept(&mut batch.control, &Begin, &loan, own) {
         Ok(most) => rounds(
             less,
-            loan,
+            &loan,
             &mut batch.control,
             batch.tiers.as_mut_slice(),
             own,
@@ -238,8 +249,46 @@ fn run_group<
     Ok(())
 }
 
-// One step of what stands in the entry: over the table where it is the only one of its group, and else over its own hand, into
-// which what it writes is moved before, and out of it after.
+// One step of what stands in the entry over its own hand, into which what it writes is moved before, and out of it after. It
+// stands apart so that an entry that is alone in its group makes no room for it.
+#[inline(never)]
+#[cycle(in_order)]
+fn run_in_hand<
+    V: ResourceValue + Drop,
+    S: System<V, Error = E>,
+    C: BatchController<V, Error = E>,
+    E: Drop,
+>(
+    at: Option<usize>,
+    entry: &mut GroupEntry<V, Work<S, Nested<V, S, C>>>,
+    written: &[ResourceId],
+    shelf: &[Shelf<V>; 1],
+    own: &mut Table<V>,
+) -> Result<(), Fault<E>>
+    requires own_lists { IsEntryOf (RuleOwns (lists_of S.reads S.writes C.reads C.writes) at) entry.old }
+    requires own_slots { HasOwnSlots entry.old.writes.items (lent_slot shelf.now) own.old }
+    requires just_slots { HasJustSlots written.now own.old }
+    requires room { HasEntryRoom own.old entry.old }
+    ensures stepped { IsStepBy V.kind_of (RuleOwns (lists_of S.reads S.writes C.reads C.writes) at) (RuleStep V.kind_of (relations_of (lists_of S.reads S.writes C.reads C.writes) S.step C.begins C.asks) at) entry.old.reads.items entry.old.writes.items (lent_slot shelf.now) entry.old.work own.old result entry.new.work own.new }
+    ensures plan { entry_plan entry.new ≡ entry_plan entry.old }
+    ensures own_lists { IsEntryOf (RuleOwns (lists_of S.reads S.writes C.reads C.writes) at) entry.new }
+    ensures room { HasEntryRoom own.new entry.new }
+{
+    move_out(own, entry.writes.as_slice(), &mut entry.hand);
+    let nearest = behind(&*own, &*written, &*shelf);
+    let outcome = run_work(
+        at,
+        entry.reads.as_slice(),
+        entry.writes.as_slice(),
+        &nearest,
+        &mut entry.work,
+        &mut entry.hand,
+    );
+    move_back(own, entry.writes.as_slice(), &mut entry.hand);
+    outcome
+}
+
+// One step of what stands in the entry: over the table where it is the only one of its group, and else over its own hand.
 #[cycle(in_order)]
 #[tactic(auto, using(crate::proofs::Circle::Entries::place_single, crate::proofs::Circle::Entries::place_several, crate::proofs::Circle::Entries::several_place, crate::proofs::Circle::Entries::single_place))]
 fn run_entry<
@@ -265,27 +314,17 @@ fn run_entry<
     ensures place { HasPlace single own.new entry.new }
 {
     if single {
-        return run_work(
+        run_work(
             at,
             entry.reads.as_slice(),
             entry.writes.as_slice(),
             &*shelf,
             &mut entry.work,
             own,
-        );
+        )
+    } else {
+        run_in_hand(at, entry, written, shelf, own)
     }
-    move_out(own, entry.writes.as_slice(), &mut entry.hand);
-    let nearest = behind(&*own, &*written, &*shelf);
-    let outcome = run_work(
-        at,
-        entry.reads.as_slice(),
-        entry.writes.as_slice(),
-        &nearest,
-        &mut entry.work,
-        &mut entry.hand,
-    );
-    move_back(own, entry.writes.as_slice(), &mut entry.hand);
-    outcome
 }
 
 /// The turn of a stage's groups over what a table holds, one after the other on the caller's thread, what stands in each entry to the depth

@@ -119,7 +119,8 @@ impl<V> Table<V> {
     pub fn has_note(&self, id: ResourceId) -> bool
         ensures { result ≡ noted_in self.now id }
     {
-        self.out.contains(&id)
+        // Mostly nothing is noted, and then nothing is looked through.
+        !self.out.is_empty() && self.out.contains(&id)
     }
 
     /// The slot of an id.

@@ -274,6 +274,7 @@ impl<'s, 'a, V: ResourceValue> View<'s, 'a, V> {
 
     /// The resource that is held under an id which is declared to be written, to write. The tests
     /// of `read`, with `Undeclared` where the id is not declared to be written.
+    #[inline(always)]
     pub fn write<R: Resource<V>>(&mut self, id: ResourceId) -> Result<&mut R, DataError>
         ensures refused { result_err result ≡ refusal R.KIND id (may_write self.old id) (is_out self.old id) (is_some (view_held V.kind_of self.old id)) }
         ensures shown { IfOk result (λ r. view_held V.kind_of self.old id ≡ Some (R.wrapped r.now)) }

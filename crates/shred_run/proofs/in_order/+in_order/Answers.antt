@@ -35,11 +35,11 @@ rounds-returns-in-Err-run_tiers g t c = rounds-inner_fault c.requires.parts c.lo
 pub run_batch-returns-in-Ok : goal.run_batch-returns-in-Ok
 run_batch-returns-in-Ok g t c =
     let same : length c.rounds.new.tiers ≡ c.args.batch.now.tiers.len = c.rounds.auto.tiers ∙ c.as_mut_slice.ensures.len in
-    batch-ran c.args.loan.now c.requires.within c.args.own.now c.call_kept.new.entry c.call_kept.new.own c.call_kept.ensures.ran c.call_kept.ensures.slots c.call_kept.ensures.own_lists c.call_kept.ensures.access c.in-Ok.most c.in-Ok.is c.as_mut_slice.ensures.value c.rounds.ensures.ran c.rounds.ensures.kept refl (with_items_is c.args.batch.now.tiers c.rounds.new.tiers same) refl
+    batch-ran _ c.requires.within c.args.own.now c.call_kept.new.entry c.call_kept.new.own c.call_kept.ensures.ran c.call_kept.ensures.slots c.call_kept.ensures.own_lists c.call_kept.ensures.access c.in-Ok.most c.in-Ok.is c.as_mut_slice.ensures.value c.rounds.ensures.ran c.rounds.ensures.kept refl (with_items_is c.args.batch.now.tiers c.rounds.new.tiers same) refl
 
 pub run_batch-rounds-requires : goal.run_batch-rounds-requires
 run_batch-rounds-requires g t c κs within =
-    ((let down = c.decreases in omega (arith, down)), bounded within (has-still c.args.loan.now c.args.own.now c.call_kept.new.own c.call_kept.ensures.slots c.requires.has, parts-begun c.args.loan.now c.requires.within c.call_kept.new.entry c.call_kept.ensures.own_lists c.call_kept.ensures.access c.as_mut_slice.ensures.value))
+    ((let down = c.decreases in omega (arith, down)), bounded within (has-still _ c.args.own.now c.call_kept.new.own c.call_kept.ensures.slots (record { own_slots = c.requires.own_slots; only_own = c.requires.only_own }), parts-begun _ c.requires.within c.call_kept.new.entry c.call_kept.ensures.own_lists c.call_kept.ensures.access c.as_mut_slice.ensures.value))
 
 pub run_tiers-loop-tier-init : goal.run_tiers-loop-tier-init
 run_tiers-loop-tier-init g t c = tiers-start _ _ _ _ _ _ c.requires.within
@@ -105,12 +105,12 @@ run_group-run_entry-requires g t c κs within =
     let place = c.loop-entry.invariant.places c.loop-entry.entry-index c.entry-item.result (omega arith) in
     ((let down = c.decreases in omega (arith, down)), bounded within (omega arith, (own_lists, (own_slots, (just_slots, place)))))
 
-pub run_entry-returns-clause-stepped : goal.run_entry-returns-clause-stepped
-run_entry-returns-clause-stepped g t c =
-    let taken = rw c.as_slice-2.ensures.value at c.move_out.ensures.hand in
-    let left = rw c.as_slice-2.ensures.value at c.move_out.ensures.left in
-    let back = rw c.as_slice-5.ensures.value at c.move_back.ensures.back in
-    handed c.args.own.now c.move_out.new.table c.move_back.new.table c.move_out.new.hand c.run_work-outcome.new.own taken left back c.behind-nearest.ensures (rw (c.as_slice-3.ensures.value, c.as_slice-4.ensures.value) at c.run_work-outcome.ensures.stepped)
+pub run_in_hand-returns-clause-stepped : goal.run_in_hand-returns-clause-stepped
+run_in_hand-returns-clause-stepped g t c =
+    let taken = rw c.as_slice.ensures.value at c.move_out.ensures.hand in
+    let left = rw c.as_slice.ensures.value at c.move_out.ensures.left in
+    let back = rw c.as_slice-4.ensures.value at c.move_back.ensures.back in
+    handed c.args.own.now c.move_out.new.table c.move_back.new.table c.move_out.new.hand c.run_work-outcome.new.own taken left back c.behind-nearest.ensures (rw (c.as_slice-2.ensures.value, c.as_slice-3.ensures.value) at c.run_work-outcome.ensures.stepped)
 
 pub run_entry-returns-then-single-clause-stepped : goal.run_entry-returns-then-single-clause-stepped
 run_entry-returns-then-single-clause-stepped g t c = rw (c.as_slice.ensures.value, c.as_slice-then-single.ensures.value) at c.run_work.ensures.stepped
@@ -125,7 +125,7 @@ pub run_work-run_batch-requires : goal.run_work-run_batch-requires
 run_work-run_batch-requires g t c κs within =
     let below : c.depth_by-depth.result ≤ bound_of c.args.at = rule-below c.args.at c.args.work.now c.depth_by-depth.result c.depth_by-depth.ensures (omega arith) in
     let deep : 1 ≤ c.depth_by-depth.result = batch-deep (lists_of g.S.System.reads g.S.System.writes g.C.BatchController.reads g.C.BatchController.writes) c.args.at c.args.reads.now c.args.writes.now c.in-Batch.is c.depth_by-depth.ensures c.requires.own_lists in
-    ((let fall = c.decreases in omega (arith, deep, below, fall)), bounded within (record { own_slots = c.requires.own_slots; only_own = c.requires.only_own }, batch-within (lists_of g.S.System.reads g.S.System.writes g.C.BatchController.reads g.C.BatchController.writes) c.args.at c.args.reads.now c.args.writes.now c.in-Batch.is c.depth_by-depth.ensures c.requires.own_lists))
+    ((let fall = c.decreases in omega (arith, deep, below, fall)), bounded within (omega arith, (c.requires.own_slots, (c.requires.only_own, batch-within (lists_of g.S.System.reads g.S.System.writes g.C.BatchController.reads g.C.BatchController.writes) c.args.at c.args.reads.now c.args.writes.now c.in-Batch.is c.depth_by-depth.ensures c.requires.own_lists))))
 
 pub run_work-returns-in-System : goal.run_work-returns-in-System
 run_work-returns-in-System g t c =

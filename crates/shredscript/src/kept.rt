@@ -112,6 +112,12 @@ fn kept_at(kept: &[KeptNumber], place: usize) -> Option<usize>
     ensures kept { IfSome result (IsKeptAt kept.now place) }
     ensures none { IfNone result (has_place (map kept_place kept.now) place ≡ false) }
 {
+    // Mostly one number is kept, and then there is no search.
+    if let Some(first) = kept.first() {
+        if first.place == place {
+            return Some(0);
+        }
+    }
     kept.iter().position(|one| one.place == place)
 }
 
@@ -184,6 +190,7 @@ fn run_kept<N: Numbers>(
 
 /// Runs the steps over the numbers, up to the first that refuses, which the answer tells. Where there are many of them, the
 /// numbers that they name or write are read once before them, and what they write is written once after.
+#[inline(always)]
 pub fn run_declared<N: Numbers>(
     steps: &[Step],
     declared: &Declared,
@@ -196,11 +203,10 @@ pub fn run_declared<N: Numbers>(
     ensures left { N.seen numbers.new ≡ steps_left steps.now (N.seen numbers.old) }
     ensures keeps { N.keeps numbers.old numbers.new }
 {
-    if steps.len() / 4 < declared.written.len() {
-        return run_steps(steps, numbers);
+    if steps.len() / 4 >= declared.written.len() {
+        if let Some(outcome) = run_kept(steps, declared, numbers) {
+            return outcome;
+        }
     }
-    match run_kept(steps, declared, numbers) {
-        Some(outcome) => outcome,
-        None => run_steps(steps, numbers),
-    }
+    run_steps(steps, numbers)
 }

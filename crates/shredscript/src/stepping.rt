@@ -14,6 +14,7 @@ use shredscript_text::outcome::Refusal;
 use shredscript_text::step::{Operand, Operation, Step};
 
 /// Runs the steps over the numbers, up to the first that refuses, which the answer tells.
+#[inline(always)]
 pub fn run_steps<N: Numbers>(steps: &[Step], numbers: &mut N) -> Result<(), Fault<Refusal>>
     requires writes { All (AllowsStep N.allows numbers.old) steps.now }
     requires is_ready { N.is_ready numbers.old }
@@ -21,13 +22,16 @@ pub fn run_steps<N: Numbers>(steps: &[Step], numbers: &mut N) -> Result<(), Faul
     ensures left { N.seen numbers.new ≡ steps_left steps.now (N.seen numbers.old) }
     ensures keeps { N.keeps numbers.old numbers.new }
 {
-    for step in steps {
+    let mut left = steps;
+    while let Some((step, rest)) = left.split_first() {
         run_step(*step, numbers)?;
+        left = rest;
     }
     Ok(())
 }
 
 /// Runs one step.
+#[inline(always)]
 fn run_step<N: Numbers>(step: Step, numbers: &mut N) -> Result<(), Fault<Refusal>>
     requires writes { AllowsStep N.allows numbers.old step }
     requires is_ready { N.is_ready numbers.old }
@@ -41,12 +45,13 @@ fn run_step<N: Numbers>(step: Step, numbers: &mut N) -> Result<(), Fault<Refusal
             operation,
             operand,
         } => change(numbers, target, operation, operand),
-        Step::Read(_) | Step::Write(_) => Ok(()),
+        Step::Declare(_) => Ok(()),
         Step::Refuse(code) => Err(Fault::Refused(Refusal::Code(code))),
     }
 }
 
 /// Changes the target by what the operand stands for, which is looked up first.
+#[inline(always)]
 fn change<N: Numbers>(
     numbers: &mut N,
     target: usize,

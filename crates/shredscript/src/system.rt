@@ -59,6 +59,7 @@ impl System<Value> for ScriptSystem {
 
     ghost disposes = { λ _ seen outcome left. (outcome ≡ Ok tt) × (left ≡ seen) };
 
+    #[inline(always)]
     fn run(&mut self, view: &mut View<Value>) -> Result<(), Fault<Refusal>> {
         run_declared(self.steps.as_slice(), &self.declared, view)
     }

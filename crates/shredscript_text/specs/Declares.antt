@@ -4,10 +4,11 @@ use Rattle.std.specs.List.{list_any}
 use Rattle.shred_table.specs.declared.id.ResourceId.{ResourceId}
 use Rattle.shred_world.specs.declared.world.view.View.{View}
 use Rattle.shred_world.specs.Views.{may_write}
+use Rattle.shredscript_text.specs.declared.step.Declaration.TheVariants.{Read, Write}
 use Rattle.shredscript_text.specs.declared.step.Operand.{Operand}
 use Rattle.shredscript_text.specs.declared.step.Operand.TheVariants.{Number, Resource}
 use Rattle.shredscript_text.specs.declared.step.Step.{Step}
-use Rattle.shredscript_text.specs.declared.step.Step.TheVariants.{Change, Read, Write, Refuse}
+use Rattle.shredscript_text.specs.declared.step.Step.TheVariants.{Change, Declare, Refuse}
 use Rattle.shredscript_text.specs.declared.value.Value.{Value}
 use Rattle.shredscript_text.specs.Place.{id_at}
 
@@ -19,22 +20,21 @@ operand_place (Resource source) = Some source
 -- the resource that a step's operand names
 abbrev pub named_place : Step → Option ℕ
 named_place (Change target operation operand) = operand_place operand
-named_place (Read place) = None
-named_place (Write place) = None
+named_place (Declare declaration) = None
 named_place (Refuse code) = None
 
 -- the resource that a step declares to read
 abbrev pub read_place : Step → Option ℕ
 read_place (Change target operation operand) = operand_place operand
-read_place (Read place) = Some place
-read_place (Write place) = None
+read_place (Declare (Read place)) = Some place
+read_place (Declare (Write place)) = None
 read_place (Refuse code) = None
 
 -- the resource that a step declares to write
 abbrev pub write_place : Step → Option ℕ
 write_place (Change target operation operand) = Some target
-write_place (Read place) = None
-write_place (Write place) = Some place
+write_place (Declare (Read place)) = None
+write_place (Declare (Write place)) = Some place
 write_place (Refuse code) = None
 
 -- whether the place is in the list

@@ -1,12 +1,13 @@
 -- How the words of a line write the steps of a system, and the names that it depends on.
 use Rattle.std.specs.Prelude.{◌≡◌, ◌≢◌, ℕ, ◌==◌, ◌⊎◌, Some, List, [], ◌++◌, slice_get, codes}
 use Rattle.std.specs.List.{AllZip, slice_split}
+use Rattle.shredscript_text.specs.declared.step.Declaration.TheVariants.{Read, Write}
 use Rattle.shredscript_text.specs.declared.step.Operand.{Operand}
 use Rattle.shredscript_text.specs.declared.step.Operand.TheVariants.{Number, Resource}
 use Rattle.shredscript_text.specs.declared.step.Operation.{Operation}
 use Rattle.shredscript_text.specs.declared.step.Operation.TheVariants.{Add, Multiply, Set}
 use Rattle.shredscript_text.specs.declared.step.Step.{Step}
-use Rattle.shredscript_text.specs.declared.step.Step.TheVariants.{Change, Read, Write, Refuse}
+use Rattle.shredscript_text.specs.declared.step.Step.TheVariants.{Change, Declare, Refuse}
 use Rattle.shredscript_text.specs.Forms.{NamesSystem, WritesCode, WritesInteger}
 
 -- the sign of each operation
@@ -35,8 +36,8 @@ pub record WritesChange (declared : List (List ℕ)) (word : List ℕ) (target :
 -- the word writes this step: a change, the name of a declared resource behind `?` or `!`, or digits behind `refuse:`
 abbrev pub WritesStep : List (List ℕ) → List ℕ → Step → Type 0
 WritesStep declared word (Change target operation operand) = WritesChange declared word target operation operand
-WritesStep declared word (Read place) = (name : List ℕ) × (word ≡ codes "?" ++ name) × IsNameAt declared place name
-WritesStep declared word (Write place) = (name : List ℕ) × (word ≡ codes "!" ++ name) × IsNameAt declared place name
+WritesStep declared word (Declare (Read place)) = (name : List ℕ) × (word ≡ codes "?" ++ name) × IsNameAt declared place name
+WritesStep declared word (Declare (Write place)) = (name : List ℕ) × (word ≡ codes "!" ++ name) × IsNameAt declared place name
 WritesStep declared word (Refuse code) = (digits : List ℕ) × (word ≡ codes "refuse:" ++ digits) × WritesCode digits code
 
 -- the word writes these names: none where it is `-`, and else those that its parts between commas say

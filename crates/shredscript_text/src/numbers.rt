@@ -71,6 +71,7 @@ impl Numbers for View<'_, '_, Value> {
 
     ghost keeps = { ChangesWritten };
 
+    #[inline(always)]
     fn number(&self, place: usize) -> Result<i64, Fault<Refusal>> {
         match self.read::<i64>(id_at(place)) {
             Ok(number) => Ok(*number),
@@ -78,6 +79,7 @@ impl Numbers for View<'_, '_, Value> {
         }
     }
 
+    #[inline(always)]
     fn change(
         &mut self,
         place: usize,

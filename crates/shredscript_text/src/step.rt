@@ -38,6 +38,13 @@ impl Operand {
     }
 }
 
+/// What a step declares without using it.
+#[derive(Clone, Copy)]
+pub enum Declaration {
+    Read(usize),
+    Write(usize),
+}
+
 /// One step of a system. A resource goes by its place among the declared ones.
 #[derive(Clone, Copy)]
 pub enum Step {
@@ -46,8 +53,7 @@ pub enum Step {
         operation: Operation,
         operand: Operand,
     },
-    Read(usize),
-    Write(usize),
+    Declare(Declaration),
     Refuse(u32),
 }
 
@@ -57,9 +63,11 @@ impl Step {
         ensures { IfOk result (WritesStep (resource_names resources.now) word.now) }
     {
         if let Some(name) = word.strip_prefix('?') {
-            Ok(Step::Read(place_of(resource_name(name)?, resources)?))
+            let place = place_of(resource_name(name)?, resources)?;
+            Ok(Step::Declare(Declaration::Read(place)))
         } else if let Some(name) = word.strip_prefix('!') {
-            Ok(Step::Write(place_of(resource_name(name)?, resources)?))
+            let place = place_of(resource_name(name)?, resources)?;
+            Ok(Step::Declare(Declaration::Write(place)))
         } else if let Some(digits) = word.strip_prefix("refuse:") {
             Ok(Step::Refuse(refusal_code(digits)?))
         } else {
@@ -99,7 +107,7 @@ impl Step {
         ensures { result ≡ read_place self }
     {
         match self {
-            Step::Read(place) => Some(place),
+            Step::Declare(Declaration::Read(place)) => Some(place),
             _ => self.named_place(),
         }
     }
@@ -109,7 +117,8 @@ impl Step {
         ensures { result ≡ write_place self }
     {
         match self {
-            Step::Write(place) | Step::Change { target: place, .. } => Some(place),
+            Step::Change { target, .. } => Some(target),
+            Step::Declare(Declaration::Write(place)) => Some(place),
             _ => None,
         }
     }

@@ -90,7 +90,8 @@ where
     }
 }
 
-// A run of a batch: its controller begins, and the rounds follow.
+// A run of a batch: its controller begins, and the rounds follow. It makes the loan itself, so that a system's, which is made
+// elsewhere, need not stand in memory.
 #[cycle(beside)]
 fn run_batch<
     's,
@@ -305,10 +306,10 @@ where
 }
 
 // One step of what stands in the entry over its own hand, into which what it writes is moved before, and out of it after. It
-// stands apart so that an entry that is alone in its group makes no room for it.
+// stands apart so that an entry that is alone in its group takes no stack for what this one needs.
 #[inline(never)]
 #[cycle(beside)]
-fn run_in_hand<
+fn run_in_own_hand<
     R: Threads + Sync,
     V: ResourceValue + Drop + Send + Sync,
     S: System<V, Error = E> + Send,
@@ -394,7 +395,7 @@ where
             workers,
         )
     } else {
-        run_in_hand(rt, at, entry, written, shelf, own, workers)
+        run_in_own_hand(rt, at, entry, written, shelf, own, workers)
     }
 }
 

@@ -73,7 +73,8 @@ fn run_work<
     }
 }
 
-// A run of a batch: its controller begins, and the rounds follow.
+// A run of a batch: its controller begins, and the rounds follow. It makes the loan itself, so that a system's, which is made
+// elsewhere, need not stand in memory.
 #[cycle(in_order)]
 fn run_batch<
     's,
@@ -250,10 +251,10 @@ fn run_group<
 }
 
 // One step of what stands in the entry over its own hand, into which what it writes is moved before, and out of it after. It
-// stands apart so that an entry that is alone in its group makes no room for it.
+// stands apart so that an entry that is alone in its group takes no stack for what this one needs.
 #[inline(never)]
 #[cycle(in_order)]
-fn run_in_hand<
+fn run_in_own_hand<
     V: ResourceValue + Drop,
     S: System<V, Error = E>,
     C: BatchController<V, Error = E>,
@@ -323,7 +324,7 @@ fn run_entry<
             own,
         )
     } else {
-        run_in_hand(at, entry, written, shelf, own)
+        run_in_own_hand(at, entry, written, shelf, own)
     }
 }
 

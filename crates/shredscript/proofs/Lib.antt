@@ -1,5 +1,4 @@
 pub mod Declares
-pub mod InOrder
 pub mod Overlaid
 pub mod Lines
 pub mod Printed

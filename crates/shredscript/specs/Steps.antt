@@ -14,13 +14,13 @@ use Rattle.shredscript_text.specs.declared.value.Value.{Value}
 -- how one step ends on these values
 abbrev pub step_outcome : Step → Held Value → Outcome Refusal
 step_outcome (Change target operation operand) seen = change_outcome (changed seen target operation operand)
-step_outcome (Declare declaration) seen = Ok tt
+step_outcome (Declare declared) seen = Ok tt
 step_outcome (Refuse code) seen = Err (Refused (Code code))
 
 -- the values that one step leaves of these
 abbrev pub step_left : Step → Held Value → Held Value
 step_left (Change target operation operand) seen = change_left seen target (changed seen target operation operand)
-step_left (Declare declaration) seen = seen
+step_left (Declare declared) seen = seen
 step_left (Refuse code) seen = seen
 
 -- how the steps end, in order: as the first that is refused, or Done where none is

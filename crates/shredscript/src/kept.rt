@@ -112,7 +112,7 @@ fn kept_at(kept: &[KeptNumber], place: usize) -> Option<usize>
     ensures kept { IfSome result (IsKeptAt kept.now place) }
     ensures none { IfNone result (has_place (map kept_place kept.now) place ≡ false) }
 {
-    // Mostly one number is kept, and then there is no search.
+    // Mostly one number is written, so the first is looked at before the search.
     if let Some(first) = kept.first() {
         if first.place == place {
             return Some(0);

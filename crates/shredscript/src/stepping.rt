@@ -22,10 +22,10 @@ pub fn run_steps<N: Numbers>(steps: &[Step], numbers: &mut N) -> Result<(), Faul
     ensures left { N.seen numbers.new ≡ steps_left steps.now (N.seen numbers.old) }
     ensures keeps { N.keeps numbers.old numbers.new }
 {
-    let mut left = steps;
-    while let Some((step, rest)) = left.split_first() {
+    let mut ahead = steps;
+    while let Some((step, rest)) = ahead.split_first() {
         run_step(*step, numbers)?;
-        left = rest;
+        ahead = rest;
     }
     Ok(())
 }

@@ -4,11 +4,11 @@ use Rattle.std.specs.List.{list_any}
 use Rattle.shred_table.specs.declared.id.ResourceId.{ResourceId}
 use Rattle.shred_world.specs.declared.world.view.View.{View}
 use Rattle.shred_world.specs.Views.{may_write}
-use Rattle.shredscript_text.specs.declared.step.Declaration.TheVariants.{Read, Write}
 use Rattle.shredscript_text.specs.declared.step.Operand.{Operand}
 use Rattle.shredscript_text.specs.declared.step.Operand.TheVariants.{Number, Resource}
 use Rattle.shredscript_text.specs.declared.step.Step.{Step}
 use Rattle.shredscript_text.specs.declared.step.Step.TheVariants.{Change, Declare, Refuse}
+use Rattle.shredscript_text.specs.declared.step.Use.TheVariants.{Read, Write}
 use Rattle.shredscript_text.specs.declared.value.Value.{Value}
 use Rattle.shredscript_text.specs.Place.{id_at}
 
@@ -20,7 +20,7 @@ operand_place (Resource source) = Some source
 -- the resource that a step's operand names
 abbrev pub named_place : Step → Option ℕ
 named_place (Change target operation operand) = operand_place operand
-named_place (Declare declaration) = None
+named_place (Declare declared) = None
 named_place (Refuse code) = None
 
 -- the resource that a step declares to read

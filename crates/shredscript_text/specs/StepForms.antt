@@ -1,13 +1,13 @@
 -- How the words of a line write the steps of a system, and the names that it depends on.
 use Rattle.std.specs.Prelude.{◌≡◌, ◌≢◌, ℕ, ◌==◌, ◌⊎◌, Some, List, [], ◌++◌, slice_get, codes}
 use Rattle.std.specs.List.{AllZip, slice_split}
-use Rattle.shredscript_text.specs.declared.step.Declaration.TheVariants.{Read, Write}
 use Rattle.shredscript_text.specs.declared.step.Operand.{Operand}
 use Rattle.shredscript_text.specs.declared.step.Operand.TheVariants.{Number, Resource}
 use Rattle.shredscript_text.specs.declared.step.Operation.{Operation}
 use Rattle.shredscript_text.specs.declared.step.Operation.TheVariants.{Add, Multiply, Set}
 use Rattle.shredscript_text.specs.declared.step.Step.{Step}
 use Rattle.shredscript_text.specs.declared.step.Step.TheVariants.{Change, Declare, Refuse}
+use Rattle.shredscript_text.specs.declared.step.Use.TheVariants.{Read, Write}
 use Rattle.shredscript_text.specs.Forms.{NamesSystem, WritesCode, WritesInteger}
 
 -- the sign of each operation

@@ -38,9 +38,9 @@ impl Operand {
     }
 }
 
-/// What a step declares without using it.
+/// A use that a step declares, and does not make. A resource goes by its place among the declared ones.
 #[derive(Clone, Copy)]
-pub enum Declaration {
+pub enum Use {
     Read(usize),
     Write(usize),
 }
@@ -53,7 +53,7 @@ pub enum Step {
         operation: Operation,
         operand: Operand,
     },
-    Declare(Declaration),
+    Declare(Use),
     Refuse(u32),
 }
 
@@ -64,10 +64,10 @@ impl Step {
     {
         if let Some(name) = word.strip_prefix('?') {
             let place = place_of(resource_name(name)?, resources)?;
-            Ok(Step::Declare(Declaration::Read(place)))
+            Ok(Step::Declare(Use::Read(place)))
         } else if let Some(name) = word.strip_prefix('!') {
             let place = place_of(resource_name(name)?, resources)?;
-            Ok(Step::Declare(Declaration::Write(place)))
+            Ok(Step::Declare(Use::Write(place)))
         } else if let Some(digits) = word.strip_prefix("refuse:") {
             Ok(Step::Refuse(refusal_code(digits)?))
         } else {
@@ -107,7 +107,7 @@ impl Step {
         ensures { result ≡ read_place self }
     {
         match self {
-            Step::Declare(Declaration::Read(place)) => Some(place),
+            Step::Declare(Use::Read(place)) => Some(place),
             _ => self.named_place(),
         }
     }
@@ -118,7 +118,7 @@ impl Step {
     {
         match self {
             Step::Change { target, .. } => Some(target),
-            Step::Declare(Declaration::Write(place)) => Some(place),
+            Step::Declare(Use::Write(place)) => Some(place),
             _ => None,
         }
     }

@@ -105,8 +105,8 @@ run_group-run_entry-requires g t c κs within =
     let place = c.loop-entry.invariant.places c.loop-entry.entry-index c.entry-item.result (omega arith) in
     ((let down = c.decreases in omega (arith, down)), bounded within (omega arith, (own_lists, (own_slots, (just_slots, place)))))
 
-pub run_in_hand-returns-clause-stepped : goal.run_in_hand-returns-clause-stepped
-run_in_hand-returns-clause-stepped g t c =
+pub run_in_own_hand-returns-clause-stepped : goal.run_in_own_hand-returns-clause-stepped
+run_in_own_hand-returns-clause-stepped g t c =
     let taken = rw c.as_slice.ensures.value at c.move_out.ensures.hand in
     let left = rw c.as_slice.ensures.value at c.move_out.ensures.left in
     let back = rw c.as_slice-4.ensures.value at c.move_back.ensures.back in

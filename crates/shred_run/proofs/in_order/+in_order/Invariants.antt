@@ -11,8 +11,8 @@ use Rattle.shred_run.proofs.in_order.+in_order.Given as goal
 abbrev pub decreases-run_work : goal.decreases-run_work
 decreases-run_work g l = 32 * bound_of l.at + 1
 
-abbrev pub decreases-run_in_hand : goal.decreases-run_in_hand
-decreases-run_in_hand g l = 32 * bound_of l.at + 2
+abbrev pub decreases-run_in_own_hand : goal.decreases-run_in_own_hand
+decreases-run_in_own_hand g l = 32 * bound_of l.at + 2
 
 abbrev pub decreases-run_entry : goal.decreases-run_entry
 decreases-run_entry g l = 32 * bound_of l.at + 4

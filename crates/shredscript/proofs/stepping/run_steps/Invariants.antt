@@ -6,11 +6,11 @@ use Rattle.shredscript.proofs.stepping.run_steps.Given as goal
 
 abbrev pub invariant-loop-step : goal.invariant-loop-step
 invariant-loop-step g l = record {
-  outcome : steps_outcome l.left (g.N.Numbers.seen l.numbers) ≡ steps_outcome l.steps (g.N.Numbers.seen l.initial.numbers);
-  left : steps_left l.left (g.N.Numbers.seen l.numbers) ≡ steps_left l.steps (g.N.Numbers.seen l.initial.numbers);
-  writes : All (AllowsStep g.N.Numbers.allows l.initial.numbers) l.left;
+  outcome : steps_outcome l.ahead (g.N.Numbers.seen l.numbers) ≡ steps_outcome l.steps (g.N.Numbers.seen l.initial.numbers);
+  left : steps_left l.ahead (g.N.Numbers.seen l.numbers) ≡ steps_left l.steps (g.N.Numbers.seen l.initial.numbers);
+  writes : All (AllowsStep g.N.Numbers.allows l.initial.numbers) l.ahead;
   keeps : g.N.Numbers.keeps l.initial.numbers l.numbers;
 }
 
 abbrev pub decreases-loop-step : goal.decreases-loop-step
-decreases-loop-step g l = length l.left
+decreases-loop-step g l = length l.ahead

@@ -32,7 +32,7 @@ impl FromLine for Once {
 
 impl FromLine for ByRule {
     fn from_line(time: RunningTime, compiled: Compiled) -> Self {
-        let few = compiled.count / 4 < compiled.ids.writes.len();
+        let few = compiled.count / 8 < compiled.ids.writes.len();
         ByRule {
             few,
             time,

@@ -203,7 +203,7 @@ pub fn run_declared<N: Numbers>(
     ensures left { N.seen numbers.new ≡ steps_left steps.now (N.seen numbers.old) }
     ensures keeps { N.keeps numbers.old numbers.new }
 {
-    if steps.len() / 4 >= declared.written.len() {
+    if steps.len() / 8 >= declared.written.len() {
         if let Some(outcome) = run_kept(steps, declared, numbers) {
             return outcome;
         }

@@ -75,7 +75,7 @@ module _ {V S : Type 0} where
   abbrev pub is_single : Group V S → Bool
   is_single group = length group.entries.items == 1
 
-  -- An entry that is its group's only one runs over a table that has no slots but those that it writes; any other has room in its hand.
+  -- The place of an entry that is its group's only one is a table that has no slots but those that it writes; that of any other is room in its hand.
   abbrev pub HasPlace : Bool → Table V → GroupEntry V S → Type 0
   HasPlace true table entry = HasOnlySlots entry.writes.items table
   HasPlace false table entry = HasEntryRoom table entry

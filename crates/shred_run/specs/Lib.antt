@@ -16,6 +16,7 @@ pub mod NestedRecords
 pub mod NestedRuns
 pub mod Nesting
 pub mod Occupants
+pub mod OneBatch
 pub mod OwnDepth
 pub mod OwnFacts
 pub mod OwnLists
@@ -31,10 +32,10 @@ pub mod Sides
 pub mod Steppers
 pub mod Steps
 pub mod Texts
-pub mod TierTurns
 pub mod Time
 pub mod Touching
 pub mod Turns
+pub mod TurnsOver
 pub mod Dispatched
 pub mod WithinEntries
 pub mod WorkSetups

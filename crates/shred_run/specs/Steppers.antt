@@ -5,16 +5,9 @@ use Rattle.shred_run.specs.Steps.{Outcome, Step, declared_of}
 use Rattle.shred_table.specs.declared.id.Kind.{Kind}
 use Rattle.shred_table.specs.declared.id.ResourceId.{ResourceId}
 use Rattle.shred_table.specs.declared.table.Table.{Table}
-use Rattle.shred_table.specs.Shown.{Lent, shown, HasOwnSlots, IsSameSlots}
+use Rattle.shred_table.specs.Shown.{Lent, shown, IsSameSlots}
 use Rattle.shred_table.specs.Slots.{among}
-use Rattle.shred_world.specs.Views.{lent_slot}
-use Rattle.shred_run.specs.OwnSlots.{HasOnlySlots}
 use Rattle.shred_run.specs.declared.loan.Loan.{Loan}
-
--- The table has slots of written ids alone, and one for each for which one is lent.
-pub record HasLoanSlots {V : Type 0} (loan : Loan V) (own : Table V) : Type 0 where
-  pub own_slots : HasOwnSlots loan.writes.now (lent_slot loan.shelf.now) own
-  pub only_own : HasOnlySlots loan.writes.now own
 
 -- The step lies in the relation on what the two lists show; it keeps kinds, slots, the lists, and each value that is not written.
 pub record IsStepBy {V X E : Type 0} (kind : V → Kind) (own : X → List ResourceId → List ResourceId → Type 0) (step : Step V X E) (reads writes : List ResourceId) (lent : Lent V)

@@ -1,7 +1,7 @@
 //! A system's step and the two calls of a controller, over a table and what is lent behind it.
 ghost use Rattle.std.specs.Prelude.{◌≡◌, List, false, is_some};
 ghost use Rattle.std.specs.Option.{option_map};
-ghost use Rattle.shred_run.specs.Steppers.{HasLoanSlots};
+ghost use Rattle.shred_run.specs.OwnSlots.{LendsSome, LiesBefore};
 ghost use Rattle.shred_run.specs.Alone.{KeepsLists};
 ghost use Rattle.shred_run.specs.Controls.{keeping};
 ghost use Rattle.shred_run.specs.Kept.{AreOwnLists};
@@ -72,7 +72,7 @@ impl<V: ResourceValue, C: BatchController<V, Error = E>, E> Call<V, C, bool, E> 
     }
 }
 
-/// The call, over a table that has what may be written and nothing else.
+/// The call, over a table that has what may be written and nothing else, before what is lent shared.
 pub(crate) fn call_over<V: ResourceValue, C, A, E, K: Call<V, C, A, E>>(
     call: &K,
     loan: &Loan<V>,
@@ -80,7 +80,8 @@ pub(crate) fn call_over<V: ResourceValue, C, A, E, K: Call<V, C, A, E>>(
     own: &mut Table<V>,
 ) -> Result<A, Fault<E>>
     requires own_lists { AreOwnLists (K.reads_of on.old) (K.writes_of on.old) loan.now.reads.now loan.now.writes.now }
-    requires has { HasLoanSlots loan.now own.old }
+    requires has { LiesBefore loan.now.writes.now loan.now.shelf.now own.old }
+    requires behind { LendsSome loan.now.shelf.now }
     ensures lies { K.does on.old (declared_of (record { reads = loan.now.reads.now; writes = loan.now.writes.now }) (shown V.kind_of (lent_slot loan.now.shelf.now) own.old)) result on.new (declared_of (record { reads = loan.now.reads.now; writes = loan.now.writes.now }) (shown V.kind_of (lent_slot loan.now.shelf.now) own.new)) }
     ensures kinds { (id : ResourceId) → option_map V.kind_of (shown V.kind_of (lent_slot loan.now.shelf.now) own.new id) ≡ option_map V.kind_of (shown V.kind_of (lent_slot loan.now.shelf.now) own.old id) }
     ensures slots { IsSameSlots own.old own.new }
@@ -94,7 +95,7 @@ pub(crate) fn call_over<V: ResourceValue, C, A, E, K: Call<V, C, A, E>>(
     call.call(on, &mut view)
 }
 
-// One step of a system, over a table that has what it writes and nothing else.
+// One step of a system, over a table that has what it writes and nothing else, before what is lent shared.
 #[inline(always)]
 pub(crate) fn run_system<V: ResourceValue, S: System<V>>(
     loan: &Loan<V>,
@@ -102,7 +103,8 @@ pub(crate) fn run_system<V: ResourceValue, S: System<V>>(
     own: &mut Table<V>,
 ) -> Result<(), Fault<S::Error>>
     requires own_lists { AreOwnLists (S.reads system.old) (S.writes system.old) loan.now.reads.now loan.now.writes.now }
-    requires has { HasLoanSlots loan.now own.old }
+    requires has { LiesBefore loan.now.writes.now loan.now.shelf.now own.old }
+    requires behind { LendsSome loan.now.shelf.now }
     ensures lies { S.step system.old (declared_of (record { reads = loan.now.reads.now; writes = loan.now.writes.now }) (shown V.kind_of (lent_slot loan.now.shelf.now) own.old)) result system.new (declared_of (record { reads = loan.now.reads.now; writes = loan.now.writes.now }) (shown V.kind_of (lent_slot loan.now.shelf.now) own.new)) }
     ensures kinds { (id : ResourceId) → option_map V.kind_of (shown V.kind_of (lent_slot loan.now.shelf.now) own.new id) ≡ option_map V.kind_of (shown V.kind_of (lent_slot loan.now.shelf.now) own.old id) }
     ensures slots { IsSameSlots own.old own.new }

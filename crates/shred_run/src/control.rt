@@ -2,10 +2,9 @@
 ghost use Rattle.std.specs.Prelude.{◌≡◌, true, false};
 ghost use Rattle.std.specs.Option.{option_map};
 ghost use Rattle.shred_run.specs.KeptControllers.{control_access, IsOwnControl};
-ghost use Rattle.shred_run.specs.Steppers.{HasLoanSlots};
 ghost use Rattle.shred_run.specs.Rounds.{IsControlOver};
 ghost use Rattle.shred_run.specs.Kept.{AreOwnLists};
-ghost use Rattle.shred_run.specs.OwnSlots.{lent_before, HasOnlySlots};
+ghost use Rattle.shred_run.specs.OwnSlots.{lent_before, HasOnlySlots, LiesBefore};
 ghost use Rattle.shred_run.specs.Steps.{declared_of};
 ghost use Rattle.shred_table.specs.declared.id.ResourceId.{ResourceId};
 ghost use Rattle.shred_table.specs.Shown.{shown, HasOwnSlots, IsSameSlots};
@@ -36,7 +35,7 @@ fn call_in_hand<V: ResourceValue, C, A, E, K: Call<V, C, A, E>>(
     own: &Table<V>,
 ) -> Result<A, Fault<E>>
     requires own_lists { AreOwnLists (K.reads_of entry.old.controller) (K.writes_of entry.old.controller) entry.old.reads.items entry.old.writes.items }
-    requires has { HasLoanSlots loan.now own.now }
+    requires has { LiesBefore loan.now.writes.now loan.now.shelf.now own.now }
     requires hand_slots { HasOwnSlots entry.old.writes.items (lent_before own.now (lent_slot loan.now.shelf.now)) entry.old.hand }
     requires only_hand { HasOnlySlots entry.old.writes.items entry.old.hand }
     ensures lies { K.does entry.old.controller (declared_of (control_access entry.old) (shown V.kind_of (lent_before own.now (lent_slot loan.now.shelf.now)) entry.old.hand)) result entry.new.controller (declared_of (control_access entry.old) (shown V.kind_of (lent_before own.now (lent_slot loan.now.shelf.now)) entry.new.hand)) }
@@ -68,7 +67,7 @@ pub(crate) fn call_kept<V: ResourceValue + Drop, C, A, E, K: Call<V, C, A, E>>(
 ) -> Result<A, Fault<E>>
     requires own_lists { IsOwnControl K.reads_of K.writes_of entry.old }
     requires writes_within { (id : ResourceId) → among entry.old.writes.items id ≡ true → among loan.now.writes.now id ≡ true }
-    requires has { HasLoanSlots loan.now own.old }
+    requires has { LiesBefore loan.now.writes.now loan.now.shelf.now own.old }
     ensures ran { IsControlOver V.kind_of K.does (control_access entry.old) entry.old.controller (shown V.kind_of (lent_slot loan.now.shelf.now) own.old) result entry.new.controller (shown V.kind_of (lent_slot loan.now.shelf.now) own.new) }
     ensures slots { IsSameSlots own.old own.new }
     ensures own_lists { IsOwnControl K.reads_of K.writes_of entry.new }

@@ -64,7 +64,7 @@ pub struct GroupEntry<V, S> {
 }
 
 /// Entries that run one after the other. Beside them stand their ids, the ids that they write, and a slot for each of
-/// these, into which the value is moved while the group runs.
+/// these, into which the value is moved while the group runs, unless it is a batch that runs over the table itself.
 #[derive(Drop)]
 pub struct Group<V, S> {
     pub ids: ArrayVec<SystemId, 4>,

@@ -1,15 +1,16 @@
 //! One step of what stands in an entry, whose inner plans lead back here: one circle of functions, on the caller's thread.
-ghost use Rattle.std.specs.Prelude.{◌≡◌, ◌-◌, All};
+ghost use Rattle.std.specs.Prelude.{◌≡◌, ◌-◌, [], ◌∷◌, true, false, All};
 ghost use Rattle.shred_model.specs.Beside.{AllWent, AreApart};
 ghost use Rattle.shred_model.specs.Plan.{group_access};
-ghost use Rattle.shred_run.specs.Hands.{HasEntryRoom, HasPlace, KeepsRoom};
+ghost use Rattle.shred_run.specs.Hands.{HasEntryRoom, HasPlace, KeepsRoom, some_writes};
 ghost use Rattle.shred_run.specs.Turns.{TookTurn};
 ghost use Rattle.shred_table.specs.Slots.{held};
+ghost use Rattle.shred_run.specs.OneBatch.{is_batch, is_one_batch};
 ghost use Rattle.shred_run.specs.Lanes.{IsReady, GroupWent};
 ghost use Rattle.shred_run.specs.OwnLists.{IsEntryOf, IsGroupOf};
-ghost use Rattle.shred_run.specs.OwnSlots.{HasJustSlots, HasOnlySlots};
+ghost use Rattle.shred_run.specs.OwnSlots.{HasJustSlots, HasSlotsFor, LendsSome, LiesBefore};
 ghost use Rattle.shred_run.specs.PlanOf.{entry_plan, groups_plan};
-ghost use Rattle.shred_run.specs.Steppers.{HasLoanSlots, IsStepBy};
+ghost use Rattle.shred_run.specs.Steppers.{IsStepBy};
 ghost use Rattle.shred_run.specs.BatchRuns.{RanAsBatch};
 ghost use Rattle.shred_run.specs.Depths.{Owns, WorkStep, lists_of, relations_of};
 ghost use Rattle.shred_run.specs.KeptControllers.{control_access};
@@ -17,7 +18,7 @@ ghost use Rattle.shred_run.specs.OwnDepth.{OwnStep, OwnsItself};
 ghost use Rattle.shred_run.specs.Parts.{ArePartsWithin, KeepsParts, KeepsTiers};
 ghost use Rattle.shred_run.specs.Rounds.{Rounds};
 ghost use Rattle.shred_run.specs.Controls.{keeping};
-ghost use Rattle.shred_run.specs.TierTurns.{TookTierTurn};
+ghost use Rattle.shred_run.specs.TurnsOver.{TookTurnOver};
 ghost use Rattle.shred_run.specs.Works.{InnerRun, IsBatchWithin, IsTierWithin};
 ghost use Rattle.shred_run.specs.Rules.{RuleOwns, RuleStep};
 ghost use Rattle.shred_table.specs.declared.id.ResourceId.{ResourceId};
@@ -32,12 +33,14 @@ use crate::entry::{Group, GroupEntry, StageFault};
 use crate::fork::run_lanes_in_order;
 use crate::hands::{move_groups_back, move_groups_out};
 use crate::loan::{Loan, behind};
+use crate::one_batch::is_lone_batch;
 use crate::system::{Fault, System};
 use crate::work::{Batch, Nested, Tier, Work, within};
 use shred_world::parting::{move_back, move_out};
 use shred_world::{ResourceId, ResourceValue, Shelf, Table};
 
-// One step of what stands in an entry, a system or a batch, over a table that has what may be written and nothing else.
+// One step of what stands in an entry, a system or a batch, over a table that lies before what is lent shared. Nothing need be
+// lent to a batch: it lends its groups and its controller the table, out of which it moved what they write.
 #[inline(always)]
 #[cycle(in_order)]
 fn run_work<
@@ -50,13 +53,13 @@ fn run_work<
     at: Option<usize>,
     reads: &'s [ResourceId],
     writes: &'s [ResourceId],
-    shelf: &'s [Shelf<'s, V>; 1],
+    shelf: &'s [Shelf<'s, V>],
     work: &mut Work<S, Nested<V, S, C>>,
     own: &mut Table<V>,
 ) -> Result<(), Fault<E>>
     requires own_lists { (RuleOwns (lists_of S.reads S.writes C.reads C.writes) at) work.old reads.now writes.now }
-    requires own_slots { HasOwnSlots writes.now (lent_slot shelf.now) own.old }
-    requires only_own { HasOnlySlots writes.now own.old }
+    requires before { LiesBefore writes.now shelf.now own.old }
+    requires behind { is_batch work.old ≡ false → LendsSome shelf.now }
     ensures stepped { IsStepBy V.kind_of (RuleOwns (lists_of S.reads S.writes C.reads C.writes) at) (RuleStep V.kind_of (relations_of (lists_of S.reads S.writes C.reads C.writes) S.step C.begins C.asks) at) reads.now writes.now (lent_slot shelf.now) work.old own.old result work.new own.new }
 {
     let depth = depth_by(at, work);
@@ -87,11 +90,10 @@ fn run_batch<
     batch: &mut Batch<V, C, Work<S, Nested<V, S, C>>>,
     reads: &'s [ResourceId],
     writes: &'s [ResourceId],
-    shelf: &'s [Shelf<'s, V>; 1],
+    shelf: &'s [Shelf<'s, V>],
     own: &mut Table<V>,
 ) -> Result<(), Fault<E>>
-    requires own_slots { HasOwnSlots writes.now (lent_slot shelf.now) own.old }
-    requires only_own { HasOnlySlots writes.now own.old }
+    requires before { LiesBefore writes.now shelf.now own.old }
     requires within { IsBatchWithin C.reads C.writes (Owns (lists_of S.reads S.writes C.reads C.writes) less) reads.now writes.now batch.old }
     ensures { RanAsBatch V.kind_of (Owns (lists_of S.reads S.writes C.reads C.writes) less) (WorkStep V.kind_of (relations_of (lists_of S.reads S.writes C.reads C.writes) S.step C.begins C.asks) less) C.reads C.writes (keeping C.reads C.writes C.begins) (keeping C.reads C.writes C.asks) reads.now writes.now (lent_slot shelf.now) batch.old own.old result batch.new own.new }
 {
@@ -128,7 +130,7 @@ fn rounds<
     own: &mut Table<V>,
     most: usize,
 ) -> Result<(), Fault<E>>
-    requires has { HasLoanSlots loan.now own.old }
+    requires has { LiesBefore loan.now.writes.now loan.now.shelf.now own.old }
     requires parts { ArePartsWithin (Owns (lists_of S.reads S.writes C.reads C.writes) less) loan.now C.reads C.writes control.old tiers.old }
     ensures ran { Rounds V.kind_of (keeping C.reads C.writes C.asks) (control_access control.old) (InnerRun V.kind_of (WorkStep V.kind_of (relations_of (lists_of S.reads S.writes C.reads C.writes) S.step C.begins C.asks) less)) most control.old.controller tiers.old (shown V.kind_of (lent_slot loan.now.shelf.now) own.old) result control.new.controller tiers.new (shown V.kind_of (lent_slot loan.now.shelf.now) own.new) }
     ensures kept { KeepsParts V.kind_of (Owns (lists_of S.reads S.writes C.reads C.writes) less) loan.now C.reads C.writes control.old tiers.old own.old control.new tiers.new own.new }
@@ -160,7 +162,7 @@ fn run_tiers<
     tiers: &mut [Tier<V, Work<S, Nested<V, S, C>>>],
     own: &mut Table<V>,
 ) -> Result<(), StageFault<E>>
-    requires has { HasLoanSlots loan.now own.old }
+    requires has { LiesBefore loan.now.writes.now loan.now.shelf.now own.old }
     requires within { All (IsTierWithin (Owns (lists_of S.reads S.writes C.reads C.writes) less) loan.now.reads.now loan.now.writes.now) tiers.old }
     ensures ran { InnerRun V.kind_of (WorkStep V.kind_of (relations_of (lists_of S.reads S.writes C.reads C.writes) S.step C.begins C.asks) less) tiers.old (shown V.kind_of (lent_slot loan.now.shelf.now) own.old) result tiers.new (shown V.kind_of (lent_slot loan.now.shelf.now) own.new) }
     ensures kept { KeepsTiers V.kind_of (Owns (lists_of S.reads S.writes C.reads C.writes) less) loan.now tiers.old own.old tiers.new own.new }
@@ -173,7 +175,7 @@ fn run_tiers<
     Ok(())
 }
 
-// The turn of a tier: what each of its groups writes is moved into its hand, the groups run, and all goes back.
+// The turn of a tier.
 #[cycle(in_order)]
 fn turn<
     V: ResourceValue + Drop,
@@ -186,16 +188,81 @@ fn turn<
     loan: &Loan<V>,
     own: &mut Table<V>,
 ) -> Result<(), StageFault<E>>
-    requires has { HasLoanSlots loan.now own.old }
+    requires has { LiesBefore loan.now.writes.now loan.now.shelf.now own.old }
     requires within { IsTierWithin (Owns (lists_of S.reads S.writes C.reads C.writes) less) loan.now.reads.now loan.now.writes.now tier.old }
-    ensures { TookTierTurn V.kind_of (Owns (lists_of S.reads S.writes C.reads C.writes) less) (WorkStep V.kind_of (relations_of (lists_of S.reads S.writes C.reads C.writes) S.step C.begins C.asks) less) (lent_slot loan.now.shelf.now) tier.old.groups.items own.old result tier.new.groups.items own.new }
+    ensures { TookTurnOver V.kind_of (Owns (lists_of S.reads S.writes C.reads C.writes) less) (WorkStep V.kind_of (relations_of (lists_of S.reads S.writes C.reads C.writes) S.step C.begins C.asks) less) (lent_slot loan.now.shelf.now) tier.old.groups.items own.old result tier.new.groups.items own.new }
 {
     let groups = tier.groups.as_mut_slice();
+    turn_groups(Some(less), groups, &*loan.writes, &*loan.shelf, own)
+}
+
+// The turn of groups over a table that lies before what is lent shared. A batch that is alone, with nothing lent behind the
+// table, runs over the table itself; else what each group writes is moved into its hand, the groups run, and all goes back.
+#[inline(always)]
+#[cycle(in_order)]
+fn turn_groups<
+    V: ResourceValue + Drop,
+    S: System<V, Error = E>,
+    C: BatchController<V, Error = E>,
+    E: Drop,
+>(
+    at: Option<usize>,
+    groups: &mut [Group<V, Work<S, Nested<V, S, C>>>],
+    ids: &[ResourceId],
+    shelf: &[Shelf<V>],
+    own: &mut Table<V>,
+) -> Result<(), StageFault<E>>
+    requires own_lists { All (IsGroupOf (RuleOwns (lists_of S.reads S.writes C.reads C.writes) at)) groups.old }
+    requires room { All KeepsRoom groups.old }
+    requires apart { AreApart group_access (groups_plan groups.old) }
+    requires before { LiesBefore ids.now shelf.now own.old }
+    requires own_slots { HasSlotsFor (some_writes groups.old) (lent_slot shelf.now) own.old }
+    ensures { TookTurnOver V.kind_of (RuleOwns (lists_of S.reads S.writes C.reads C.writes) at) (RuleStep V.kind_of (relations_of (lists_of S.reads S.writes C.reads C.writes) S.step C.begins C.asks) at) (lent_slot shelf.now) groups.old own.old result groups.new own.new }
+{
+    if shelf.is_empty() && is_lone_batch(&*groups) {
+        return run_in_place(at, &mut groups[0], own);
+    }
     move_groups_out(groups, own);
-    let nearest = behind(&*own, &*loan.writes, &*loan.shelf);
-    let answer = run_groups(Some(less), &nearest, groups);
+    let nearest = behind(&*own, &*ids, &*shelf);
+    let answer = run_groups(at, &nearest, groups);
     move_groups_back(groups, own);
     answer
+}
+
+// The run of a group of one batch over the table itself, behind which nothing is lent: what it writes is not moved into the
+// group's hand. It stands apart so that other groups take no stack for it.
+#[inline(never)]
+#[cycle(in_order)]
+fn run_in_place<
+    V: ResourceValue + Drop,
+    S: System<V, Error = E>,
+    C: BatchController<V, Error = E>,
+    E: Drop,
+>(
+    at: Option<usize>,
+    group: &mut Group<V, Work<S, Nested<V, S, C>>>,
+    own: &mut Table<V>,
+) -> Result<(), StageFault<E>>
+    requires own_lists { IsGroupOf (RuleOwns (lists_of S.reads S.writes C.reads C.writes) at) group.old }
+    requires room { KeepsRoom group.old }
+    requires one { is_one_batch group.old.entries.items ≡ true }
+    ensures { TookTurnOver V.kind_of (RuleOwns (lists_of S.reads S.writes C.reads C.writes) at) (RuleStep V.kind_of (relations_of (lists_of S.reads S.writes C.reads C.writes) S.step C.begins C.asks) at) (lent_slot []) (group.old ∷ []) own.old result (group.new ∷ []) own.new }
+{
+    let entry = &mut group.entries[0];
+    match run_work(
+        at,
+        entry.reads.as_slice(),
+        entry.writes.as_slice(),
+        &[],
+        &mut entry.work,
+        own,
+    ) {
+        Ok(()) => Ok(()),
+        Err(fault) => Err(StageFault::System {
+            id: entry.id,
+            fault,
+        }),
+    }
 }
 
 // The groups, over what is lent shared, which nobody writes.
@@ -344,8 +411,5 @@ pub fn turn_in_order<
     requires apart { AreApart group_access (groups_plan groups.old) }
     ensures { TookTurn V.kind_of (OwnStep V.kind_of (relations_of (lists_of S.reads S.writes C.reads C.writes) S.step C.begins C.asks)) (OwnsItself (lists_of S.reads S.writes C.reads C.writes)) groups.old (held V.kind_of table.old) result groups.new (held V.kind_of table.new) }
 {
-    move_groups_out(groups, table);
-    let answer = run_groups(None, &[Shelf::Last(table)], groups);
-    move_groups_back(groups, table);
-    answer
+    turn_groups(None, groups, &[], &[], table)
 }

@@ -17,6 +17,7 @@ pub mod kept;
 pub mod loan;
 pub mod multi;
 pub mod no_batch;
+mod one_batch;
 pub mod setup;
 pub mod sorted;
 pub mod system;

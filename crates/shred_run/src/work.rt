@@ -28,6 +28,17 @@ pub enum Work<S, B> {
     Batch(B),
 }
 
+impl<S, B> Work<S, B> {
+    ghost use Rattle.shred_run.specs.OneBatch.{is_batch};
+
+    // Whether it is a batch.
+    pub(crate) fn is_batch(&self) -> bool
+        ensures { result ≡ is_batch self.now }
+    {
+        matches!(self, Work::Batch(_))
+    }
+}
+
 /// A batch whose inner plan holds systems and batches.
 #[derive(Drop)]
 pub struct Nested<V, S, C> {

@@ -1,5 +1,5 @@
--- The tiers of an inner plan, and the turn of each.
-use Rattle.std.proofs.Common.{◌≡◌, ℕ, ◌<◌, Bool, true, false, ◌||◌, List, [], ◌∷◌, length, get_or, refl, sym, ◌∙◌, ap, subst, ◌≤◌, ◌+◌, map, Ok, Err, Option, Some, None, cond}
+-- The tiers of an inner plan, and the turns of groups over a table.
+use Rattle.std.proofs.Common.{◌≡◌, ℕ, ◌<◌, Bool, true, false, ◌||◌, List, [], ◌∷◌, length, get_or, refl, sym, ◌∙◌, ap, subst, subst₂, ◌≤◌, ◌+◌, map, Ok, Err, Option, Some, None, cond}
 use Rattle.std.specs.List.{All, AllByRecursion, list_any, AllZip}
 use Rattle.std.proofs.Math.ListN.{set}
 use Rattle.std.proofs.Math.Seq.{map-set_same}
@@ -10,21 +10,22 @@ use Rattle.shred_model.specs.Plan.{group_access}
 use Rattle.shred_table.specs.declared.id.Kind.{Kind}
 use Rattle.shred_table.specs.declared.id.ResourceId.{ResourceId}
 use Rattle.shred_table.specs.declared.table.Table.{Table}
-use Rattle.shred_table.specs.Shown.{Lent, shown, IsSameSlots, HasOwnSlots}
-use Rattle.shred_table.specs.Slots.{slot_held, or_slot, among, slot_at}
+use Rattle.shred_table.specs.Shown.{Lent, shown, IsSameSlots}
+use Rattle.shred_table.specs.Slots.{held, slot_held, or_slot, among, slot_at}
 use Rattle.shred_model.specs.Runs.{Answer, Ran}
 use Rattle.shred_run.specs.declared.entry.Group.{Group}
 use Rattle.shred_run.specs.declared.entry.StageFault.{StageFault}
-use Rattle.shred_run.specs.Hands.{KeepsRoom, some_writes, IsMovedOut, IsBack, carried, FitsGroup, IsLeftEmpty, WriteApart, HasEmptyHand}
+use Rattle.shred_run.specs.Hands.{KeepsRoom, some_writes, IsMovedOut, IsBack, carried, FitsGroup, IsLeftEmpty, WriteApart}
 use Rattle.shred_run.specs.PlanOf.{groups_plan}
 use Rattle.shred_run.specs.Sides.{stage_side}
 use Rattle.shred_run.specs.declared.entry.Side.TheVariants.{Reads}
 use Rattle.shred_run.specs.Steps.{Step}
-use Rattle.shred_run.proofs.Runs.Hands.{still_has_slots, still_only_slots}
+use Rattle.shred_run.proofs.Runs.Hands.{none_of, own-first}
 use Rattle.shred_world.specs.Views.{lent_slot}
-use Rattle.shred_run.specs.Steppers.{HasLoanSlots}
 use Rattle.shred_run.specs.Parts.{KeepsLoan, KeepsTiers}
-use Rattle.shred_run.specs.TierTurns.{TookTierTurn}
+use Rattle.shred_run.specs.TurnsOver.{TookTurnOver}
+use Rattle.shred_run.specs.Turns.{TookTurn}
+use Rattle.shred_run.specs.OwnLists.{IsGroupOf}
 use Rattle.shred_run.specs.Works.{IsTierWithin, tier_plan, InnerRun, tier_numbers, tier_states, tiers_plan}
 use Rattle.shred_run.specs.declared.loan.Loan.{Loan}
 use Rattle.shred_run.specs.declared.work.Tier.{Tier}
@@ -34,10 +35,10 @@ use Rattle.shred_run.specs.Entries.{StageTurn}
 use Rattle.std.specs.Prelude.{is_some}
 use Rattle.shred_table.specs.declared.table.Slot.{Slot}
 use Rattle.shred_table.specs.Parting.{emptied, given, slot_value}
-use Rattle.shred_run.specs.OwnSlots.{lent_before}
+use Rattle.shred_run.specs.OwnSlots.{lent_before, HasSlotsFor}
 use Rattle.std.proofs.lemmas.List.Folds.{list_any_at}
 use Rattle.std.proofs.lemmas.Bool.{false_from_ne_true, false≢true}
-use Rattle.shred_run.proofs.Runs.Forked.{same-written, out-fits, zip-both, forked-back, ready-all, wrote, turn-taken}
+use Rattle.shred_run.proofs.Runs.Forked.{same-written, zip-both, forked-back, ready-all, wrote, turn-taken}
 use Rattle.shred_run.proofs.Groups.{list_any_decides}
 use Rattle.shred_run.specs.Lanes.{GroupWent, IsReady}
 
@@ -53,7 +54,7 @@ same-written_plan old new room left same q =
     written-by_plan new (recursion_from_All KeepsRoom new left) q ∙ ap (list_any (λ (p : model.Group ResourceId). among (group_access p).writes q)) same ∙ sym (written-by_plan old (recursion_from_All KeepsRoom old room) q)
 
 module _ {V X E : Type 0} (kind : V → Kind) (own : X → List ResourceId → List ResourceId → Type 0) (step : Step V X E) (reads writes : List ResourceId) (lent : Lent V) (old : Tier V X) (before : Table V) (answer : Answer (StageFault E)) (new : Tier V X) (after : Table V)
-    (within : IsTierWithin own reads writes old) (turn : TookTierTurn kind own step lent old.groups.items before answer new.groups.items after) where
+    (within : IsTierWithin own reads writes old) (turn : TookTurnOver kind own step lent old.groups.items before answer new.groups.items after) where
   -- a tier that took its turn is within the lists still
   pub within-after : IsTierWithin own reads writes new
   within-after = record {
@@ -66,16 +67,9 @@ module _ {V X E : Type 0} (kind : V → Kind) (own : X → List ResourceId → L
 
   -- what is not among the written ids is shown as before
   pub frame-after : (id : ResourceId) → among writes id ≡ false → shown kind lent after id ≡ shown kind lent before id
-  frame-after id out = ap (λ s. slot_held kind id (or_slot s (lent id))) (turn.others id (false_from_ne_true (some_writes old.groups.items id) (λ e. false≢true (sym out ∙ within.writes_within id e))))
+  frame-after id out = turn.others id (false_from_ne_true (some_writes old.groups.items id) (λ e. false≢true (sym out ∙ within.writes_within id e)))
 
 module _ {V : Type 0} (loan : Loan V) where
-  -- a table whose slots stay has those of the loan still
-  pub has-still : (before after : Table V) → IsSameSlots before after → HasLoanSlots loan before → HasLoanSlots loan after
-  has-still before after same has = record {
-    own_slots = still_has_slots loan.writes.now (lent_slot loan.shelf.now) before after same has.own_slots;
-    only_own = still_only_slots loan.writes.now before after same has.only_own;
-  }
-
   -- nothing changes
   pub keeps-all : (kind : V → Kind) (own : Table V) → KeepsLoan kind loan own own
   keeps-all kind own = record { kinds = λ id. refl; slots = λ id. refl; frame = λ id out. refl }
@@ -87,7 +81,7 @@ module _ {V : Type 0} (loan : Loan V) where
   module _ {X E : Type 0} (kind : V → Kind) (own : X → List ResourceId → List ResourceId → Type 0) (step : Step V X E) (start : List (Tier V X)) (before : Table V) where
     -- where one more tier took its turn, all of that stays
     pub tiers-more : (tiers : List (Tier V X)) (mid : Table V) → KeepsTiers kind own loan start before tiers mid → (k : ℕ) (d : Tier V X) → k < length tiers
-        → (answer : Answer (StageFault E)) (new : Tier V X) (after : Table V) → TookTierTurn kind own step (lent_slot loan.shelf.now) (get_or tiers k d).groups.items mid answer new.groups.items after
+        → (answer : Answer (StageFault E)) (new : Tier V X) (after : Table V) → TookTurnOver kind own step (lent_slot loan.shelf.now) (get_or tiers k d).groups.items mid answer new.groups.items after
         → KeepsTiers kind own loan start before (set tiers k new) after
     tiers-more tiers mid kept k d below answer new after turn =
         let here = kept.within k d below in
@@ -131,7 +125,7 @@ module _ {V X E : Type 0} {kind : V → Kind} {own : X → List ResourceId → L
     };
   }
 
-  module _ (d : Tier V X) (below : n < length tiers) {answer : Answer (StageFault E)} (new : Tier V X) {after : Table V} (turn : TookTierTurn kind own step (lent_slot loan.shelf.now) (get_or tiers n d).groups.items now answer new.groups.items after) where
+  module _ (d : Tier V X) (below : n < length tiers) {answer : Answer (StageFault E)} (new : Tier V X) {after : Table V} (turn : TookTurnOver kind own step (lent_slot loan.shelf.now) (get_or tiers n d).groups.items now answer new.groups.items after) where
     -- what one more turn keeps
     tiers-kept : KeepsTiers kind own loan start before (set tiers n new) after
     tiers-kept = tiers-more loan kind own step start before tiers now so_far.kept n d below answer new after turn
@@ -179,105 +173,90 @@ module _ {V : Type 0} where
   emptied-first (Some s) l has = refl
   emptied-first None l has = has refl ∙ ap emptied (sym (has refl))
 
-  pub own-first : (s l : Option (Slot V)) → (s ≡ None → l ≡ None) → s ≡ or_slot s l
-  own-first (Some s) l has = refl
-  own-first None l has = sym (has refl)
-
-module _ {V : Type 0} (lent : Lent V) (writes : List ResourceId) where
-  -- what was left empty in the table was left empty in what it shows before all that is lent
-  pub left-before : (own after : Table V) → HasOwnSlots writes lent own → (taken : ResourceId → Bool) → ((q : ResourceId) → taken q ≡ true → among writes q ≡ true)
-      → ((q : ResourceId) → slot_at after q ≡ cond (taken q) (emptied (slot_at own q)) (slot_at own q)) → (q : ResourceId) → lent_before after lent q ≡ cond (taken q) (emptied (lent_before own lent q)) (lent_before own lent q)
-  left-before own after has taken inside left q = ap (λ s. or_slot s (lent q)) (left q) ∙ told (taken q) refl where
-    told : (b : Bool) → taken q ≡ b → or_slot (cond b (emptied (slot_at own q)) (slot_at own q)) (lent q) ≡ cond b (emptied (lent_before own lent q)) (lent_before own lent q)
-    told true e = emptied-first (slot_at own q) (lent q) (has q (inside q e))
-    told false e = refl
-
-  -- the table has a slot still where one is lent
-  pub has-after : (own after : Table V) → HasOwnSlots writes lent own → (taken : ResourceId → Bool) → ((q : ResourceId) → slot_at after q ≡ cond (taken q) (emptied (slot_at own q)) (slot_at own q)) → HasOwnSlots writes lent after
-  has-after own after has taken left = still_has_slots writes lent own after (λ q. ap is_some (left q) ∙ emptied-is (taken q) (slot_at own q)) has
-
--- A table before what is lent shared, while the values of groups are moved out of it and back.
-module _ {V : Type 0} where
   -- a slot that is given a value is a slot still
   given-is : (v : Option V) (s : Option (Slot V)) → is_some (given v s) ≡ is_some s
   given-is (Some v) (Some s) = refl
   given-is (Some v) None = refl
   given-is None s = refl
 
-module _ {V : Type 0} (lent : Lent V) (writes : List ResourceId) where
-  -- what the groups write, these ids have
-  abbrev pub Within : {S : Type 0} → List (Group V S) → Type 0
-  Within groups = (q : ResourceId) → some_writes groups q ≡ true → among writes q ≡ true
+  -- what was left empty in the table was left empty in what it shows before all that is lent
+  pub left-before : (lent : Lent V) (own after : Table V) (taken : ResourceId → Bool) → HasSlotsFor taken lent own
+      → ((q : ResourceId) → slot_at after q ≡ cond (taken q) (emptied (slot_at own q)) (slot_at own q)) → (q : ResourceId) → lent_before after lent q ≡ cond (taken q) (emptied (lent_before own lent q)) (lent_before own lent q)
+  left-before lent own after taken has left q = ap (λ s. or_slot s (lent q)) (left q) ∙ told (taken q) refl where
+    told : (b : Bool) → taken q ≡ b → or_slot (cond b (emptied (slot_at own q)) (slot_at own q)) (lent q) ≡ cond b (emptied (lent_before own lent q)) (lent_before own lent q)
+    told true e = emptied-first (slot_at own q) (lent q) (has q e)
+    told false e = refl
 
-  each-within : {S : Type 0} (groups : List (Group V S)) → Within groups → All (λ x. (q : ResourceId) → among x.written.items q ≡ true → among writes q ≡ true) groups
-  each-within groups within k d below q there = within q (list_any_at (λ g. among g.written.items q) groups k d below there)
+-- The turn of groups, from the moving out of what they write to where all is back.
+module _ {V X : Type 0} {own : X → List ResourceId → List ResourceId → Type 0} (lent : Lent V) (groups : List (Group V X)) (owns : All (IsGroupOf own) groups) (room : All KeepsRoom groups) (apart : AreApart group_access (groups_plan groups))
+    (table : Table V) (has : HasSlotsFor (some_writes groups) lent table) (after : Table V) (out : List (Group V X)) (hands : AllZip (IsMovedOut (slot_at table)) groups out)
+    (gone : (q : ResourceId) → slot_at after q ≡ cond (some_writes groups q) (emptied (slot_at table q)) (slot_at table q)) where
+  -- no slot came or went
+  pub out-slots : IsSameSlots table after
+  out-slots q = ap is_some (gone q) ∙ emptied-is (some_writes groups q) (slot_at table q)
+
+  each-some : All (λ x. (q : ResourceId) → among x.written.items q ≡ true → some_writes groups q ≡ true) groups
+  each-some k d below q there = list_any_at (λ g. among g.written.items q) groups k d below there
 
   -- what was moved out of the table was moved out of what it shows before all that is lent
-  pub moved-before : {S : Type 0} (own : Table V) → HasOwnSlots writes lent own → (start out : List (Group V S)) → Within start → AllZip (IsMovedOut (slot_at own)) start out → AllZip (IsMovedOut (lent_before own lent)) start out
-  moved-before {S} own has start out within moved = zip-both (IsMovedOut (slot_at own)) (λ x. (q : ResourceId) → among x.written.items q ≡ true → among writes q ≡ true) (IsMovedOut (lent_before own lent))
-      (λ x y m inside. (m.0, λ q. m.1 q ∙ told x y m inside q (among y.written.items q) refl)) start out moved (each-within start within) where
-        told : (x y : Group V S) → IsMovedOut (slot_at own) x y → ((q : ResourceId) → among x.written.items q ≡ true → among writes q ≡ true) → (q : ResourceId) (b : Bool) → among y.written.items q ≡ b → cond b (carried (slot_at own q)) None ≡ cond b (carried (lent_before own lent q)) None
-        told x y m inside q true e = ap carried (own-first (slot_at own q) (lent q) (has q (inside q (sym (same-written x y m.0 q) ∙ e))))
-        told x y m inside q false e = refl
+  moved : AllZip (IsMovedOut (lent_before table lent)) groups out
+  moved = zip-both (IsMovedOut (slot_at table)) (λ x. (q : ResourceId) → among x.written.items q ≡ true → some_writes groups q ≡ true) (IsMovedOut (lent_before table lent)) (λ x y m some. (m.0, λ q. m.1 q ∙ told x y m some q (among y.written.items q) refl)) groups out hands each-some where
+    told : (x y : Group V X) → IsMovedOut (slot_at table) x y → ((q : ResourceId) → among x.written.items q ≡ true → some_writes groups q ≡ true) → (q : ResourceId) (b : Bool) → among y.written.items q ≡ b → cond b (carried (slot_at table q)) None ≡ cond b (carried (lent_before table lent q)) None
+    told x y m some q true e = ap carried (own-first (slot_at table q) (lent q) (has q (some q (sym (same-written x y m.0 q) ∙ e))))
+    told x y m some q false e = refl
 
-  -- what is put back into the table is put back into what it shows before all that is lent
-  pub back-before : {S : Type 0} (after end : Table V) → HasOwnSlots writes lent after → (ran : List (Group V S)) → Within ran → All (IsBack (slot_at after) (slot_at end)) ran → All (IsBack (lent_before after lent) (lent_before end lent)) ran
-  back-before after end has ran within back k d below q there =
-      ap (λ s. or_slot s (lent q)) (back k d below q there) ∙ given-first (slot_value (slot_at (get_or ran k d).hand q)) (slot_at after q) (lent q) (has q (each-within ran within k d below q there))
+  left : (q : ResourceId) → lent_before after lent q ≡ cond (some_writes groups q) (emptied (lent_before table lent q)) (lent_before table lent q)
+  left = left-before lent table after (some_writes groups) has gone
 
-  module _ {S : Type 0} (own after end : Table V) (ran : List (Group V S)) (back : All (IsBack (slot_at after) (slot_at end)) ran) (others : (q : ResourceId) → some_writes ran q ≡ false → slot_at end q ≡ slot_at after q)
-      (taken : ResourceId → Bool) (left : (q : ResourceId) → slot_at after q ≡ cond (taken q) (emptied (slot_at own q)) (slot_at own q)) where
-    -- no slot came or went
-    pub slots-kept : IsSameSlots own end
-    slots-kept q = told (some_writes ran q) refl ∙ ap is_some (left q) ∙ emptied-is (taken q) (slot_at own q) where
-      told : (b : Bool) → some_writes ran q ≡ b → is_some (slot_at end q) ≡ is_some (slot_at after q)
-      told false e = ap is_some (others q e)
-      told true e =
-          let some = (list_any_decides (λ g. among g.written.items q) (λ g. among g.written.items q ≡ true) (λ g. (λ h. h, λ h. h)) ran).0 e in
-          put some.1.0 some.0 some.1.1 (ap (λ g. among g.written.items q) some.1.2 ∙ some.2)
-        where
-          put : (k : ℕ) (d : Group V S) → k < length ran → among (get_or ran k d).written.items q ≡ true → is_some (slot_at end q) ≡ is_some (slot_at after q)
-          put k d below there = ap is_some (back k d below q there) ∙ given-is (slot_value (slot_at (get_or ran k d).hand q)) (slot_at after q)
-
--- The turn of a tier, from the moving out of what its groups write to where all is back.
-module _ {V X : Type 0} {own : X → List ResourceId → List ResourceId → Type 0} (loan : Loan V) {tier : Tier V X} (within : IsTierWithin own loan.reads.now loan.writes.now tier) where
-  -- its groups may be moved out
-  pub tier-out : {start : List (Group V X)} → start ≡ tier.groups.items → record { apart : WriteApart start; empty : All HasEmptyHand start }
-  tier-out is = subst (λ (start : List (Group V X)). record { apart : WriteApart start; empty : All HasEmptyHand start }) (sym is) (out-fits tier.groups.items within.room within.apart)
-
-  module _ {table : Table V} (after : Table V) {start : List (Group V X)} (out : List (Group V X)) {nearest : Lent V} (has : HasLoanSlots loan table) (is : start ≡ tier.groups.items) (hands : AllZip (IsMovedOut (slot_at table)) start out)
-      (gone : (q : ResourceId) → slot_at after q ≡ cond (some_writes start q) (emptied (slot_at table q)) (slot_at table q)) (behind : (q : ResourceId) → nearest q ≡ lent_before after (lent_slot loan.shelf.now) q) where
-    moved : AllZip (IsMovedOut (lent_before table (lent_slot loan.shelf.now))) tier.groups.items out
-    moved = moved-before (lent_slot loan.shelf.now) loan.writes.now table has.own_slots tier.groups.items out within.writes_within (subst (λ groups. AllZip (IsMovedOut (slot_at table)) groups out) is hands)
-
-    emptied-there : (q : ResourceId) → slot_at after q ≡ cond (some_writes tier.groups.items q) (emptied (slot_at table q)) (slot_at table q)
-    emptied-there = subst (λ groups. (q : ResourceId) → slot_at after q ≡ cond (some_writes groups q) (emptied (slot_at table q)) (slot_at table q)) is gone
-
-    left : (q : ResourceId) → lent_before after (lent_slot loan.shelf.now) q ≡ cond (some_writes tier.groups.items q) (emptied (lent_before table (lent_slot loan.shelf.now) q)) (lent_before table (lent_slot loan.shelf.now) q)
-    left = left-before (lent_slot loan.shelf.now) loan.writes.now table after has.own_slots (some_writes tier.groups.items) within.writes_within emptied-there
-
+  module _ (nearest : Lent V) (behind : (q : ResourceId) → nearest q ≡ lent_before after lent q) where
     -- the groups are ready
-    pub tier-ready : All (IsReady own nearest) out
-    tier-ready = subst (λ (shown : Lent V). All (IsReady own shown) out) (λ i q. sym (behind q) i) (ready-all own (lent_before table (lent_slot loan.shelf.now)) (lent_before after (lent_slot loan.shelf.now)) tier.groups.items out within.room within.owns moved left)
+    pub groups-ready : All (IsReady own nearest) out
+    groups-ready = subst (λ (shown : Lent V). All (IsReady own shown) out) (λ i q. sym (behind q) i) (ready-all own (lent_before table lent) (lent_before after lent) groups out room owns moved left)
 
     module _ {E : Type 0} (kind : V → Kind) (step : Step V X E) (answer : Answer (StageFault E)) (ran : List (Group V X)) (gone_by : AllWent (GroupWent kind step own nearest) out answer ran) where
-      went : AllWent (GroupWent kind step own (lent_before after (lent_slot loan.shelf.now))) out answer ran
+      went : AllWent (GroupWent kind step own (lent_before after lent)) out answer ran
       went = subst (λ (shown : Lent V). AllWent (GroupWent kind step own shown) out answer ran) (λ i q. behind q i) gone_by
 
       -- they may be moved back
-      pub tier-back : record { apart : WriteApart ran; fit : All FitsGroup ran }
-      tier-back = forked-back kind step own (lent_before table (lent_slot loan.shelf.now)) (lent_before after (lent_slot loan.shelf.now)) tier.groups.items out ran answer within.apart within.room moved left went
+      pub groups-back : record { apart : WriteApart ran; fit : All FitsGroup ran }
+      groups-back = forked-back kind step own (lent_before table lent) (lent_before after lent) groups out ran answer apart room moved left went
 
-      wrote_same : (q : ResourceId) → some_writes ran q ≡ some_writes tier.groups.items q
-      wrote_same = wrote kind step own (lent_before table (lent_slot loan.shelf.now)) (lent_before after (lent_slot loan.shelf.now)) tier.groups.items out ran answer within.apart within.room moved left went
+      wrote_same : (q : ResourceId) → some_writes ran q ≡ some_writes groups q
+      wrote_same = wrote kind step own (lent_before table lent) (lent_before after lent) groups out ran answer apart room moved left went
 
-      -- and where all is back, the tier took its turn
-      pub tier-took : (end : Table V) (done last : List (Group V X)) → All (IsBack (slot_at after) (slot_at end)) ran → ((q : ResourceId) → some_writes ran q ≡ false → slot_at end q ≡ slot_at after q) → AllZip IsLeftEmpty ran done → last ≡ done
-          → TookTierTurn kind own step (lent_slot loan.shelf.now) tier.groups.items table answer last end
-      tier-took end done last back others empty put = subst (λ groups. TookTierTurn kind own step (lent_slot loan.shelf.now) tier.groups.items table answer groups end) (sym put) (record {
-        took = turn-taken kind step own (lent_before table (lent_slot loan.shelf.now)) (lent_before after (lent_slot loan.shelf.now)) tier.groups.items out ran answer within.apart within.room moved left went (lent_before end (lent_slot loan.shelf.now))
-            (back-before (lent_slot loan.shelf.now) loan.writes.now after end (has-after (lent_slot loan.shelf.now) loan.writes.now table after has.own_slots (some_writes tier.groups.items) emptied-there) ran (λ q some. within.writes_within q (sym (wrote_same q) ∙ some)) back)
-            (λ q none. ap (λ s. or_slot s (lent_slot loan.shelf.now q)) (others q none)) done empty;
-        slots = slots-kept (lent_slot loan.shelf.now) loan.writes.now table after end ran back others (some_writes tier.groups.items) emptied-there;
-        others = λ q none. others q (wrote_same q ∙ none) ∙ emptied-there q ∙ ap (λ b. cond b (emptied (slot_at table q)) (slot_at table q)) none;
-      })
+      has-after : HasSlotsFor (some_writes ran) lent after
+      has-after q some none = has q (sym (wrote_same q) ∙ some) (none_of (slot_at table q) (sym (out-slots q) ∙ ap is_some none))
+
+      module _ (end : Table V) (done : List (Group V X)) (back : All (IsBack (slot_at after) (slot_at end)) ran) (others : (q : ResourceId) → some_writes ran q ≡ false → slot_at end q ≡ slot_at after q) (empty : AllZip IsLeftEmpty ran done) where
+        -- what is put back into the table is put back into what it shows before all that is lent
+        back-before : All (IsBack (lent_before after lent) (lent_before end lent)) ran
+        back-before k d below q there =
+            ap (λ s. or_slot s (lent q)) (back k d below q there) ∙ given-first (slot_value (slot_at (get_or ran k d).hand q)) (slot_at after q) (lent q) (has-after q (list_any_at (λ g. among g.written.items q) ran k d below there))
+
+        slots-kept : IsSameSlots table end
+        slots-kept q = told (some_writes ran q) refl ∙ out-slots q where
+          put : (k : ℕ) (d : Group V X) → k < length ran → among (get_or ran k d).written.items q ≡ true → is_some (slot_at end q) ≡ is_some (slot_at after q)
+          put k d below there = ap is_some (back k d below q there) ∙ given-is (slot_value (slot_at (get_or ran k d).hand q)) (slot_at after q)
+
+          told : (b : Bool) → some_writes ran q ≡ b → is_some (slot_at end q) ≡ is_some (slot_at after q)
+          told false e = ap is_some (others q e)
+          told true e =
+              let some = (list_any_decides (λ g. among g.written.items q) (λ g. among g.written.items q ≡ true) (λ g. (λ h. h, λ h. h)) ran).0 e in
+              put some.1.0 some.0 some.1.1 (ap (λ g. among g.written.items q) some.1.2 ∙ some.2)
+
+        -- and where all is back, they took their turn
+        pub groups-took : TookTurnOver kind own step lent groups table answer done end
+        groups-took = record {
+          took = turn-taken kind step own (lent_before table lent) (lent_before after lent) groups out ran answer apart room moved left went (lent_before end lent) back-before (λ q none. ap (λ s. or_slot s (lent q)) (others q none)) done empty;
+          slots = slots-kept;
+          others = λ q none. ap (λ s. slot_held kind q (or_slot s (lent q))) (others q (wrote_same q ∙ none) ∙ gone q ∙ ap (λ b. cond b (emptied (slot_at table q)) (slot_at table q)) none);
+        }
+
+-- A table with nothing lent behind it shows what it holds.
+shown-held : {V : Type 0} (kind : V → Kind) (table : Table V) (q : ResourceId) → shown kind (λ id. None) table q ≡ held kind table q
+shown-held kind table q = ap (slot_held kind q) (sym (own-first (slot_at table q) None (λ none. refl)))
+
+-- a turn over all that a table shows with nothing behind it is one over what it holds
+pub took-held : {V X E : Type 0} (kind : V → Kind) (own : X → List ResourceId → List ResourceId → Type 0) (step : Step V X E) (old : List (Group V X)) (before : Table V) (answer : Answer (StageFault E)) (new : List (Group V X)) (after : Table V)
+    → TookTurnOver kind own step (λ id. None) old before answer new after → TookTurn kind step own old (held kind before) answer new (held kind after)
+took-held {V} kind own step old before answer new after turn = subst₂ (λ (x y : ResourceId → Option V). TookTurn kind step own old x answer new y) (λ i q. shown-held kind before q i) (λ i q. shown-held kind after q i) turn.took

@@ -1,9 +1,9 @@
 -- Groups that run over their hands, and what they leave.
-use Rattle.std.proofs.Common.{ℕ, List, [], ◌∷◌, Contains, subst, ◌≡◌, Bool, false, map, refl, zero, suc, ◌<◌, true, ◌&&◌, Option, Some, None, cond, length, get_or, sym, ◌∙◌, ap, inl, inr, arith, append-nil}
+use Rattle.std.proofs.Common.{ℕ, List, [], ◌∷◌, Contains, subst, ◌≡◌, Bool, false, map, refl, zero, suc, ◌<◌, true, ◌&&◌, Option, Some, None, cond, length, get_or, sym, ◌∙◌, ap, inl, inr, arith, append-nil, Ok, Err}
 use Rattle.std.specs.List.{AllByRecursion, list_any, All, AllZip, flat_map}
 use Rattle.shred_model.specs.Access.{Access, Declares, Conflicts}
 use Rattle.shred_model.specs.Plan as model
-use Rattle.shred_model.specs.Runs.{Answer, Ran}
+use Rattle.shred_model.specs.Runs.{Answer, Ran, first_fault}
 use Rattle.shred_model.proofs.Records.Framed.{AllByRecursion-same}
 use Rattle.shred_model.proofs.Records.Within.{IsWithin, RunsUpToFault-within}
 use Rattle.shred_table.specs.declared.id.Kind.{Kind}
@@ -392,3 +392,19 @@ module _ {V S E : Type 0} (kind : V → Kind) (step : Step V S E) (own : S → L
             ap (λ written. written.items) (e.3.written ∙ e.1.0.written) ∙ keeps.same_writes ∙ ap (λ g. (group_access g).writes) (sym (e.3.plan ∙ same-plan x e.0 e.1.0))) start ran ended room);
         kinds = forked-kinds;
       }
+
+-- A group that ran alone, over what is held, leaves what its stage leaves.
+module _ {V S E : Type 0} (kind : V → Kind) (step : Step V S E) (x y : Group V S) (before after : ResourceId → Option V) (a : Answer (StageFault E)) (plan : group_plan y ≡ group_plan x)
+    (ran : Ran (GroupRun kind step 0 (group_plan x)) (configuration_of (group_states x) before) a (configuration_of (group_states y) after))
+    (frame : (i : ResourceId) → (Contains (group_access (group_plan x)).writes i → ⊥) → after i ≡ before i) where
+  first : (b : Answer (StageFault E)) → b ≡ first_fault b (Ok tt)
+  first (Ok done) = refl
+  first (Err fault) = refl
+
+  pub stage-of_one : Ran (StageTurn kind step (groups_plan (x ∷ []))) (configuration_of (listed_states group_states (x ∷ [])) before) a (configuration_of (listed_states group_states (y ∷ [])) after)
+  stage-of_one =
+      let Run = λ (p : model.Group ResourceId) (list : List (Written V S E)) (b : Answer (StageFault E)). GroupRun kind step 0 p list b in
+      let leaves = beside_as_one_thread tell_ids Run group_plan group_states (λ (values : ResourceId → Option V). values) group_access (group-within kind step) (x ∷ []) (before ∷ []) a (y ∷ []) (after ∷ []) before after
+      (a, Ok tt, ran, plan, refl, first a) (λ i j d lt below. absurd (omega (arith, lt, below))) ((λ i d. refl), tt) ((λ i w. refl), tt) (λ i none. frame i (λ w. none (0, group_plan x, omega arith, refl, w))) in
+      Ran-as (StageRun kind step (groups_plan (x ∷ []))) _ a _ (StageTurn kind step (groups_plan (x ∷ []))) a (λ list is. inl is)
+      (Ran-of_one_thread (λ list b. StageRun kind step (groups_plan (x ∷ [])) list b) (configuration_of (listed_states group_states (x ∷ [])) before) a (configuration_of (listed_states group_states (y ∷ [])) after) leaves)

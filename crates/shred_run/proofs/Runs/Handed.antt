@@ -11,7 +11,7 @@ use Rattle.shred_table.specs.Shown.{Lent, shown, IsSameSlots, HasOwnSlots}
 use Rattle.shred_table.specs.Slots.{slot_at, slot_held, among, or_slot}
 use Rattle.shred_run.specs.Hands.{carried}
 use Rattle.shred_run.specs.OwnSlots.{lent_held, lent_before}
-use Rattle.shred_run.proofs.Runs.Hands.{moved-in, none_of, carried-there}
+use Rattle.shred_run.proofs.Runs.Hands.{moved-in, none_of, carried-there, own-first, still_has_slots}
 use Rattle.shred_run.proofs.Runs.Forked.{hand-shows, hand-puts}
 use Rattle.shred_run.specs.Alone.{KeepsKinds}
 use Rattle.shred_run.specs.Steps.{declared_of, Outcome, Step}
@@ -20,7 +20,7 @@ use Rattle.shred_run.specs.KeptControllers.{control_access}
 use Rattle.shred_run.specs.Controls.{Control}
 use Rattle.shred_run.specs.Rounds.{IsControlOver}
 use Rattle.shred_run.specs.declared.control.KeptController.{KeptController}
-use Rattle.shred_run.proofs.Circle.Tiers.{left-before, has-after, given-first, own-first}
+use Rattle.shred_run.proofs.Circle.Tiers.{emptied-is, given-first, left-before}
 use Rattle.shred_world.specs.Worked.{Held}
 use Rattle.shred_run.specs.Steppers.{IsStepBy}
 
@@ -84,9 +84,9 @@ module _ {V C : Type 0} (kind : V → Kind) (lent : Lent V) (writes : List Resou
       → IsControlOver kind control (control_access entry) entry.controller (shown kind lent own) answer new (shown kind lent end)
   controlled control answer new lies frame =
       let taken = entry.writes.items in
-      let left = left-before lent writes own after has (among taken) within from in
+      let left = left-before lent own after (among taken) (λ q e. has q (within q e)) from in
       let filled = moved-to lent writes taken within own entry.hand hand has to in
-      let put = put-before lent writes taken within after ran end (has-after lent writes own after has (among taken) from) back in
+      let put = put-before lent writes taken within after ran end (still_has_slots writes lent own after (λ q. ap is_some (from q) ∙ emptied-is (among taken q) (slot_at own q)) has) back in
       let shows = shows-held (lent_before own lent) (lent_before after lent) taken entry.hand hand empty left filled kind in
       let ends = held-shows (lent_before own lent) (lent_before after lent) taken entry.hand hand empty left filled ran (lent_before end lent) same put kind kinds in
       let first = declared_of (control_access entry) (shown kind (lent_before after lent) hand) in

@@ -1,15 +1,17 @@
 -- What a view over a table shows of the declared ids.
 use Rattle.std.proofs.Common.{◌≡◌, Bool, true, false, ◌&&◌, ◌||◌, Option, Some, None, cond, List, refl, sym, ◌∙◌, ap, ℕ, zero, suc, ◌<◌, ◌≤◌, ◌+◌, [], ◌∷◌, length, get_or, take, arith, IsTrue, add-one}
-use Rattle.std.specs.Prelude.{is_some}
+use Rattle.std.specs.Prelude.{is_some, ◌==◌}
+use Rattle.std.proofs.lemmas.Bool.Decides.{nat_tests}
 use Rattle.shred_table.specs.declared.id.Kind.{Kind}
 use Rattle.shred_table.specs.declared.id.ResourceId.{ResourceId}
 use Rattle.shred_table.specs.declared.table.Slot.{Slot}
 use Rattle.shred_table.specs.declared.table.Table.{Table}
+use Rattle.shred_world.specs.declared.world.view.Shelf.{Shelf}
 use Rattle.shred_world.specs.declared.world.view.View.{View}
 use Rattle.shred_table.specs.Shown.{Lent, shown, HasOwnSlots, IsSameSlots}
 use Rattle.shred_table.specs.Slots.{slot_at, slot_held, or_slot, among, of_kind}
-use Rattle.shred_world.specs.Views.{lent_slot, is_whole, is_own, may_read, view_held, declared_held}
-use Rattle.shred_run.specs.OwnSlots.{HasOnlySlots}
+use Rattle.shred_world.specs.Views.{lent_slot, shelf_slot, is_whole, is_own, may_read, view_held, declared_held}
+use Rattle.shred_run.specs.OwnSlots.{HasOnlySlots, LiesBefore}
 use Rattle.shred_run.specs.Steps.{declared_of}
 use Rattle.std.specs.Option.{option_map}
 use Rattle.shred_table.specs.Parting.{emptied, given, slot_value, IsRoom}
@@ -44,6 +46,22 @@ module _ {V : Type 0} (kind : V → Kind) (v : View V) (reads writes : List Reso
   pub declared_shown : declared_held kind v ≡ declared_of (record { reads = reads; writes = writes }) (shown kind lent own)
   declared_shown = λ i q. cond (readable q i) (shows q i) None
 
+-- the first slot is shown, where the second is none unless there is a first
+pub own-first : {V : Type 0} (s l : Option (Slot V)) → (s ≡ None → l ≡ None) → s ≡ or_slot s l
+own-first (Some s) l has = refl
+own-first None l has = sym (has refl)
+
+-- a table that lies before what is lent shared shows of these ids its slots, and of all others what is lent
+pub shown-first : {V : Type 0} (ids : List ResourceId) (own : Table V) (shelf : List (Shelf V)) → LiesBefore ids shelf own → (q : ResourceId)
+    → cond ((length shelf == 0) || among ids q) (slot_at own q) (lent_slot shelf q) ≡ or_slot (slot_at own q) (lent_slot shelf q)
+shown-first ids own [] before q = own-first (slot_at own q) None (λ none. refl)
+shown-first {V} ids own (x ∷ rest) before q =
+    let some : (length (x ∷ rest) == 0) ≡ false = grind (arith, nat_tests) in
+    ap (λ (b : Bool). cond (b || among ids q) (slot_at own q) (shelf_slot x q)) some ∙ told some (among ids q) refl where
+      told : (length (x ∷ rest) == 0) ≡ false → (b : Bool) → among ids q ≡ b → cond b (slot_at own q) (shelf_slot x q) ≡ or_slot (slot_at own q) (shelf_slot x q)
+      told some true e = own-first (slot_at own q) (shelf_slot x q) (before.own_slots q e)
+      told some false e = ap (λ (s : Option (Slot V)). or_slot s (shelf_slot x q)) (sym (before.only_own some q e))
+
 pub none_of : {A : Type 0} (o : Option A) → is_some o ≡ false → o ≡ None
 none_of (Some s) h = absurd (cc)
 none_of None h = refl
@@ -59,6 +77,10 @@ still_has_slots ids lent old new same has q e none = has q e (none_of (slot_at o
 -- and it has no other slot still
 pub still_only_slots : {V : Type 0} (ids : List ResourceId) (old new : Table V) → ((q : ResourceId) → is_some (slot_at new q) ≡ is_some (slot_at old q)) → HasOnlySlots ids old → HasOnlySlots ids new
 still_only_slots ids old new same only q out = none_of (slot_at new q) (same q ∙ ap is_some (only q out))
+
+-- and it lies before what is lent shared still
+pub still_before : {V : Type 0} (ids : List ResourceId) (shelf : List (Shelf V)) (old new : Table V) → IsSameSlots old new → LiesBefore ids shelf old → LiesBefore ids shelf new
+still_before ids shelf old new same before = record { own_slots = still_has_slots ids (lent_slot shelf) old new same before.own_slots; only_own = λ some. still_only_slots ids old new same (before.only_own some) }
 
 -- Slots of hands, as values are moved in and out.
 -- room stays while no slot of the table comes or goes

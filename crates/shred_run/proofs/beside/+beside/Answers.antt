@@ -1,12 +1,23 @@
-use Rattle.std.proofs.Common.{◌≡◌, ℕ, ◌≤◌, ◌==◌, ◌+◌, ◌-◌, Ok, List, length, refl, sym, ◌∙◌, ap, subst, arith, rules}
+use Rattle.std.proofs.Common.{◌≡◌, ℕ, ◌≤◌, ◌==◌, ◌+◌, ◌-◌, Ok, List, length, refl, sym, ◌∙◌, ap, subst, subst₂, get_or, arith, rules, All, None, true, Err, ◌∷◌, []}
 use Rattle.shred_run.proofs.Runs.Handed.{handed}
-use Rattle.shred_run.proofs.Circle.Tiers.{has-still, tiers-end, tiers-fault, tiers-next, tiers-start, tier-back, tier-out, tier-ready, tier-took}
-use Rattle.shred_run.specs.Depths.{lists_of, relations_of}
+use Rattle.shred_run.proofs.Circle.Tiers.{tiers-end, tiers-fault, tiers-next, tiers-start, groups-back, groups-ready, groups-took, out-slots}
+use Rattle.shred_run.specs.Depths.{Owns, WorkStep, lists_of, relations_of}
 use Rattle.shred_run.specs.declared.work.Nested.TheViews.{out-roll-Nested}
 use Rattle.shred_run.proofs.Called.{AllWent-called}
 use Rattle.shred_run.proofs.Circle.Entries.{entries-more, entries-start, entry-slots, group-done, group-faulted}
+use Rattle.shred_model.specs.Beside.{AreApart}
+use Rattle.shred_model.specs.Plan.{group_access}
+use Rattle.shred_run.specs.Hands.{KeepsRoom, some_writes}
+use Rattle.shred_run.specs.OwnLists.{IsGroupOf}
+use Rattle.shred_run.specs.PlanOf.{groups_plan}
+use Rattle.shred_run.specs.TurnsOver.{TookTurnOver}
+use Rattle.shred_run.proofs.Runs.Forked.{out-fits}
+use Rattle.shred_run.proofs.Runs.Hands.{still_before}
 use Rattle.shred_run.specs.Lanes.{GroupWent, IsReady}
-use Rattle.shred_table.specs.Slots.{among}
+use Rattle.shred_run.specs.Entries.{entry_answer}
+use Rattle.shred_run.specs.declared.entry.StageFault.TheVariants.{System}
+use Rattle.shred_run.proofs.Circle.OneBatch.{one-entry, one-took, took-of_one}
+use Rattle.shred_table.specs.Slots.{among, slot_at}
 use Rattle.shred_table.specs.declared.id.ResourceId.{ResourceId}
 use Rattle.shred_world.specs.Views.{lent_slot}
 use Rattle.std.proofs.Math.ListN.{length-set, set}
@@ -39,7 +50,7 @@ run_batch-returns-in-Ok g t c =
 
 pub run_batch-rounds-requires : goal.run_batch-rounds-requires
 run_batch-rounds-requires g t c κs within =
-    ((let down = c.decreases in omega (arith, down)), bounded_beside within (search rules, (search rules, (search rules, (search rules, (search rules, (search rules, (search rules, (search rules, (has-still _ c.args.own.now c.call_kept.new.own c.call_kept.ensures.slots (record { own_slots = c.requires.own_slots; only_own = c.requires.only_own }), parts-begun _ c.requires.within c.call_kept.new.entry c.call_kept.ensures.own_lists c.call_kept.ensures.access c.as_mut_slice.ensures.value))))))))))
+    ((let down = c.decreases in omega (arith, down)), bounded_beside within (search rules, (search rules, (search rules, (search rules, (search rules, (search rules, (search rules, (search rules, (still_before c.args.writes.now c.args.shelf.now c.args.own.now c.call_kept.new.own c.call_kept.ensures.slots c.requires.before, parts-begun _ c.requires.within c.call_kept.new.entry c.call_kept.ensures.own_lists c.call_kept.ensures.access c.as_mut_slice.ensures.value))))))))))
 
 pub run_tiers-loop-tier-init : goal.run_tiers-loop-tier-init
 run_tiers-loop-tier-init g t c = tiers-start _ _ _ _ _ _ c.requires.within
@@ -55,22 +66,55 @@ run_tiers-returns-in-Err g t c = tiers-fault c.loop-tier.invariant c.tier-item.r
 
 pub run_tiers-turn-requires : goal.run_tiers-turn-requires
 run_tiers-turn-requires g t c κs within =
-    ((let down = c.decreases in omega (arith, down)), bounded_beside within (search rules, (search rules, (search rules, (search rules, (search rules, (search rules, (search rules, (search rules, (has-still c.args.loan.now c.args.own.now c.loop-tier.own c.loop-tier.invariant.kept.keeps.slots c.requires.has, c.loop-tier.invariant.kept.within c.loop-tier.tier-index c.tier-item.result (omega arith)))))))))))
+    ((let down = c.decreases in omega (arith, down)), bounded_beside within (search rules, (search rules, (search rules, (search rules, (search rules, (search rules, (search rules, (search rules, (still_before c.args.loan.now.writes.now c.args.loan.now.shelf.now c.args.own.now c.loop-tier.own c.loop-tier.invariant.kept.keeps.slots c.requires.has, c.loop-tier.invariant.kept.within c.loop-tier.tier-index c.tier-item.result (omega arith)))))))))))
 
-pub turn-move_groups_out-requires : goal.turn-move_groups_out-requires
-turn-move_groups_out-requires g t c = tier-out c.args.loan.now c.requires.within c.as_mut_slice-groups.ensures.value
-
-pub turn-run_groups-answer-requires : goal.turn-run_groups-answer-requires
-turn-run_groups-answer-requires g t c κs within =
-    ((let down = c.decreases in omega (arith, down)), bounded_beside within (search rules, (search rules, (search rules, (search rules, (search rules, (search rules, (search rules, (search rules, (omega arith, tier-ready c.args.loan.now c.requires.within c.move_groups_out.new.table c.move_groups_out.new.groups c.requires.has c.as_mut_slice-groups.ensures.value c.move_groups_out.ensures.hands c.move_groups_out.ensures.left c.behind-nearest.ensures))))))))))
-
-pub turn-move_groups_back-requires : goal.turn-move_groups_back-requires
-turn-move_groups_back-requires g t c = tier-back c.args.loan.now c.requires.within c.move_groups_out.new.table c.move_groups_out.new.groups c.requires.has c.as_mut_slice-groups.ensures.value c.move_groups_out.ensures.hands c.move_groups_out.ensures.left c.behind-nearest.ensures _ _ c.run_groups-answer.result c.run_groups-answer.new.groups c.run_groups-answer.ensures
+pub turn-turn_groups-requires : goal.turn-turn_groups-requires
+turn-turn_groups-requires g t c κs within =
+    let groups = sym c.as_mut_slice-groups.ensures.value in
+    let slots : (id : ResourceId) → some_writes c.as_mut_slice-groups.result.now id ≡ true → slot_at c.args.own.now id ≡ None → lent_slot c.args.loan.now.shelf.now id ≡ None = λ id some none. c.requires.has.own_slots id (c.requires.within.writes_within id (ap (λ groups. some_writes groups id) groups ∙ some)) none in
+    ((let down = c.decreases in omega (arith, down)), bounded_beside within (search rules, (search rules, (search rules, (search rules, (search rules, (search rules, (search rules, (search rules, (subst (All (IsGroupOf _)) groups c.requires.within.owns, (subst (All KeepsRoom) groups c.requires.within.room, (subst (λ groups. AreApart group_access (groups_plan groups)) groups c.requires.within.apart, (c.requires.has, slots)))))))))))))
 
 pub turn-returns : goal.turn-returns
 turn-returns g t c =
-    let same : length c.move_groups_back.new.groups ≡ c.args.tier.now.groups.len = search rules in
-    tier-took c.args.loan.now c.requires.within c.move_groups_out.new.table c.move_groups_out.new.groups c.requires.has c.as_mut_slice-groups.ensures.value c.move_groups_out.ensures.hands c.move_groups_out.ensures.left c.behind-nearest.ensures _ _ c.run_groups-answer.result c.run_groups-answer.new.groups c.run_groups-answer.ensures c.move_groups_back.new.table c.move_groups_back.new.groups _ c.move_groups_back.ensures.back c.move_groups_back.ensures.others c.move_groups_back.ensures.hands (with_items_is c.args.tier.now.groups c.move_groups_back.new.groups same)
+    let same : length c.turn_groups.new.groups ≡ c.args.tier.now.groups.len = search rules in
+    let kind = g.V.ResourceValue.kind_of in
+    let own = Owns (lists_of g.S.System.reads g.S.System.writes g.C.BatchController.reads g.C.BatchController.writes) c.args.less in
+    let step = WorkStep kind (relations_of (lists_of g.S.System.reads g.S.System.writes g.C.BatchController.reads g.C.BatchController.writes) g.S.System.step g.C.BatchController.begins g.C.BatchController.asks) c.args.less in
+    subst₂ (λ old new. TookTurnOver kind own step (lent_slot c.args.loan.now.shelf.now) old c.args.own.now c.turn_groups.result new c.turn_groups.new.own) c.as_mut_slice-groups.ensures.value (sym (with_items_is c.args.tier.now.groups c.turn_groups.new.groups same)) c.turn_groups.ensures
+
+pub turn_groups-move_groups_out-requires : goal.turn_groups-move_groups_out-requires
+turn_groups-move_groups_out-requires g t c = out-fits c.args.groups.now c.requires.room c.requires.apart
+
+pub turn_groups-behind-nearest-requires : goal.turn_groups-behind-nearest-requires
+turn_groups-behind-nearest-requires g t c = (omega arith, still_before c.args.ids.now c.args.shelf.now c.args.own.now c.move_groups_out.new.table (out-slots _ _ c.requires.own_lists c.requires.room c.requires.apart c.args.own.now c.requires.own_slots c.move_groups_out.new.table c.move_groups_out.new.groups c.move_groups_out.ensures.hands c.move_groups_out.ensures.left) c.requires.before)
+
+pub turn_groups-run_groups-answer-requires : goal.turn_groups-run_groups-answer-requires
+turn_groups-run_groups-answer-requires g t c κs within =
+    ((let down = c.decreases in omega (arith, down)), bounded_beside within (search rules, (search rules, (search rules, (search rules, (search rules, (search rules, (search rules, (search rules, (omega arith, groups-ready _ _ c.requires.own_lists c.requires.room c.requires.apart c.args.own.now c.requires.own_slots c.move_groups_out.new.table c.move_groups_out.new.groups c.move_groups_out.ensures.hands c.move_groups_out.ensures.left _ c.behind-nearest.ensures))))))))))
+
+pub turn_groups-move_groups_back-requires : goal.turn_groups-move_groups_back-requires
+turn_groups-move_groups_back-requires g t c = groups-back _ _ c.requires.own_lists c.requires.room c.requires.apart c.args.own.now c.requires.own_slots c.move_groups_out.new.table c.move_groups_out.new.groups c.move_groups_out.ensures.hands c.move_groups_out.ensures.left _ c.behind-nearest.ensures _ _ c.run_groups-answer.result c.run_groups-answer.new.groups c.run_groups-answer.ensures
+
+pub turn_groups-returns : goal.turn_groups-returns
+turn_groups-returns g t c =
+    groups-took _ _ c.requires.own_lists c.requires.room c.requires.apart c.args.own.now c.requires.own_slots c.move_groups_out.new.table c.move_groups_out.new.groups c.move_groups_out.ensures.hands c.move_groups_out.ensures.left _ c.behind-nearest.ensures _ _ c.run_groups-answer.result c.run_groups-answer.new.groups c.run_groups-answer.ensures c.move_groups_back.new.table c.move_groups_back.new.groups c.move_groups_back.ensures.back c.move_groups_back.ensures.others c.move_groups_back.ensures.hands
+
+pub turn_groups-returns-then-is_lone_batch : goal.turn_groups-returns-then-is_lone_batch
+turn_groups-returns-then-is_lone_batch g t c =
+    let none : length c.args.shelf.now ≡ 0 = search rules in
+    took-of_one c.args.groups.now (sym c.is_lone_batch.ensures ∙ c.if-is_lone_batch.true) (get_or c.args.groups.now 0 c.index-groups-0.result) (ap (λ group. get_or c.args.groups.now 0 group) c.index-groups-0.is) c.args.shelf.now none c.args.own.now c.run_in_place.result c.run_in_place.new.group c.run_in_place.new.own c.run_in_place.ensures
+
+pub run_in_place-returns-in-Ok : goal.run_in_place-returns-in-Ok
+run_in_place-returns-in-Ok g t c =
+    let entry = c.index_mut-entry.result.now in
+    let was : c.args.group.now.entries.items ≡ entry ∷ [] = one-entry c.args.group.now.entries.items c.requires.one entry c.index_mut-entry.ensures.value in
+    one-took c.args.group.now _ entry c.run_work.new.work was (ap (λ entries. set entries 0 (record entry { work = c.run_work.new.work })) was) c.args.own.now c.run_work.result c.run_work.new.own (rw (c.as_slice.ensures.value, c.as_slice-2.ensures.value) at c.run_work.ensures.stepped) (Ok tt) (ap (entry_answer entry.id.0) (sym c.in-Ok.is)) c.requires.own_lists c.requires.room refl refl refl
+
+pub run_in_place-returns-in-Err : goal.run_in_place-returns-in-Err
+run_in_place-returns-in-Err g t c =
+    let entry = c.index_mut-entry.result.now in
+    let was : c.args.group.now.entries.items ≡ entry ∷ [] = one-entry c.args.group.now.entries.items c.requires.one entry c.index_mut-entry.ensures.value in
+    one-took c.args.group.now _ entry c.run_work.new.work was (ap (λ entries. set entries 0 (record entry { work = c.run_work.new.work })) was) c.args.own.now c.run_work.result c.run_work.new.own (rw (c.as_slice.ensures.value, c.as_slice-2.ensures.value) at c.run_work.ensures.stepped) (Err (System c.index_mut-entry.result.now.id c.in-Err.fault)) (ap (entry_answer entry.id.0) (sym c.in-Err.is)) c.requires.own_lists c.requires.room refl refl refl
 
 pub run_groups-returns : goal.run_groups-returns
 run_groups-returns g t c =
@@ -125,7 +169,7 @@ pub run_work-run_batch-requires : goal.run_work-run_batch-requires
 run_work-run_batch-requires g t c κs within =
     let below : c.depth_by-depth.result ≤ bound_of c.args.at = rule-below c.args.at c.args.work.now c.depth_by-depth.result c.depth_by-depth.ensures (omega arith) in
     let deep : 1 ≤ c.depth_by-depth.result = batch-deep (lists_of g.S.System.reads g.S.System.writes g.C.BatchController.reads g.C.BatchController.writes) c.args.at c.args.reads.now c.args.writes.now c.in-Batch.is c.depth_by-depth.ensures c.requires.own_lists in
-    ((let fall = c.decreases in omega (arith, deep, below, fall)), bounded_beside within (search rules, (search rules, (search rules, (search rules, (search rules, (search rules, (search rules, (search rules, (omega arith, (c.requires.own_slots, (c.requires.only_own, batch-within (lists_of g.S.System.reads g.S.System.writes g.C.BatchController.reads g.C.BatchController.writes) c.args.at c.args.reads.now c.args.writes.now c.in-Batch.is c.depth_by-depth.ensures c.requires.own_lists))))))))))))
+    ((let fall = c.decreases in omega (arith, deep, below, fall)), bounded_beside within (search rules, (search rules, (search rules, (search rules, (search rules, (search rules, (search rules, (search rules, (c.requires.before, batch-within (lists_of g.S.System.reads g.S.System.writes g.C.BatchController.reads g.C.BatchController.writes) c.args.at c.args.reads.now c.args.writes.now c.in-Batch.is c.depth_by-depth.ensures c.requires.own_lists))))))))))
 
 pub run_work-returns-in-System : goal.run_work-returns-in-System
 run_work-returns-in-System g t c =

@@ -27,7 +27,13 @@ abbrev pub decreases-run_groups : goal.decreases-run_groups
 decreases-run_groups g l = 32 * bound_of l.at + 10
 
 abbrev pub decreases-turn : goal.decreases-turn
-decreases-turn g l = 32 * l.less + 12
+decreases-turn g l = 32 * l.less + 13
+
+abbrev pub decreases-turn_groups : goal.decreases-turn_groups
+decreases-turn_groups g l = 32 * bound_of l.at + 12
+
+abbrev pub decreases-run_in_place : goal.decreases-run_in_place
+decreases-run_in_place g l = 32 * bound_of l.at + 6
 
 abbrev pub decreases-run_tiers : goal.decreases-run_tiers
 decreases-run_tiers g l = 32 * l.less + 14

@@ -1,6 +1,5 @@
-use Rattle.std.proofs.Common.{◌≡◌, Bool, false, ◌||◌, length, sym, subst, ap, ◌∙◌, arith}
+use Rattle.std.proofs.Common.{◌≡◌, Bool, false, ◌||◌, length, sym, subst, ap, ◌∙◌}
 use Rattle.std.specs.Prelude.{is_some, ◌==◌}
-use Rattle.std.proofs.lemmas.Bool.Decides.{nat_tests}
 use Rattle.shred_run.specs.Steps.{declared_of}
 use Rattle.shred_run.proofs.Runs.Hands.{declared_shown, still_has_slots, still_only_slots}
 use Rattle.shred_table.specs.Shown.{shown}
@@ -23,11 +22,11 @@ returns-clause-lies g c =
     let tie : c.own-1.given.0 ≡ w.own.now = c.own-1.given.1 (sym (c.run.ensures.table ∙ made.name)) in
     let slots : (q : _) → slot_at v.own.now q ≡ slot_at own q = λ q i. listed_at (made.slots i) q in
     let kept : (q : _) → is_some (slot_at c.own-1.given.0 q) ≡ is_some (slot_at own q) = λ q. (λ i. is_some (slot_at (tie i) q)) ∙ same.slots q ∙ ap is_some (slots q) in
-    let some : (length c.args.loan.now.shelf.now == 0) ≡ false = grind (arith, nat_tests) in
+    let some : (length c.args.loan.now.shelf.now == 0) ≡ false = c.requires.behind in
     let own_are : (q : _) → is_own v q ≡ among writes q = λ q. (λ i. (length (made.shelf i) == 0) || among (made.owned i) q) ∙ ap (λ (b : Bool). b || among writes q) some in
-    let before = declared_shown kind v reads writes lent own made.reads made.writes made.owned made.not_whole (λ q i. lent_slot (made.shelf i) q) slots c.requires.has.own_slots own_are c.requires.has.only_own in
+    let before = declared_shown kind v reads writes lent own made.reads made.writes made.owned made.not_whole (λ q i. lent_slot (made.shelf i) q) slots c.requires.has.own_slots own_are (c.requires.has.only_own some) in
     let after = declared_shown kind w reads writes lent c.own-1.given.0 (same.reads ∙ made.reads) (same.writes ∙ made.writes) (same.owned ∙ made.owned) (same.whole ∙ made.not_whole)
     (λ q. same.shelf q ∙ (λ i. lent_slot (made.shelf i) q)) (λ q i. slot_at (sym tie i) q) (still_has_slots writes lent own c.own-1.given.0 kept c.requires.has.own_slots)
-    (λ q. same.own q ∙ own_are q) (still_only_slots writes own c.own-1.given.0 kept c.requires.has.only_own) in
+    (λ q. same.own q ∙ own_are q) (still_only_slots writes own c.own-1.given.0 kept (c.requires.has.only_own some)) in
     subst (λ seen. g.S.System.step c.args.system.now seen c.run.result c.run.new.self (declared_of (record { reads = reads; writes = writes }) (shown kind lent c.own-1.given.0))) before
     (subst (λ left. g.S.System.step c.args.system.now (declared_held kind v) c.run.result c.run.new.self left) after c.run.ensures.step)

@@ -93,8 +93,9 @@ where
     }
 }
 
-// A run of a batch: its controller begins, and the rounds follow. It makes the loan itself, so that a system's, which is made
-// elsewhere, need not stand in memory.
+// A run of a batch: its controller begins, and the rounds follow. It stands apart, and makes the loan itself, so that a system's
+// step takes no stack for it.
+#[inline(never)]
 #[cycle(beside)]
 fn run_batch<
     's,

@@ -76,8 +76,9 @@ fn run_work<
     }
 }
 
-// A run of a batch: its controller begins, and the rounds follow. It makes the loan itself, so that a system's, which is made
-// elsewhere, need not stand in memory.
+// A run of a batch: its controller begins, and the rounds follow. It stands apart, and makes the loan itself, so that a system's
+// step takes no stack for it.
+#[inline(never)]
 #[cycle(in_order)]
 fn run_batch<
     's,

@@ -57,28 +57,27 @@ impl<V> Listed<V> {
         Err(low)
     }
 
-    // The same, where a place is looked at first, and then the one that the id has where ids are numbered without gaps.
-    fn place_near(&self, id: ResourceId, near: usize) -> Result<usize, usize>
+    // The same, where two places are looked at first.
+    fn place_near(&self, id: ResourceId, first: usize, second: usize) -> Result<usize, usize>
         ensures found { IfOk result (IsPlaceOf id self.now.slots.items) }
         ensures gap { IfErr result (IsGapFor id self.now.slots.items) }
     {
-        if near < self.slots.len() && self.slots[near].0 == id {
-            return Ok(near);
+        if first < self.slots.len() && self.slots[first].0 == id {
+            return Ok(first);
         }
-        let likely = id.likely_place();
-        if likely < self.slots.len() && self.slots[likely].0 == id {
-            return Ok(likely);
+        if second < self.slots.len() && self.slots[second].0 == id {
+            return Ok(second);
         }
         self.place(id)
     }
 
-    // Takes the value out of the slot of an id, which stays, and tells where the slot is, or where it would go. A place is
+    // Takes the value out of the slot of an id, which stays, and tells where the slot is, or where it would go. Two places are
     // looked at first.
-    pub(crate) fn take(&mut self, id: ResourceId, near: usize) -> (Option<V>, usize)
+    pub(crate) fn take(&mut self, id: ResourceId, first: usize, second: usize) -> (Option<V>, usize)
         ensures value { result.0 ≡ slot_value (listed_at self.old id) }
         ensures slots { (q : ResourceId) → listed_at self.new q ≡ with_at (listed_at self.old) id (emptied (listed_at self.old id)) q }
     {
-        match self.place_near(id, near) {
+        match self.place_near(id, first, second) {
             Ok(place) => (self.slots[place].1.value.take(), place),
             Err(place) => (None, place),
         }
@@ -91,11 +90,11 @@ impl<V> Listed<V> {
         self.get_near(id, 0)
     }
 
-    // The same, where a place is looked at first.
+    // The same, where a place is looked at first, and then the one that the id has where ids are numbered without gaps.
     pub(crate) fn get_near(&self, id: ResourceId, near: usize) -> Option<&Slot<V>>
         ensures { option_copied result ≡ listed_at self.now id }
     {
-        match self.place_near(id, near) {
+        match self.place_near(id, near, id.likely_place()) {
             Ok(place) => Some(&self.slots[place].1),
             Err(_) => None,
         }
@@ -119,12 +118,12 @@ impl<V> Listed<V> {
         Ok(self.slots.iter().map(|slot| slot.0).collect(alloc)?)
     }
 
-    // The slot of an id, to write. A place is looked at first.
+    // The slot of an id, to write. Places are looked at first as in `get_near`.
     pub(crate) fn get_mut(&mut self, id: ResourceId, near: usize) -> Option<&mut Slot<V>>
         ensures shown { option_copied_mut result ≡ listed_at self.old id }
         ensures* written { sem 𝓛 (LendsListed V.row self.entry id result) }
     {
-        match self.place_near(id, near) {
+        match self.place_near(id, near, id.likely_place()) {
             Ok(place) => Some(&mut self.slots[place].1),
             Err(_) => None,
         }

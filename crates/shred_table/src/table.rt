@@ -177,14 +177,14 @@ impl<V> Table<V> {
         let _ = self.slots.remove(id);
     }
 
-    // Takes the value out of the slot of an id, which stays, and tells where it was, to be looked at first later on; behind it
-    // the next one is looked for.
+    // Takes the value out of the slot of an id, which stays, and tells where it was, to be looked at first later on. It is looked
+    // for where ids without gaps have it, and then behind the one that was found last.
     pub(crate) fn take_next(&mut self, id: ResourceId) -> (Option<V>, usize)
         ensures value { result.0 ≡ slot_value (slot_at self.old id) }
         ensures slots { (q : ResourceId) → slot_at self.new q ≡ with_at (slot_at self.old) id (emptied (slot_at self.old id)) q }
         ensures noted { (q : ResourceId) → noted_in self.new q ≡ noted_in self.old q }
     {
-        let (value, place) = self.slots.take(id, self.hints.next());
+        let (value, place) = self.slots.take(id, id.likely_place(), self.hints.next());
         self.hints.found(place);
         (value, place)
     }
@@ -289,7 +289,7 @@ pub(crate) fn take_near<V>(table: &mut Table<V>, id: ResourceId, near: usize) ->
     ensures slots { (q : ResourceId) → slot_at table.new q ≡ with_at (slot_at table.old) id (emptied (slot_at table.old id)) q }
     ensures noted { (q : ResourceId) → noted_in table.new q ≡ noted_in table.old q }
 {
-    table.slots.take(id, near).0
+    table.slots.take(id, near, id.likely_place()).0
 }
 
 /// Puts a value into the slot of an id, where there is one.

@@ -97,3 +97,10 @@ every-place Q steps all = every Q [] steps (λ place none. absurd (cc)) all
 pub among-places : (places : List ℕ) (place : ℕ) → among (map id_at places) (id_at place) ≡ has_place places place
 among-places [] place = refl
 among-places (other ∷ places) place = ap (λ t. (other == place) || t) (among-places places place)
+
+-- the only place of a list is the one that is in it
+pub only-place : (place other : ℕ) → IsTrue (has_place (place ∷ []) other) → place ≡ other
+only-place place other has = chosen (place == other) refl has where
+  chosen : (b : Bool) → (place == other) ≡ b → IsTrue (b || false) → place ≡ other
+  chosen true e _ = grind (arith, e)
+  chosen false e none = absurd (cc)

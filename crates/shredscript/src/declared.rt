@@ -1,5 +1,5 @@
 //! What the steps of a system declare.
-ghost use Rattle.std.specs.Prelude.{◌≡◌, [], Some, map, IfOk, OnOk};
+ghost use Rattle.std.specs.Prelude.{◌≡◌, [], ◌∷◌, Some, map, IfOk, IfSome, OnOk};
 ghost use Rattle.shredscript_text.specs.Declares.{named_place, read_place, write_place, places_named, places_read, places_written, with_place};
 ghost use Rattle.shredscript_text.specs.Place.{id_at};
 
@@ -50,6 +50,18 @@ impl Declared {
             add_place(&mut self.named, place)?;
         }
         Ok(())
+    }
+
+    /// The place of the one resource that is written, where there is just one and operands name none.
+    pub(crate) fn only_number(&self) -> Option<usize>
+        ensures { IfSome result (λ place. self.now.written.items ≡ place ∷ []) }
+    {
+        let (place, rest) = self.written.as_slice().split_first()?;
+        if rest.is_empty() && self.named.is_empty() {
+            Some(*place)
+        } else {
+            None
+        }
     }
 
     /// The same places again.

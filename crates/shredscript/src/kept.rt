@@ -10,6 +10,7 @@ ghost use Rattle.shredscript.specs.Overlaid.{AreHeld, IsKeptAt, kept_place, over
 ghost use Rattle.shredscript.specs.Steps.{steps_outcome, steps_left};
 
 use crate::declared::Declared;
+use crate::one_kept::run_one_kept;
 use crate::stepping::run_steps;
 use arrayvec::ArrayVec;
 use shred_run::Fault;
@@ -80,7 +81,7 @@ impl<N: Numbers> Numbers for Keeping<'_, N> {
 }
 
 // The number that is kept of this place, the first where there are several.
-fn number_in(kept: &[KeptNumber], place: usize) -> Option<i64>
+pub(crate) fn number_in(kept: &[KeptNumber], place: usize) -> Option<i64>
     ensures { (seen : Held Value) → number_at (overlaid kept.now seen) place ≡ option_or result (number_at seen place) }
 {
     for one in kept {
@@ -204,7 +205,11 @@ pub fn run_declared<N: Numbers>(
     ensures keeps { N.keeps numbers.old numbers.new }
 {
     if steps.len() / 8 >= declared.written.len() {
-        if let Some(outcome) = run_kept(steps, declared, numbers) {
+        let kept = match declared.only_number() {
+            Some(place) => run_one_kept(steps, place, numbers),
+            None => run_kept(steps, declared, numbers),
+        };
+        if let Some(outcome) = kept {
             return outcome;
         }
     }

@@ -7,6 +7,7 @@ mod declared;
 mod engine;
 mod kept;
 mod local;
+mod one_kept;
 mod plan_text;
 mod run_plan;
 mod stepping;

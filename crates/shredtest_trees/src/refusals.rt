@@ -1,7 +1,7 @@
 //! Trees whose memory is refused: each answers as with ample memory, or that memory is wanting. They pass whichever request
 //! is refused.
 
-use crate::adds::{DONE, adds_to, ended};
+use crate::adds::{DONE, adds_to, ended, looks_at};
 use crate::counts::tick_of;
 use shred_run::Fault;
 use shred_trees::{Nil, Par, ParError, ParSeq, RunWithPool, par, seq};
@@ -31,6 +31,13 @@ fn world_of(alloc: Global, count: u64) -> Option<World<Only<i64>>> {
         }
     }
     Some(world)
+}
+
+#[test]
+fn a_conflict_is_told_or_memory_is_wanting(rt: HostRuntime) {
+    let par: Par<Only<i64>, u8, _, Nil> = Par::new(adds_to(0, 1));
+    let refused = par.with(rt.alloc(), looks_at(0)).err();
+    assert!(rt; matches!(refused, Some(ParError::Conflict | ParError::OutOfMemory)));
 }
 
 #[test]

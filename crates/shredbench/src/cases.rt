@@ -20,6 +20,13 @@ const NESTED_BATCHES: &str =
 const NESTED_REFUSAL: &str =
     "res N 0\nbatch outer - 2\nsys a average - N+=1\nbatch inner - 3\nsys b average - N+=10 refuse:4\nend\nend\ntimes 2\n";
 
+/// A refusal two batches down. The system beside it is done; what stands behind it in either batch, and behind both, is not run.
+const REFUSAL_TWO_DOWN: &str =
+    "res A 0\nres B 0\nbatch o - 2\nbatch i - 2\nsys p average - A+=1\nsys q average - B+=1 refuse:6\nend\nsys r average - A+=100\nend\nsys s average - A+=1000\n";
+
+const REFUSAL_TWO_DOWN_SEQ: &str =
+    "res A 0\nres B 0\nbatch o - 2\nbatch i - 2\nsys p average - A+=1\nsys q average - B+=1 refuse:6\nend\nsys r average - A+=100\nend\nsys s average - A+=1000\nmode seq\n";
+
 /// The cases, in the order in which they are run.
 pub(crate) const CASES: &[Case] = &[
     Case {
@@ -96,6 +103,20 @@ pub(crate) const CASES: &[Case] = &[
         name: "N2",
         script: NESTED_REFUSAL,
         stdout: "N=11\nsystem 0 refused 4\n",
+        stderr: "",
+        status: 2,
+    },
+    Case {
+        name: "H1",
+        script: REFUSAL_TWO_DOWN,
+        stdout: "A=1\nB=1\nsystem 0 refused 6\n",
+        stderr: "",
+        status: 2,
+    },
+    Case {
+        name: "H1-seq",
+        script: REFUSAL_TWO_DOWN_SEQ,
+        stdout: "A=1\nB=1\nsystem 0 refused 6\n",
         stderr: "",
         status: 2,
     },

@@ -9,6 +9,7 @@
 #   value. A line feed stands at an end only where one is written. Empty lines and lines that begin with # are no rows.
 #   A row without STDOUT is run once more with a standard output that takes nothing, and has to end in the same way. What
 #   a row is told of its lines, shredplan has to tell too.
+# - What prints something of these files and rows is run on several numbers of workers besides, and has to end in the same way.
 # - random.txt has whole scripts, each behind a line `=== NUMBER`. The line `--- STATUS stdout` or `--- STATUS stderr`
 #   ends it, and what is printed there follows; nothing is printed on the other.
 # - NAME.dot and NAME.conflicts are what shredplan is to print of NAME.script, asked for that, worked out by hand. Of its
@@ -50,6 +51,16 @@ writes_nothing() {
     has_ended "$1, without room for its output," "$3" "$status" "$4"
 }
 
+# ends_so_on_any_workers NAME SCRIPT STATUS OUT: it ends so on each of these numbers of workers too. Of several lines that
+# say a number the last counts.
+ends_so_on_any_workers() {
+    local workers
+    for workers in 0 1 2 3 8 64; do
+        { cat "$2"; printf '\nworkers %s\n' "$workers"; } >"$room/on-workers"
+        ends_so "$1, on $workers workers," "$room/on-workers" "$3" "$4" /dev/null
+    done
+}
+
 compare_files() {
     local script expected wanted
     for script in *.script; do
@@ -57,6 +68,7 @@ compare_files() {
         wanted=2
         [ "$(tail -n 1 "$expected")" != ok ] || wanted=0
         ends_so "$script" "$script" "$wanted" "$expected" /dev/null
+        ends_so_on_any_workers "$script" "$script" "$wanted" "$expected"
     done
 }
 
@@ -95,7 +107,11 @@ compare_rows() {
         printf %b "${BASH_REMATCH[3]}" >"$room/wanted-stdout"
         printf %b "${BASH_REMATCH[5]}" >"$room/wanted-stderr"
         ends_so "$name" "$room/script" "$status" "$room/wanted-stdout" "$room/wanted-stderr"
-        [ -s "$room/wanted-stdout" ] || writes_nothing "$name" "$room/script" "$status" "$room/wanted-stderr"
+        if [ -s "$room/wanted-stdout" ]; then
+            ends_so_on_any_workers "$name" "$room/script" "$status" "$room/wanted-stdout"
+        else
+            writes_nothing "$name" "$room/script" "$status" "$room/wanted-stderr"
+        fi
         ! grep -q '^line ' "$room/wanted-stderr" || is_told_of_plan "$name" "$status"
         rows=$((rows + 1))
     done <rows.txt

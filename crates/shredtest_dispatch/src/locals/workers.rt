@@ -196,7 +196,7 @@ fn expect_plan(
 
 #[test]
 fn any_number_of_workers_leaves_the_same_counts(rt: HostRuntime) -> Result<(), Fail> {
-    for workers in [None, Some(0), Some(1), Some(2), Some(3), Some(8)] {
+    for workers in [None, Some(0), Some(1), Some(2), Some(3), Some(8), Some(64)] {
         expect_plan(&rt, &ONE_COUNT, workers)?;
         expect_plan(&rt, &FIVE_COUNTS, workers)?;
     }

@@ -226,9 +226,11 @@ fn bounds_the_length_of_a_script(rt: HostRuntime) {
         err: &[],
         status: 0,
     };
-    expect_printed(&rt, Source::of_bytes(b' ', 1_048_576), ok);
     let too_long = "script too long\n";
-    expect_told(&rt, Source::of_bytes(b' ', 1_048_577), too_long);
+    for byte in [b' ', b'\n'] {
+        expect_printed(&rt, Source::of_bytes(byte, 1_048_576), ok);
+        expect_told(&rt, Source::of_bytes(byte, 1_048_577), too_long);
+    }
     // Before a fault, and before a failed read that comes later.
     expect_told(
         &rt,

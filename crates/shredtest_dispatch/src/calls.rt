@@ -1,8 +1,8 @@
 //! Calls of the library, each for every type of system.
 
 use shred::{
-    AddError, Dispatcher, DispatcherBuilder, OutOfMemory, PlanSink, PrintError, StagesBuilder,
-    System, SystemId, SystemNames, ThreadLocal, World, new_dispatcher,
+    AddError, Dispatcher, DispatcherBuilder, OutOfMemory, PlanSink, PrintError, Stage,
+    StagesBuilder, System, SystemId, SystemNames, ThreadLocal, World, new_dispatcher,
 };
 use shredtest::values::Value;
 use std::alloc::{AllocError, Global};
@@ -19,16 +19,32 @@ pub(crate) fn insert<S: System<Value> + Drop>(
     builder.insert(dependencies, SystemId(id), system)
 }
 
+/// The stages of these systems, numbered from 0, which depend on nothing.
+pub(crate) fn stages_of<S: System<Value> + Drop>(
+    alloc: Global,
+    systems: Vec<S>,
+) -> Result<Vec<Stage<Value, S>>, OutOfMemory> {
+    let mut builder = StagesBuilder::new(alloc);
+    for (id, system) in systems.into_iter().enumerate() {
+        insert(&mut builder, &[], id, system)?;
+    }
+    Ok(builder.build())
+}
+
+/// The dispatcher of these stages.
+pub(crate) fn dispatcher_over<S: System<Value> + Drop>(
+    alloc: Global,
+    stages: Vec<Stage<Value, S>>,
+) -> Dispatcher<Value, S> {
+    new_dispatcher(stages, ThreadLocal::new(alloc), 4)
+}
+
 /// The dispatcher of these systems, numbered from 0, which depend on nothing.
 pub(crate) fn dispatcher_of<S: System<Value> + Drop>(
     alloc: Global,
     systems: Vec<S>,
 ) -> Result<Dispatcher<Value, S>, OutOfMemory> {
-    let mut builder = StagesBuilder::new(alloc);
-    for (id, system) in systems.into_iter().enumerate() {
-        insert(&mut builder, &[], id, system)?;
-    }
-    Ok(new_dispatcher(builder.build(), ThreadLocal::new(alloc), 4))
+    Ok(dispatcher_over(alloc, stages_of(alloc, systems)?))
 }
 
 fn add<S: System<Value> + Drop>(

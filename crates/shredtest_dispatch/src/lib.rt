@@ -5,6 +5,8 @@
 #[cfg(test)]
 mod asked_once;
 #[cfg(test)]
+mod asking;
+#[cfg(test)]
 mod batches;
 #[cfg(test)]
 mod builder_rows;

@@ -47,7 +47,7 @@ pub(crate) fn dispatcher_of<S: System<Value> + Drop>(
     Ok(dispatcher_over(alloc, stages_of(alloc, systems)?))
 }
 
-fn add<S: System<Value> + Drop>(
+pub(crate) fn add<S: System<Value> + Drop>(
     builder: &mut DispatcherBuilder<Value, S>,
     system: S,
     name: &str,

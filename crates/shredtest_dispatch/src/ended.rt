@@ -8,7 +8,7 @@ pub(crate) type Ended = (&'static str, usize, u8);
 pub(crate) const DONE: Ended = ("done", 0, 0);
 
 /// The code where memory was refused. Nothing in these tests refuses with it.
-const NO_MEMORY: u8 = 255;
+pub(crate) const NO_MEMORY: u8 = 255;
 
 fn code_of(fault: Fault<u8>) -> u8 {
     match fault {

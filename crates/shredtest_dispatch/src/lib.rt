@@ -33,6 +33,8 @@ mod planned_system;
 #[cfg(test)]
 mod planner_tests;
 #[cfg(test)]
+mod refusals;
+#[cfg(test)]
 mod scripts;
 #[cfg(test)]
 mod stopping;

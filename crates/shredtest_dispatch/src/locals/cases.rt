@@ -1,8 +1,8 @@
 //! Dispatchers of staged and thread-local systems, from setup to disposal.
 
-use crate::ended::{DONE, Ended, ended, run_ended};
+use crate::ended::{DONE, Ended, NO_MEMORY, ended, run_ended};
 use crate::locals::script::{IDLE, Script, expect_counts, world_of};
-use shred::{Dispatcher, DispatcherBuilder, Now, World};
+use shred::{AddError, Dispatcher, DispatcherBuilder, Now, World};
 use shredtest::values::Value;
 use std::alloc::Global;
 use std::process::Abort;
@@ -34,7 +34,7 @@ struct Case {
     left: &'static [Option<i64>],
 }
 
-fn dispatcher_of(alloc: Global, case: &Case) -> Result<Dispatcher<Value, Script>, Fail> {
+fn dispatcher_of(alloc: Global, case: &Case) -> Result<Dispatcher<Value, Script>, AddError> {
     let mut builder = DispatcherBuilder::new(alloc);
     for script in case.staged {
         builder.add(*script, "", &[])?;
@@ -297,4 +297,50 @@ fn dispatchers_live_from_setup_to_disposal(rt: HostRuntime) -> Result<(), Fail> 
         expect(&rt, case)?;
     }
     Ok(())
+}
+
+// How the call ends; where it finds no memory, how the same call then ends.
+fn called_at_last(
+    rt: &(impl Threads + Sync),
+    dispatcher: &mut Dispatcher<Value, Script>,
+    world: &mut World<Value>,
+    call: Call,
+) -> Ended {
+    let end = called(rt, dispatcher, world, call);
+    if end.2 == NO_MEMORY {
+        called(rt, dispatcher, world, call)
+    } else {
+        end
+    }
+}
+
+/// The case goes as it says, where memory for its world and its dispatcher is there; a call that finds none changes nothing, and
+/// is made again.
+fn expect_at_last(rt: &(impl Abort + AllocGlobal + Threads + Sync), case: &Case) {
+    let (Ok(mut world), Ok(mut dispatcher)) = (
+        world_of(rt.alloc(), case.counts),
+        dispatcher_of(rt.alloc(), case),
+    ) else {
+        return;
+    };
+    for turn in case.turns {
+        let end = called_at_last(rt, &mut dispatcher, &mut world, turn.call);
+        assert_eq!(rt; end, turn.ended);
+        expect_counts(rt, &world, turn.counts);
+    }
+    assert_eq!(rt; disposed(dispatcher, &mut world), case.disposed);
+    expect_counts(rt, &world, case.left);
+}
+
+#[test]
+fn a_call_that_finds_no_memory_is_made_again(rt: HostRuntime) {
+    for case in [
+        &STAGED_LIFE,
+        &LOCAL_LIFE,
+        &STAGED_REFUSAL,
+        &LOCAL_REFUSAL,
+        &REFUSED_SETUP,
+    ] {
+        expect_at_last(&rt, case);
+    }
 }

@@ -6,11 +6,11 @@ ghost use Rattle.shredtest.specs.Values.{count_kind};
 
 use shred::{
     BatchAccessor, Fault, Kind, OutOfMemory, ResourceId, RunningTime, System, View, World,
+    WorldError,
 };
 use shredtest::values::{Count, Value};
 use std::alloc::Global;
 use std::process::Abort;
-use std::test::Fail;
 
 /// What a system does to the count under its number. Where a code is not 0, it then refuses with that.
 #[derive(Clone, Copy)]
@@ -142,7 +142,7 @@ impl System<Value> for Script {
 }
 
 /// A world of these counts, numbered from 0.
-pub(crate) fn world_of(alloc: Global, counts: &[Option<i64>]) -> Result<World<Value>, Fail> {
+pub(crate) fn world_of(alloc: Global, counts: &[Option<i64>]) -> Result<World<Value>, WorldError> {
     let mut world = World::empty(alloc);
     for (number, count) in counts.iter().enumerate() {
         if let Some(count) = count {

@@ -4,3 +4,5 @@ mod readers;
 mod runs;
 mod tables;
 mod writers;
+
+pub(crate) use readers::Source;

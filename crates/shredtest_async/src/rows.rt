@@ -20,7 +20,7 @@ where
 }
 
 /// The world of the dispatcher has these counts 0 and 1.
-fn expect_counts(
+pub(crate) fn expect_counts(
     rt: &(impl Abort + Threads),
     dispatcher: &mut Dispatcher,
     staged: i64,

@@ -2,7 +2,7 @@
 use Rattle.shred_run.specs.declared.work.Nested.{Nested}
 use Rattle.shred_run.specs.declared.work.Work.{Work}
 use Rattle.std.specs.Prelude.{List}
-use Rattle.shred_stage.specs.BuilderPlan.{planned, barrier_of, builder_states}
+use Rattle.shred_stage.specs.BuilderPlan.{planned, barrier_of, rule_of, builder_states}
 use Rattle.shred.specs.ThreadLocals.{systems_of}
 use Rattle.shred.specs.Built.{Built}
 use Rattle.shred_stage.specs.Names.{NamedId, names_of, named_ids}
@@ -15,6 +15,7 @@ built builder = record {
   states = builder_states builder.stages;
   known = names_of builder.names;
   barrier = barrier_of builder.stages;
+  rule = rule_of builder.stages;
   next = builder.next;
   locals = systems_of builder.thread_local;
   workers = builder.workers;

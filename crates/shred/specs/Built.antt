@@ -7,25 +7,29 @@ use Rattle.shred_stage.specs.Added.{AreSame, IsAdded}
 use Rattle.shred_stage.specs.Earlier.{HasIdAt, IsFromBarrier, StandsAfter, AllBeforeBarrier}
 use Rattle.shred_run.specs.Kept.{IsKept}
 use Rattle.shred_stage.specs.Known.{Known, known_ids, with_name}
-use Rattle.shred_stage.specs.Placement.{IsPlaced}
+use Rattle.shred_stage.specs.SearchStart.{IsPlacedBy}
+use Rattle.shred_stage.specs.declared.dispatch.rule.Rule.{Rule}
+use Rattle.shred_stage.specs.declared.dispatch.rule.Rule.TheVariants.{First}
 use Rattle.shred_run.specs.declared.system.RunningTime.{RunningTime}
 
--- A plan with its systems, the known names, the barrier, the number of the next id, the thread-local systems, and on how many threads a stage runs at most.
+-- A plan with its systems, the known names, the barrier, the rule by which entries are placed, the number of the next id, the thread-local systems, and on how many threads a stage runs at most.
 pub record Built (S L : Type 0) : Type 0 where
   pub plan : Plan ResourceId
   pub states : Agent → Option S
   pub known : Known
   pub barrier : ℕ
+  pub rule : Rule
   pub next : ℕ
   pub locals : List L
   pub workers : ℕ
 
--- Nothing is planned, no name is known, the barrier is 0, and so is the next id; there is no thread-local system, and the threads are four.
+-- Nothing is planned, no name is known, the barrier is 0, and so is the next id; entries are placed by First, there is no thread-local system, and the threads are four.
 pub record IsNewBuilt {S L : Type 0} (new : Built S L) : Type 0 where
   pub plan : new.plan ≡ []
   pub states : (path : Agent) → new.states path ≡ None
   pub known : (name : List ℕ) → new.known name ≡ None
   pub barrier : new.barrier ≡ 0
+  pub rule : new.rule ≡ First
   pub next : new.next ≡ 0
   pub locals : new.locals ≡ []
   pub workers : new.workers ≡ 4
@@ -36,6 +40,7 @@ pub record IsSameBuilt {S L : Type 0} (old new : Built S L) : Type 0 where
   pub states : AreSame old.states new.states
   pub known : (name : List ℕ) → new.known name ≡ old.known name
   pub barrier : new.barrier ≡ old.barrier
+  pub rule : new.rule ≡ old.rule
   pub next : new.next ≡ old.next
   pub locals : new.locals ≡ old.locals
   pub workers : new.workers ≡ old.workers
@@ -47,6 +52,19 @@ pub record IsBarrierSet {S L : Type 0} (old new : Built S L) : Type 0 where
   pub known : (name : List ℕ) → new.known name ≡ old.known name
   pub barrier : new.barrier ≡ length old.plan
   pub all_before : AllBeforeBarrier new.plan new.barrier
+  pub rule : new.rule ≡ old.rule
+  pub next : new.next ≡ old.next
+  pub locals : new.locals ≡ old.locals
+  pub workers : new.workers ≡ old.workers
+
+-- No system and no batch was added yet, and from now on entries are placed by this rule; all else is as before.
+pub record IsRuleSet {S L : Type 0} (old new : Built S L) (rule : Rule) : Type 0 where
+  pub none_added : old.next ≡ 0
+  pub plan : new.plan ≡ old.plan
+  pub states : AreSame old.states new.states
+  pub known : (name : List ℕ) → new.known name ≡ old.known name
+  pub barrier : new.barrier ≡ old.barrier
+  pub is_set : new.rule ≡ rule
   pub next : new.next ≡ old.next
   pub locals : new.locals ≡ old.locals
   pub workers : new.workers ≡ old.workers
@@ -57,6 +75,7 @@ pub record IsPoolSet {S L : Type 0} (old new : Built S L) (count : ℕ) : Type 0
   pub states : AreSame old.states new.states
   pub known : (name : List ℕ) → new.known name ≡ old.known name
   pub barrier : new.barrier ≡ old.barrier
+  pub rule : new.rule ≡ old.rule
   pub next : new.next ≡ old.next
   pub locals : new.locals ≡ old.locals
   pub workers : new.workers ≡ count
@@ -67,18 +86,20 @@ pub record IsLocalAdded {S L : Type 0} (old new : Built S L) (system : L) : Type
   pub states : AreSame old.states new.states
   pub known : (name : List ℕ) → new.known name ≡ old.known name
   pub barrier : new.barrier ≡ old.barrier
+  pub rule : new.rule ≡ old.rule
   pub next : new.next ≡ old.next
   pub locals : new.locals ≡ old.locals ++ system ∷ []
   pub workers : new.workers ≡ old.workers
 
--- The entry is placed after its dependencies, and its name stands for the next id unless it is empty; the next id is one more, and all else stays.
+-- The entry is placed by the builder's rule, after its dependencies, and its name stands for the next id unless it is empty; the next id is one more, and all else stays.
 pub record IsEntryAdded {S L : Type 0} (entry : PlanEntry ResourceId) (old new : Built S L) (name : List ℕ) (dependencies : List (List ℕ)) (system : S) : Type 0 where
-  pub placed : IsPlaced old.plan old.barrier old.barrier (known_ids old.known dependencies) entry new.plan
+  pub placed : IsPlacedBy old.rule old.plan old.barrier (known_ids old.known dependencies) entry new.plan
   pub added : IsAdded old.plan new.plan old.states new.states entry system
   pub from_barrier : IsFromBarrier old.barrier added.place
   pub after : StandsAfter old.plan (known_ids old.known dependencies) added.place
   pub known : (q : List ℕ) → new.known q ≡ with_name old.known name old.next q
   pub barrier : new.barrier ≡ old.barrier
+  pub rule : new.rule ≡ old.rule
   pub next : new.next ≡ old.next + 1
   pub locals : new.locals ≡ old.locals
   pub workers : new.workers ≡ old.workers

@@ -38,7 +38,7 @@ pub use shred_run::{
 };
 pub use shred_stage::dispatch::inner::tiers_of;
 pub use shred_stage::{
-    AddError, DispatchError, PlanSink, PrintError, SinkFailed, Stage, StagesBuilder, ToWriter,
+    AddError, DispatchError, PlanSink, PrintError, Rule, SinkFailed, Stage, StagesBuilder, ToWriter,
 };
 pub use shred_world::{
     Accessor, BatchAccessor, Behind, DataError, DefaultProvider, DynamicSystemData, Entry, Fetch,

@@ -1,5 +1,6 @@
 -- Where the planner places an entry, and what plans keep.
 pub mod Earlier
 pub mod EntriesAt
+pub mod SearchStart
 pub mod Spots
 pub mod StageKeeps

@@ -7,6 +7,7 @@ use Rattle.shred_stage.specs.Plans.{plan_states}
 use Rattle.shred_stage.specs.StagePlan.{plan_of}
 use Rattle.shred_run.specs.declared.work.Nested.{Nested}
 use Rattle.shred_run.specs.declared.work.Work.{Work}
+use Rattle.shred_stage.specs.declared.dispatch.rule.Rule.{Rule}
 use Rattle.shred_stage.specs.declared.dispatch.stages_builder.StagesBuilder.{StagesBuilder}
 
 -- the builder's plan
@@ -16,6 +17,10 @@ planned builder = plan_of builder.stages.items
 -- the stage from which on new entries are placed
 abbrev pub barrier_of : {V S C N A M B : Type 0} {vd : _} {sd : _} {ad : _} {cd : _} {bd : _} → StagesBuilder V S C N A M B vd sd ad cd bd → ℕ
 barrier_of builder = builder.barrier
+
+-- where its searches begin
+abbrev pub rule_of : {V S C N A M B : Type 0} {vd : _} {sd : _} {ad : _} {cd : _} {bd : _} → StagesBuilder V S C N A M B vd sd ad cd bd → Rule
+rule_of builder = builder.rule
 
 -- the states of its systems, by stage, group and position
 abbrev pub builder_states : {V S C N A M B : Type 0} {vd : _} {sd : _} {ad : _} {cd : _} {bd : _} → StagesBuilder V S C N A M B vd sd ad cd bd → Agent → Option (Work S (Nested V S C))

@@ -1,6 +1,7 @@
 pub mod StagePlan
 pub mod Soundness
 pub mod Placement
+pub mod SearchStart
 pub mod Search
 pub mod Earlier
 pub mod Known

@@ -8,6 +8,7 @@ pub mod look_up;
 pub use add_error::AddError;
 pub use dispatch::dispatch_error::DispatchError;
 pub use dispatch::printing::PrintError;
+pub use dispatch::rule::Rule;
 pub use dispatch::sink::{PlanSink, SinkFailed, ToWriter};
 pub use dispatch::stage::Stage;
 pub use dispatch::stages_builder::StagesBuilder;

@@ -7,7 +7,7 @@ ghost use Rattle.shred_run.specs.Batches.{IsTierOf};
 ghost use Rattle.shred_run.specs.Works.{tiers_plan};
 ghost use Rattle.shred_model.specs.Plan.{plan_ids};
 ghost use Rattle.shred_model.specs.Record.{Agent};
-ghost use Rattle.shred_stage.specs.BuilderPlan.{planned, barrier_of, builder_states};
+ghost use Rattle.shred_stage.specs.BuilderPlan.{planned, barrier_of, rule_of, builder_states};
 ghost use Rattle.shred.specs.Built.{IsAddition, IsBarrierSet, IsConsistent, IsEntryAdded, IsLocalAdded, IsNewBuilt, IsPoolSet, IsSameBuilt};
 ghost use Rattle.shred_run.specs.Depths.{Declared, lists_of};
 ghost use Rattle.shred_run.specs.OwnDepth.{OwnsItself};
@@ -57,7 +57,7 @@ pub struct DispatcherBuilder<
     workers: usize,
     ghost distinct_names: { IsUnique string_eq names } by { Prim.hlevel props },
     ghost known_planned: { (name : List ℕ) (id : ℕ) → names_of names name ≡ Some id → plan_has (planned stages) id ≡ true },
-    ghost consistent: { IsConsistent (record { plan = planned stages; states = builder_states stages; known = names_of names; barrier = barrier_of stages; next = next; locals = systems_of thread_local; workers = workers }) },
+    ghost consistent: { IsConsistent (record { plan = planned stages; states = builder_states stages; known = names_of names; barrier = barrier_of stages; rule = rule_of stages; next = next; locals = systems_of thread_local; workers = workers }) },
 }
 
 impl<V: ResourceValue, S: System<V>, C: BatchController<V>, L: Drop> DispatcherBuilder<V, S, C, L> {

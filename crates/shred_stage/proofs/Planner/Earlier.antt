@@ -207,16 +207,16 @@ after-all plan dependencies path id h (other, there) =
     (other, there, inl (k, length plan, p, path, e, refl, below))
 
 -- what is placed stands from the barrier on, after its dependencies
-pub stands-after : {I : Type 0} (plan placed : Plan I) (barrier : ℕ) (dependencies : List ℕ) (entry : PlanEntry I) (place : Agent) → barrier ≤ length plan → IsPlaced plan barrier barrier dependencies entry placed
+pub stands-after : {I : Type 0} (plan placed : Plan I) (barrier start : ℕ) (dependencies : List ℕ) (entry : PlanEntry I) (place : Agent) → barrier ≤ length plan → barrier ≤ start → IsPlaced plan barrier start dependencies entry placed
     → IsNewAt place (entry_at plan) (entry_at placed) entry → IsFromBarrier barrier place × ComesAfter plan dependencies place
-stands-after plan placed barrier dependencies entry place within (in_new_group k stage from at none admits is) new =
+stands-after plan placed barrier start dependencies entry place within behind (in_new_group k stage from at none admits is) new =
     let other : Agent = k ∷ length stage ∷ zero ∷ [] in
     let free : entry_at plan other ≡ None = rw (at, slice_get_past stage (length stage) (omega arith)) refl in
     let at_stage = slice_get-set_same plan k (stage ++ (entry ∷ []) ∷ []) (slice_get_within plan k stage at) in
     let stands : entry_at placed other ≡ Some entry = rw is (entry_there (set plan k (stage ++ (entry ∷ []) ∷ [])) k (length stage) zero (stage ++ (entry ∷ []) ∷ []) (entry ∷ []) entry at_stage (slice_get-push_end stage (entry ∷ [])) refl) in
     let there = new_place-only place other (entry_at plan) (entry_at placed) entry entry new free stands in
-    ((k, length stage ∷ zero ∷ [], there, from), subst (ComesAfter plan dependencies) (sym there) (after-none_left plan barrier dependencies k (length stage ∷ zero ∷ []) admits.none_left))
-stands-after plan placed barrier dependencies entry place within (at_end_of_group k g stage group from at none admits is) new =
+    ((k, length stage ∷ zero ∷ [], there, omega (arith, behind, from)), subst (ComesAfter plan dependencies) (sym there) (after-none_left plan barrier dependencies k (length stage ∷ zero ∷ []) admits.none_left))
+stands-after plan placed barrier start dependencies entry place within behind (at_end_of_group k g stage group from at none admits is) new =
     let other : Agent = k ∷ g ∷ length group ∷ [] in
     let free : entry_at plan other ≡ None = rw (at, admits.stands, slice_get_past group (length group) (omega arith)) refl in
     let grown = set stage g (group ++ entry ∷ []) in
@@ -225,8 +225,8 @@ stands-after plan placed barrier dependencies entry place within (at_end_of_grou
     let stands : entry_at placed other ≡ Some entry = rw is (entry_there (set plan k grown) k g (length group) grown (group ++ entry ∷ []) entry at_stage at_group (slice_get-push_end group entry)) in
     let there = new_place-only place other (entry_at plan) (entry_at placed) entry entry new free stands in
     let after = ⊎_elim (λ none_left. after-none_left plan barrier dependencies k (g ∷ length group ∷ []) none_left) (λ one. after-one_left plan barrier dependencies k g stage group entry at admits.stands one) admits.dependencies in
-    ((k, g ∷ length group ∷ [], there, from), subst (ComesAfter plan dependencies) (sym there) after)
-stands-after plan placed barrier dependencies entry place within (in_new_stage none is) new =
+    ((k, g ∷ length group ∷ [], there, omega (arith, behind, from)), subst (ComesAfter plan dependencies) (sym there) after)
+stands-after plan placed barrier start dependencies entry place within behind (in_new_stage none is) new =
     let other : Agent = length plan ∷ zero ∷ zero ∷ [] in
     let free : entry_at plan other ≡ None = rw (slice_get_past plan (length plan) (omega arith)) refl in
     let grown = plan ++ ((entry ∷ []) ∷ []) ∷ [] in

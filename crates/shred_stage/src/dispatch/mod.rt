@@ -4,6 +4,7 @@ pub mod dispatch_error;
 pub mod inner;
 pub mod plan;
 pub mod printing;
+pub mod rule;
 pub mod sink;
 pub mod stage;
 pub mod stages_builder;

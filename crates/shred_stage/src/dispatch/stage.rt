@@ -11,7 +11,8 @@ ghost use Rattle.shred_run.specs.Hands.{KeepsRoom};
 ghost use Rattle.shred_run.specs.OwnLists.{IsEntryOf, IsGroupOf};
 ghost use Rattle.shred_run.specs.PlanOf.{access_of, entry_plan, groups_plan, numbers_of, HasEntryIds};
 ghost use Rattle.shred_stage.specs.Search.{may_end, OthersDoNotConflict, SpotIs, TouchedIs};
-ghost use Rattle.shred_run.specs.Touching.{is_touched};
+ghost use Rattle.shred_run.specs.Touching.{group_conflicts, is_touched};
+ghost use Rattle.std.specs.List.{list_any};
 ghost use Rattle.shred_run.specs.Sides.{stage_side};
 ghost use Rattle.shred_stage.specs.Soundness.{IsSmallGroup};
 ghost use Rattle.shred_run.specs.Depths.{lists_of, relations_of};
@@ -124,6 +125,13 @@ impl<V: ResourceValue, S: System<V>, C: BatchController<V>> Stage<V, S, C> {
                 .then_some(Spot::EndOf(group)),
             Touched::Several => None,
         }
+    }
+
+    /// Whether a group of the stage conflicts with the entry.
+    pub(crate) fn conflicts(&self, entry: &GroupEntry<V, Work<S, Nested<V, S, C>>>) -> bool
+        ensures { result ≡ list_any (group_conflicts same_id (access_of entry.now)) (stage_plan self.now) }
+    {
+        self.groups.iter().any(|group| group.conflicts(entry))
     }
 
     /// Which groups the entry has to come after.

@@ -9,17 +9,20 @@ ghost use Rattle.shred_stage.specs.Earlier.{AllBeforeBarrier};
 ghost use Rattle.shred_run.specs.Kept.{IsKept};
 ghost use Rattle.shred_stage.specs.Names.{first_unnamed, named_ids};
 ghost use Rattle.shred_stage.specs.Placement.{IsPlaced};
+ghost use Rattle.shred_stage.specs.SearchStart.{IsOrderedStart, IsSearchStart};
+ghost use Rattle.shred_stage.specs.declared.dispatch.rule.Rule.TheVariants.{First};
 ghost use Rattle.shred_stage.specs.Printed.{plan_text};
 ghost use Rattle.shred_stage.specs.Prints.{IsPrinted};
 ghost use Rattle.shred_run.specs.Depths.{lists_of};
 ghost use Rattle.shred_run.specs.OwnDepth.{OwnsItself};
 ghost use Rattle.shred_run.specs.OwnLists.{IsEntryOf};
-ghost use Rattle.shred_run.specs.PlanOf.{entry_plan, numbers_of};
+ghost use Rattle.shred_run.specs.PlanOf.{access_of, entry_plan, numbers_of};
 ghost use Rattle.shred_stage.specs.Search.{PlaceIs};
 ghost use Rattle.shred_run.specs.Sides.{stage_side, plan_reads, plan_writes};
 ghost use Rattle.shred_stage.specs.StagePlan.{plan_of};
 
 use crate::dispatch::printing::{PrintError, print};
+use crate::dispatch::rule::Rule;
 use crate::dispatch::sink::PlanSink;
 use crate::dispatch::stage::{Spot, Stage};
 use shred_run::entry::{GroupEntry, Side, push_or_drop};
@@ -40,6 +43,7 @@ pub struct StagesBuilder<
 > {
     pub(crate) stages: Vec<Stage<V, S, C>>,
     barrier: usize,
+    rule: Rule,
     ghost barrier_within: { barrier ≤ length stages.items },
     ghost few_stages: { length stages.items ≤ length (plan_ids (plan_of stages.items)) },
 }
@@ -47,19 +51,31 @@ pub struct StagesBuilder<
 impl<V: ResourceValue, S: System<V>, C: BatchController<V>> StagesBuilder<V, S, C> {
     ghost use Rattle.shred_model.specs.Record.{Agent};
     ghost use Rattle.shred_stage.specs.Added.{AreSame, IsNew};
-    ghost use Rattle.shred_stage.specs.BuilderPlan.{planned, barrier_of, builder_states};
+    ghost use Rattle.shred_stage.specs.BuilderPlan.{planned, barrier_of, rule_of, builder_states};
     ghost use Rattle.shred_stage.specs.EntriesAt.{builder_entries};
     ghost use Rattle.shred_stage.specs.Plans.{plan_states};
 
-    /// An empty plan. It takes no memory.
+    /// An empty plan, whose entries are placed by `Rule::First`. It takes no memory.
     pub fn new(alloc: Global) -> Self
         ensures plan { planned result ≡ [] }
         ensures barrier { barrier_of result ≡ 0 }
+        ensures rule { rule_of result ≡ First }
+        ensures states { (path : Agent) → builder_states result path ≡ None }
+    {
+        Self::new_with_rule(alloc, Rule::First)
+    }
+
+    /// An empty plan, whose entries are placed by this rule. It takes no memory.
+    pub fn new_with_rule(alloc: Global, rule: Rule) -> Self
+        ensures plan { planned result ≡ [] }
+        ensures barrier { barrier_of result ≡ 0 }
+        ensures rule { rule_of result ≡ rule }
         ensures states { (path : Agent) → builder_states result path ≡ None }
     {
         StagesBuilder {
             stages: Vec::new(alloc),
             barrier: 0,
+            rule,
         }
     }
 
@@ -67,6 +83,7 @@ impl<V: ResourceValue, S: System<V>, C: BatchController<V>> StagesBuilder<V, S, 
     pub fn default(alloc: Global) -> Self
         ensures plan { planned result ≡ [] }
         ensures barrier { barrier_of result ≡ 0 }
+        ensures rule { rule_of result ≡ First }
         ensures states { (path : Agent) → builder_states result path ≡ None }
     {
         Self::new(alloc)
@@ -90,8 +107,19 @@ impl<V: ResourceValue, S: System<V>, C: BatchController<V>> StagesBuilder<V, S, 
         ensures states { (path : Agent) → builder_states self.new path ≡ builder_states self.old path }
         ensures barrier { barrier_of self.new ≡ length (planned self.old) }
         ensures all_before { AllBeforeBarrier (planned self.new) (barrier_of self.new) }
+        ensures rule { rule_of self.new ≡ rule_of self.old }
     {
         self.barrier = self.stages.len();
+    }
+
+    /// Sets the rule by which entries are placed from now on. It is there for `DispatcherBuilder`.
+    pub fn set_rule(&mut self, rule: Rule)
+        ensures plan { planned self.new ≡ planned self.old }
+        ensures states { (path : Agent) → builder_states self.new path ≡ builder_states self.old path }
+        ensures barrier { barrier_of self.new ≡ barrier_of self.old }
+        ensures rule { rule_of self.new ≡ rule }
+    {
+        self.rule = rule;
     }
 
     /// The ids that the systems read, in order, each once. `OutOfMemory` where memory is refused.
@@ -167,6 +195,7 @@ impl<V: ResourceValue, S: System<V>, C: BatchController<V>> StagesBuilder<V, S, 
         ensures added { OnOk result (IsNew (builder_entries self.old) (builder_entries self.new) entry) }
         ensures unchanged { OnErr result (AreSame (builder_entries self.old) (builder_entries self.new)) }
         ensures barrier { barrier_of self.new ≡ barrier_of self.old }
+        ensures rule { rule_of self.new ≡ rule_of self.old }
     {
         let alloc = *self.stages.allocator();
         let left = SmallVec::from_slice(alloc, dependencies)?;
@@ -192,12 +221,36 @@ impl<V: ResourceValue, S: System<V>, C: BatchController<V>> StagesBuilder<V, S, 
         ensures added { OnOk result (IsNew (builder_entries self.old) (builder_entries self.new) entry) }
         ensures unchanged { OnErr result (AreSame (builder_entries self.old) (builder_entries self.new)) }
         ensures barrier { barrier_of self.new ≡ barrier_of self.old }
+        ensures rule { rule_of self.new ≡ rule_of self.old }
     {
         let alloc = *self.stages.allocator();
         match Stage::new(alloc, entry) {
             Ok(stage) => push_or_drop(&mut self.stages, stage),
             Err(e) => Err(e),
         }
+    }
+
+    /// Where the search for a stage that takes the entry begins.
+    fn search_start(&self, entry: &GroupEntry<V, Work<S, Nested<V, S, C>>>) -> usize
+        ensures { IsSearchStart (rule_of self.now) (planned self.now) (barrier_of self.now) (access_of entry.now) result }
+    {
+        match self.rule {
+            Rule::First => self.barrier,
+            Rule::Ordered => self.ordered_start(entry),
+        }
+    }
+
+    /// The last stage from the barrier on with a group that conflicts with the entry, or the barrier.
+    fn ordered_start(&self, entry: &GroupEntry<V, Work<S, Nested<V, S, C>>>) -> usize
+        ensures { IsOrderedStart (planned self.now) (barrier_of self.now) (access_of entry.now) result }
+    {
+        let mut start = self.barrier;
+        for stage in self.barrier..self.stages.len() {
+            if self.stages[stage].conflicts(entry) {
+                start = stage;
+            }
+        }
+        start
     }
 
     /// The first stage from `start` on that takes the entry, and where.
@@ -229,7 +282,7 @@ impl<V: ResourceValue + Drop, S: System<V> + Drop, C: BatchController<V> + Drop>
     C,
 > {
     ghost use Rattle.shred_run.specs.declared.work.Work.TheVariants.{System as ASystem};
-    ghost use Rattle.shred_stage.specs.BuilderPlan.{planned, barrier_of, builder_states};
+    ghost use Rattle.shred_stage.specs.BuilderPlan.{planned, barrier_of, rule_of, builder_states};
     ghost use Rattle.shred_stage.specs.Inserted.{IsInserted};
     ghost use Rattle.shred_model.specs.Record.{Agent};
 
@@ -240,12 +293,13 @@ impl<V: ResourceValue + Drop, S: System<V> + Drop, C: BatchController<V> + Drop>
         entry: GroupEntry<V, Work<S, Nested<V, S, C>>>,
     ) -> Result<(), OutOfMemory>
         requires own_lists { IsEntryOf (OwnsItself (lists_of S.reads S.writes C.reads C.writes)) entry }
-        ensures inserted { OnOk result (IsInserted (planned self.old) (planned self.new) (builder_states self.old) (builder_states self.new) (barrier_of self.old) (numbers_of dependencies.now) (entry_plan entry) entry.work) }
+        ensures inserted { OnOk result (IsInserted (rule_of self.old) (planned self.old) (planned self.new) (builder_states self.old) (builder_states self.new) (barrier_of self.old) (numbers_of dependencies.now) (entry_plan entry) entry.work) }
         ensures err { OnErr result (planned self.new ≡ planned self.old) }
         ensures states { OnErr result ((path : Agent) → builder_states self.new path ≡ builder_states self.old path) }
         ensures barrier { barrier_of self.new ≡ barrier_of self.old }
+        ensures rule { rule_of self.new ≡ rule_of self.old }
     {
-        let start = self.barrier;
+        let start = self.search_start(&entry);
         self.place(start, dependencies, entry)
     }
 
@@ -259,10 +313,11 @@ impl<V: ResourceValue + Drop, S: System<V> + Drop, C: BatchController<V> + Drop>
         system: S,
     ) -> Result<(), OutOfMemory>
         ensures placed { OnOk result ((entry : model.PlanEntry ResourceId) × IsKept id.0 (S.reads system) (S.writes system) (S.time system) entry
-            × IsInserted (planned self.old) (planned self.new) (builder_states self.old) (builder_states self.new) (barrier_of self.old) (numbers_of dependencies.now) entry (ASystem system)) }
+            × IsInserted (rule_of self.old) (planned self.old) (planned self.new) (builder_states self.old) (builder_states self.new) (barrier_of self.old) (numbers_of dependencies.now) entry (ASystem system)) }
         ensures err { OnErr result (planned self.new ≡ planned self.old) }
         ensures states { OnErr result ((path : Agent) → builder_states self.new path ≡ builder_states self.old path) }
         ensures barrier { barrier_of self.new ≡ barrier_of self.old }
+        ensures rule { rule_of self.new ≡ rule_of self.old }
     {
         let alloc = *self.stages.allocator();
         match system_entry(alloc, id, system) {

@@ -1,9 +1,9 @@
 use Rattle.std.proofs.Common.{◌≡◌, ◌∙◌, ap, refl, subst, sym}
-use Rattle.shred_stage.specs.BuilderPlan.{planned, barrier_of}
+use Rattle.shred_stage.specs.BuilderPlan.{planned, barrier_of, rule_of}
 use Rattle.shred_stage.specs.Earlier.{ComesAfter}
 use Rattle.shred_stage.specs.Known.{known_ids, texts_of}
 use Rattle.shred_stage.specs.Names.{names_of}
-use Rattle.shred_stage.specs.Placement.{IsPlaced}
+use Rattle.shred_stage.specs.SearchStart.{IsPlacedBy}
 use Rattle.shred_run.specs.PlanOf.{entry_plan, numbers_of}
 use Rattle.shred.proofs.Names.Consistent.{entered-consistent, known-again, still-consistent}
 use Rattle.shred.proofs.Planner.Standing.{known-still, stands-after_all}
@@ -15,12 +15,13 @@ returns-clause-added g c =
     let is = c.in_default.ensures.inserted in
     let same : numbers_of c.as_slice.result.now ≡ known_ids (names_of c.args.self.now.names) (texts_of c.args.dependencies.now) = ap numbers_of c.as_slice.ensures.value ∙ c.in_ok-ids.ensures in
     record {
-      placed = subst (λ ids. IsPlaced (planned old) (barrier_of old) (barrier_of old) ids (entry_plan c.args.entry) (planned c.insert_entry.new.self)) same is.placed;
+      placed = subst (λ ids. IsPlacedBy (rule_of old) (planned old) (barrier_of old) ids (entry_plan c.args.entry) (planned c.insert_entry.new.self)) same is.placed;
       added = is.added;
       from_barrier = is.from_barrier;
       after = stands-after_all (planned old) (names_of c.args.self.now.names) (texts_of c.args.dependencies.now) is.added.place c.args.self.now.known_planned c.requires.allowed.all_known (subst (λ ids. ComesAfter (planned old) ids is.added.place) same is.after);
       known = c.in_ok-enter.ensures.ok;
       barrier = c.insert_entry.ensures.barrier;
+      rule = c.insert_entry.ensures.rule;
       next = refl;
       locals = refl;
       workers = refl;
@@ -60,6 +61,7 @@ returns-in-Err-clause-unchanged g c = record {
   states = c.in-Err.ensures.states;
   known = known-again (names_of c.args.self.now.names) (names_of c.enter.new.names) (names_of c.forget.new.names) c.args.name.now c.args.self.now.next c.requires.allowed.is_new c.in_ok-enter.ensures.ok c.forget.ensures.forgotten;
   barrier = c.insert_entry.ensures.barrier;
+  rule = c.insert_entry.ensures.rule;
   next = refl;
   locals = refl;
   workers = refl;

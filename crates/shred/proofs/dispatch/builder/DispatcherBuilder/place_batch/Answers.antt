@@ -32,4 +32,4 @@ returns-clause-added g c =
     }) c.accept.ensures.added
 
 pub returns-in_err-entry-clause-unchanged : goal.returns-in_err-entry-clause-unchanged
-returns-in_err-entry-clause-unchanged g c = let p = err_from_is_err_and c.from_residual.result c.from_residual.ensures.1 in rw p.1 (record { plan = refl; states = λ agent. refl; known = λ name. refl; barrier = refl; next = refl; locals = refl; workers = refl })
+returns-in_err-entry-clause-unchanged g c = let p = err_from_is_err_and c.from_residual.result c.from_residual.ensures.1 in rw p.1 (record { plan = refl; states = λ agent. refl; known = λ name. refl; barrier = refl; rule = refl; next = refl; locals = refl; workers = refl })

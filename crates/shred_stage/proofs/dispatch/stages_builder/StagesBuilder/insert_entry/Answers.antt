@@ -1,10 +1,11 @@
 use Rattle.std.proofs.lemmas.Result.{on_err_weaker}
 use Rattle.std.proofs.Common.{arith, refl}
 use Rattle.std.proofs.lemmas.List.{length-map}
-use Rattle.shred_run.specs.PlanOf.{entry_plan, numbers_of}
+use Rattle.shred_run.specs.PlanOf.{access_of, entry_plan, numbers_of}
 use Rattle.shred_stage.specs.StagePlan.{stage_plan, plan_of}
 use Rattle.shred_stage.proofs.Planner.Earlier.{stands-after}
 use Rattle.shred_stage.proofs.Planner.EntriesAt.{added_with, states_stay}
+use Rattle.shred_stage.proofs.Planner.SearchStart.{start-from_barrier}
 use Rattle.shred_stage.proofs.Planner.StageKeeps.{OnOk-both}
 use Rattle.shred_stage.proofs.dispatch.stages_builder.StagesBuilder.insert_entry.Goals as goal
 
@@ -12,11 +13,13 @@ pub returns-clause-inserted : goal.returns-clause-inserted
 returns-clause-inserted g c =
     let stages = c.args.self.now.stages.items in
     let placed_stages = c.place.new.self.stages.items in
+    let begins = c.search_start-start.ensures in
+    let behind = start-from_barrier c.args.self.now.rule (plan_of stages) c.args.self.now.barrier (access_of c.args.entry) c.search_start-start.result begins in
     OnOk-both c.place.result
     (λ placed is.
     let added = added_with stages placed_stages c.args.entry c.args.entry.work refl is in
-    let standing = stands-after (plan_of stages) (plan_of placed_stages) c.args.self.now.barrier (numbers_of c.args.dependencies.now) (entry_plan c.args.entry) added.place (omega (arith, length-map stages stage_plan, c.args.self.now.barrier_within)) placed added.entry_is_new in
-    record { placed = placed; added = added; from_barrier = standing.0; after = standing.1 })
+    let standing = stands-after (plan_of stages) (plan_of placed_stages) c.args.self.now.barrier c.search_start-start.result (numbers_of c.args.dependencies.now) (entry_plan c.args.entry) added.place (omega (arith, length-map stages stage_plan, c.args.self.now.barrier_within)) behind placed added.entry_is_new in
+    record { placed = record { start = c.search_start-start.result; begins = begins; placed = placed }; added = added; from_barrier = standing.0; after = standing.1 })
     c.place.ensures.placed c.place.ensures.added
 
 pub returns-clause-states : goal.returns-clause-states

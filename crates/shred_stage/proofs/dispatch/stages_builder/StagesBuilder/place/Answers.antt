@@ -41,6 +41,7 @@ returns-in-Some-default-NewGroup g c =
       added = new_when_done stage_entries c.push_group.result stages arm.stage c.index_mut.result.now c.push_group.new.self c.args.entry within c.index_mut.ensures.value c.push_group.ensures.added;
       unchanged = same_when_refused stage_entries c.push_group.result stages arm.stage c.index_mut.result.now c.push_group.new.self c.index_mut.ensures.value c.push_group.ensures.unchanged;
       barrier = refl;
+      rule = refl;
     }
 
 pub index_mut-requires-in-Some-default-EndOf : goal.index_mut-requires-in-Some-default-EndOf
@@ -85,6 +86,7 @@ returns-in-Some-default-EndOf g c =
       added = new_when_done stage_entries c.push_entry.result stages arm.stage c.index_mut-in-Some-default-EndOf.result.now c.push_entry.new.self c.args.entry within c.index_mut-in-Some-default-EndOf.ensures.value c.push_entry.ensures.added;
       unchanged = same_when_refused stage_entries c.push_entry.result stages arm.stage c.index_mut-in-Some-default-EndOf.result.now c.push_entry.new.self c.index_mut-in-Some-default-EndOf.ensures.value c.push_entry.ensures.unchanged;
       barrier = refl;
+      rule = refl;
     }
 
 pub returns-in-None-clause-placed : goal.returns-in-None-clause-placed

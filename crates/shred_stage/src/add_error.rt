@@ -1,10 +1,10 @@
-//! Why a builder does not take a system.
+//! Why a builder does not take a system, or a rule.
 ghost use Rattle.std.specs.Prelude.{◌≡◌};
 
 use shred_world::OutOfMemory;
 use thiserror::Error;
 
-/// Why a system was not added. The builder is as before.
+/// Why a system was not added, or a rule not set. The builder is as before.
 #[derive(Clone, Copy, Debug, PartialEq, Eq, Error)]
 pub enum AddError {
     /// The dependency at this place of the list is the first that is not known.
@@ -21,6 +21,9 @@ pub enum AddError {
     /// The plan that was to be a batch has a thread-local system.
     #[error("a batch may have no thread-local system")]
     ThreadLocalInBatch,
+    /// The rule is to be set, and a system or a batch was added before.
+    #[error("the rule comes too late")]
+    RuleTooLate,
 }
 
 impl From<OutOfMemory> for AddError {

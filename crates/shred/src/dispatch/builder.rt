@@ -1,6 +1,6 @@
 //! The builder of dispatchers.
 ghost use Rattle.std.specs.HashMap.{IsUnique};
-ghost use Rattle.std.specs.Prelude.{◌≡◌, ◌++◌, ℕ, List, [], None, Some, true, All, IfOk, OnOk, OnErr, IfErr};
+ghost use Rattle.std.specs.Prelude.{◌≡◌, ◌<◌, ◌++◌, ℕ, List, [], None, Some, true, All, IfOk, OnOk, OnErr, IfErr};
 ghost use Rattle.std.specs.String.{string_eq};
 ghost use Rattle.std.proofs.Props.{props};
 ghost use Rattle.shred_run.specs.Batches.{IsTierOf};
@@ -8,7 +8,7 @@ ghost use Rattle.shred_run.specs.Works.{tiers_plan};
 ghost use Rattle.shred_model.specs.Plan.{plan_ids};
 ghost use Rattle.shred_model.specs.Record.{Agent};
 ghost use Rattle.shred_stage.specs.BuilderPlan.{planned, barrier_of, rule_of, builder_states};
-ghost use Rattle.shred.specs.Built.{IsAddition, IsBarrierSet, IsConsistent, IsEntryAdded, IsLocalAdded, IsNewBuilt, IsPoolSet, IsSameBuilt};
+ghost use Rattle.shred.specs.Built.{IsAddition, IsBarrierSet, IsConsistent, IsEntryAdded, IsLocalAdded, IsNewBuilt, IsPoolSet, IsRuleSet, IsSameBuilt};
 ghost use Rattle.shred_run.specs.Depths.{Declared, lists_of};
 ghost use Rattle.shred_run.specs.OwnDepth.{OwnsItself};
 ghost use Rattle.shred_run.specs.OwnLists.{IsEntryOf};
@@ -36,7 +36,7 @@ use shred_run::{BatchController, Nested, NoBatch, System, SystemId, Tier, Work};
 use shred_stage::dispatch::inner::tiers_of;
 use shred_stage::dispatch::printing::print_with_end;
 use shred_stage::look_up::{enter, forget, ids_of, may_add};
-use shred_stage::{AddError, PlanSink, PrintError, StagesBuilder};
+use shred_stage::{AddError, PlanSink, PrintError, Rule, StagesBuilder};
 use shred_world::ResourceValue;
 use std::alloc::Global;
 use std::collections::HashMap;
@@ -103,6 +103,37 @@ impl<V: ResourceValue, S: System<V>, C: BatchController<V>, L: Drop> DispatcherB
         let mut builder = self;
         builder.add_barrier();
         builder
+    }
+
+    /// Sets the rule by which systems and batches are placed from now on; it is `Rule::First` unless set. Refused as
+    /// `RuleTooLate` where one was added before, also if the rule is the one that is set, and nowhere else; the builder is
+    /// then as before. It takes no memory.
+    pub fn add_rule(&mut self, rule: Rule) -> Result<(), AddError>
+        ensures set { OnOk result (IsRuleSet (built self.old) (built self.new) rule) }
+        ensures refused { IfErr result (λ e. e ≡ AddError.RuleTooLate) }
+        ensures some_added { OnErr result (0 < (built self.old).next) }
+        ensures unchanged { OnErr result (IsSameBuilt (built self.old) (built self.new)) }
+    {
+        if self.next > 0 {
+            return Err(AddError::RuleTooLate);
+        }
+        self.stages.set_rule(rule);
+        Ok(())
+    }
+
+    /// `add_rule`, on a builder that is handed on. After a refusal the builder is dropped.
+    pub fn with_rule(self, rule: Rule) -> Result<Self, AddError>
+    where
+        V: Drop,
+        S: Drop,
+        C: Drop,
+        ensures set { IfOk result (λ after. IsRuleSet (built self) (built after) rule) }
+        ensures refused { IfErr result (λ e. e ≡ AddError.RuleTooLate) }
+        ensures some_added { OnErr result (0 < (built self).next) }
+    {
+        let mut builder = self;
+        builder.add_rule(rule)?;
+        Ok(builder)
     }
 
     /// Sets on how many threads a stage is to run at most, the caller's among them; it is 4 unless set. Any number may be

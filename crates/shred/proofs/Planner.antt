@@ -1,3 +1,4 @@
 -- What plans keep.
+pub mod Addition
 pub mod Standing
 pub mod Widest

@@ -4,12 +4,13 @@ use Rattle.shred_table.specs.declared.id.ResourceId.{ResourceId}
 use Rattle.shred_model.specs.Plan.{PlanEntry, Plan}
 use Rattle.shred_model.specs.Record.{Agent}
 use Rattle.shred_stage.specs.Added.{AreSame, IsAdded}
-use Rattle.shred_stage.specs.Earlier.{HasIdAt, IsFromBarrier, StandsAfter, AllBeforeBarrier}
+use Rattle.shred_stage.specs.Addition.{KeepsAddition}
+use Rattle.shred_stage.specs.Earlier.{ComesAfterConflicts, HasIdAt, IsFromBarrier, StandsAfter, AllBeforeBarrier}
 use Rattle.shred_run.specs.Kept.{IsKept}
 use Rattle.shred_stage.specs.Known.{Known, known_ids, with_name}
 use Rattle.shred_stage.specs.SearchStart.{IsPlacedBy}
 use Rattle.shred_stage.specs.declared.dispatch.rule.Rule.{Rule}
-use Rattle.shred_stage.specs.declared.dispatch.rule.Rule.TheVariants.{First}
+use Rattle.shred_stage.specs.declared.dispatch.rule.Rule.TheVariants.{First, Ordered}
 use Rattle.shred_run.specs.declared.system.RunningTime.{RunningTime}
 
 -- A plan with its systems, the known names, the barrier, the rule by which entries are placed, the number of the next id, the thread-local systems, and on how many threads a stage runs at most.
@@ -91,12 +92,13 @@ pub record IsLocalAdded {S L : Type 0} (old new : Built S L) (system : L) : Type
   pub locals : new.locals ≡ old.locals ++ system ∷ []
   pub workers : new.workers ≡ old.workers
 
--- The entry is placed by the builder's rule, after its dependencies, and its name stands for the next id unless it is empty; the next id is one more, and all else stays.
+-- The entry is placed by the builder's rule, after its dependencies and, under Ordered, after each entry that conflicts with it, and its name stands for the next id unless it is empty; the next id is one more, and all else stays.
 pub record IsEntryAdded {S L : Type 0} (entry : PlanEntry ResourceId) (old new : Built S L) (name : List ℕ) (dependencies : List (List ℕ)) (system : S) : Type 0 where
   pub placed : IsPlacedBy old.rule old.plan old.barrier (known_ids old.known dependencies) entry new.plan
   pub added : IsAdded old.plan new.plan old.states new.states entry system
   pub from_barrier : IsFromBarrier old.barrier added.place
   pub after : StandsAfter old.plan (known_ids old.known dependencies) added.place
+  pub after_conflicts : old.rule ≡ Ordered → ComesAfterConflicts old.plan entry.access added.place
   pub known : (q : List ℕ) → new.known q ≡ with_name old.known name old.next q
   pub barrier : new.barrier ≡ old.barrier
   pub rule : new.rule ≡ old.rule
@@ -117,3 +119,7 @@ pub record IsConsistent {S L : Type 0} (built : Built S L) : Type 0 where
   pub names_below : (name : List ℕ) (id : ℕ) → built.known name ≡ Some id → id < built.next
   pub one_name : (name other : List ℕ) (id : ℕ) → built.known name ≡ Some id → built.known other ≡ Some id → name ≡ other
   pub empty_unknown : built.known [] ≡ None
+
+-- under Ordered, of two entries that conflict the one with the smaller id stands earlier
+abbrev pub KeepsOrder : {S L : Type 0} → Built S L → Type 0
+KeepsOrder built = built.rule ≡ Ordered → KeepsAddition built.plan

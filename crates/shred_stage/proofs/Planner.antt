@@ -1,4 +1,5 @@
 -- Where the planner places an entry, and what plans keep.
+pub mod Addition
 pub mod Earlier
 pub mod EntriesAt
 pub mod SearchStart

@@ -132,7 +132,7 @@ entry-of_place plan id h =
     let g = slice_get-of_contains in_stage.0 in_group.0 in_group.1 in
     (k.0, g.0, found.0, in_stage.0, in_group.0, found.1, k.1, g.1, found.2, found.3)
 
-entry_there : {I : Type 0} (plan : Plan I) (k g i : ℕ) (stage : Stage I) (group : Group I) (entry : PlanEntry I) → slice_get plan k ≡ Some stage → slice_get stage g ≡ Some group → slice_get group i ≡ Some entry
+pub entry_there : {I : Type 0} (plan : Plan I) (k g i : ℕ) (stage : Stage I) (group : Group I) (entry : PlanEntry I) → slice_get plan k ≡ Some stage → slice_get stage g ≡ Some group → slice_get group i ≡ Some entry
     → entry_at plan (k ∷ g ∷ i ∷ []) ≡ Some entry
 entry_there plan k g i stage group entry at_stage at_group at_entry = rw (at_stage, at_group, at_entry) refl
 

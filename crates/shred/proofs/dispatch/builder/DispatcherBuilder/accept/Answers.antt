@@ -19,6 +19,7 @@ returns-clause-added g c =
       added = is.added;
       from_barrier = is.from_barrier;
       after = stands-after_all (planned old) (names_of c.args.self.now.names) (texts_of c.args.dependencies.now) is.added.place c.args.self.now.known_planned c.requires.allowed.all_known (subst (λ ids. ComesAfter (planned old) ids is.added.place) same is.after);
+      after_conflicts = is.after_conflicts;
       known = c.in_ok-enter.ensures.ok;
       barrier = c.insert_entry.ensures.barrier;
       rule = c.insert_entry.ensures.rule;

@@ -2,7 +2,9 @@ use Rattle.std.proofs.lemmas.Result.{on_err_weaker}
 use Rattle.std.proofs.Common.{arith, refl}
 use Rattle.std.proofs.lemmas.List.{length-map}
 use Rattle.shred_run.specs.PlanOf.{access_of, entry_plan, numbers_of}
+use Rattle.shred_stage.specs.SearchStart.{IsPlacedBy}
 use Rattle.shred_stage.specs.StagePlan.{stage_plan, plan_of}
+use Rattle.shred_stage.proofs.Planner.Addition.{after-conflicts}
 use Rattle.shred_stage.proofs.Planner.Earlier.{stands-after}
 use Rattle.shred_stage.proofs.Planner.EntriesAt.{added_with, states_stay}
 use Rattle.shred_stage.proofs.Planner.SearchStart.{start-from_barrier}
@@ -19,7 +21,9 @@ returns-clause-inserted g c =
     (λ placed is.
     let added = added_with stages placed_stages c.args.entry c.args.entry.work refl is in
     let standing = stands-after (plan_of stages) (plan_of placed_stages) c.args.self.now.barrier c.search_start-start.result (numbers_of c.args.dependencies.now) (entry_plan c.args.entry) added.place (omega (arith, length-map stages stage_plan, c.args.self.now.barrier_within)) behind placed added.entry_is_new in
-    record { placed = record { start = c.search_start-start.result; begins = begins; placed = placed }; added = added; from_barrier = standing.0; after = standing.1 })
+    let by : IsPlacedBy c.args.self.now.rule (plan_of stages) c.args.self.now.barrier (numbers_of c.args.dependencies.now) (entry_plan c.args.entry) (plan_of placed_stages) = record { start = c.search_start-start.result; begins = begins; placed = placed } in
+    let behind_conflicts = after-conflicts c.args.self.now.rule (plan_of stages) (plan_of placed_stages) c.args.self.now.barrier (numbers_of c.args.dependencies.now) (entry_plan c.args.entry) added.place by added.entry_is_new in
+    record { placed = by; added = added; from_barrier = standing.0; after = standing.1; after_conflicts = behind_conflicts })
     c.place.ensures.placed c.place.ensures.added
 
 pub returns-clause-states : goal.returns-clause-states

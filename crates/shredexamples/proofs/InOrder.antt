@@ -27,6 +27,7 @@ use Rattle.shred_run.specs.declared.work.Work.TheVariants.{System}
 use Rattle.shred_stage.specs.Situations.{dispatch_answer}
 use Rattle.shred_stage.specs.Inserted.{IsInserted}
 use Rattle.shred_stage.specs.Placement.{IsPlaced}
+use Rattle.shred_stage.specs.declared.dispatch.rule.Rule.{Rule}
 use Rattle.shred_stage.proofs.Planner.Earlier.{new_place-only}
 use Rattle.shred_orders.specs.OneEnd.{own_access}
 use Rattle.shredexamples.specs.Numbers.{kind_of, number_id, number_value}
@@ -110,11 +111,11 @@ module _ {V S C E : Type 0} (kind : V → Kind) (step : Step V S E) (reads write
 
 module _ {S B : Type 0} (reads writes : S → List ResourceId) where
   -- two insertions into an empty plan give two entries in order
-  pub in-order : (first second : S) (empty one both : Plan ResourceId) (before middle after : Agent → Option (Work S B)) (barrier start : ℕ) (dependencies others : List ℕ) (entry its_entry : PlanEntry ResourceId) → empty ≡ [] → IsInserted empty one before middle barrier dependencies entry (System first)
-      → IsInserted one both middle after start others its_entry (System second) → HasListsOf reads writes first entry → HasListsOf reads writes second its_entry → HasInOrder reads writes first second both after
+  pub in-order : {rule its_rule : Rule} (first second : S) (empty one both : Plan ResourceId) (before middle after : Agent → Option (Work S B)) (barrier start : ℕ) (dependencies others : List ℕ) (entry its_entry : PlanEntry ResourceId) → empty ≡ [] → IsInserted rule empty one before middle barrier dependencies entry (System first)
+      → IsInserted its_rule one both middle after start others its_entry (System second) → HasListsOf reads writes first entry → HasListsOf reads writes second its_entry → HasInOrder reads writes first second both after
   in-order first second empty one both before middle after barrier start dependencies others entry its_entry none in_first in_second lists its_lists =
-      let shape : one ≡ ((entry ∷ []) ∷ []) ∷ [] = alone barrier barrier dependencies entry one (subst (λ (p : Plan ResourceId). IsPlaced p barrier barrier dependencies entry one) none in_first.placed) in
-      let put = behind start start others entry its_entry both (subst (λ (p : Plan ResourceId). IsPlaced p start start others its_entry both) shape in_second.placed) in
+      let shape : one ≡ ((entry ∷ []) ∷ []) ∷ [] = alone barrier in_first.placed.start dependencies entry one (subst (λ (p : Plan ResourceId). IsPlaced p barrier in_first.placed.start dependencies entry one) none in_first.placed.placed) in
+      let put = behind start in_second.placed.start others entry its_entry both (subst (λ (p : Plan ResourceId). IsPlaced p start in_second.placed.start others its_entry both) shape in_second.placed.placed) in
       let at_first : in_first.added.place ≡ first_path = new_place-only in_first.added.place first_path (entry_at empty) (entry_at one) entry entry in_first.added.entry_is_new (ap (λ (p : Plan ResourceId). entry_at p first_path) none) (ap (λ (p : Plan ResourceId). entry_at p first_path) shape) in
       let at_second : in_second.added.place ≡ put.path = new_place-only in_second.added.place put.path (entry_at one) (entry_at both) its_entry its_entry in_second.added.entry_is_new (ap (λ (p : Plan ResourceId). entry_at p put.path) shape ∙ put.was_free) put.stands in
       record {

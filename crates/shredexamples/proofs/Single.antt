@@ -20,6 +20,7 @@ use Rattle.shred_run.specs.declared.work.Work.TheVariants.{System}
 use Rattle.shred_stage.specs.Inserted.{IsInserted}
 use Rattle.shred_stage.specs.Placement.{IsPlaced}
 use Rattle.shred_stage.specs.Situations.{dispatch_answer}
+use Rattle.shred_stage.specs.declared.dispatch.rule.Rule.{Rule}
 use Rattle.shred_stage.proofs.Planner.Earlier.{new_place-only}
 use Rattle.shred_orders.specs.EntryPaths.{entries_with_paths}
 use Rattle.shred_orders.proofs.DoneSteps.{Found, IsDoneAt, RunAlone, plan-done, system-alone}
@@ -32,9 +33,9 @@ pub record StandsAlone {V S C : Type 0} (entry : PlanEntry ResourceId) (system :
   pub stands : works first_path ≡ Some (System system)
 
 -- where it was the first to be inserted
-pub stands_alone : {V S C : Type 0} (empty placed : Plan ResourceId) (barrier : ℕ) (dependencies : List ℕ) (entry : PlanEntry ResourceId) (none works : Agent → Option (Work S (Nested V S C))) (system : S) → empty ≡ [] → IsInserted empty placed none works barrier dependencies entry (System system) → StandsAlone entry system placed works
+pub stands_alone : {V S C : Type 0} {rule : Rule} (empty placed : Plan ResourceId) (barrier : ℕ) (dependencies : List ℕ) (entry : PlanEntry ResourceId) (none works : Agent → Option (Work S (Nested V S C))) (system : S) → empty ≡ [] → IsInserted rule empty placed none works barrier dependencies entry (System system) → StandsAlone entry system placed works
 stands_alone empty placed barrier dependencies entry none works system nothing inserted =
-    let shape : placed ≡ ((entry ∷ []) ∷ []) ∷ [] = alone barrier barrier dependencies entry placed (subst (λ (p : Plan ResourceId). IsPlaced p barrier barrier dependencies entry placed) nothing inserted.placed) in
+    let shape : placed ≡ ((entry ∷ []) ∷ []) ∷ [] = alone barrier inserted.placed.start dependencies entry placed (subst (λ (p : Plan ResourceId). IsPlaced p barrier inserted.placed.start dependencies entry placed) nothing inserted.placed.placed) in
     let place : inserted.added.place ≡ first_path = new_place-only inserted.added.place first_path (entry_at empty) (entry_at placed) entry entry inserted.added.entry_is_new (ap (λ (p : Plan ResourceId). entry_at p first_path) nothing) (ap (λ (p : Plan ResourceId). entry_at p first_path) shape) in
     record { plan_is = shape; stands = ap works (sym place) ∙ inserted.added.system_is_new.stands }
 
@@ -57,8 +58,8 @@ module _ {V S C E : Type 0} (kind : V → Kind) (related : Related V S C E) (id 
         one_step entry ran.list (configuration_in before) (configuration_in after) writes (subst (λ (es : List Found). AllZip (IsDoneAt kind related.steps) es ran.list) order (plan-done kind related depth (occupants_of before) before.plan ran.list run held)) ran.replays
 
   -- where the one system of a plan is Done, the world holds what it left
-  pub single_leaves : (left : Option V) → ((before : S) (seen : Held V) (after : S) (values : Held V) → related.steps before seen (Ok tt) after values → values id ≡ left)
-      → (empty placed : Plan ResourceId) (barrier : ℕ) (dependencies : List ℕ) (entry : PlanEntry ResourceId) (none works : Agent → Option (Work S (Nested V S C))) (system : S) (before after : Situation V S C) → empty ≡ [] → IsInserted empty placed none works barrier dependencies entry (System system)
+  pub single_leaves : {rule : Rule} (left : Option V) → ((before : S) (seen : Held V) (after : S) (values : Held V) → related.steps before seen (Ok tt) after values → values id ≡ left)
+      → (empty placed : Plan ResourceId) (barrier : ℕ) (dependencies : List ℕ) (entry : PlanEntry ResourceId) (none works : Agent → Option (Work S (Nested V S C))) (system : S) (before after : Situation V S C) → empty ≡ [] → IsInserted rule empty placed none works barrier dependencies entry (System system)
       → before.plan ≡ placed → before.works first_path ≡ works first_path → Contains entry.access.writes id → Dispatched kind related dispatch_answer before (Ok tt) after → after.values id ≡ left
   single_leaves left leaves empty placed barrier dependencies entry none works system before after nothing inserted same_plan same_work writes ran =
       let alone = stands_alone empty placed barrier dependencies entry none works system nothing inserted in

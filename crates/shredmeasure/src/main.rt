@@ -11,8 +11,8 @@ ghost use Rattle.std.specs.Int.{w64, int_wrap};
 ghost use Rattle.shred_run.specs.Kept.{IsKept};
 ghost use Rattle.shred_run.specs.declared.system.RunningTime.TheVariants.{Average};
 ghost use Rattle.shred_model.specs.Plan.{Plan, PlanEntry};
-ghost use Rattle.shred_stage.specs.BuilderPlan.{barrier_of, planned as plan_of};
-ghost use Rattle.shred_stage.specs.Placement.{IsPlaced};
+ghost use Rattle.shred_stage.specs.BuilderPlan.{barrier_of, planned as plan_of, rule_of};
+ghost use Rattle.shred_stage.specs.SearchStart.{IsPlacedBy};
 ghost use Rattle.shred_table.specs.declared.id.ResourceId.{ResourceId};
 ghost use Rattle.shred_world.specs.Worlds.{world_held};
 ghost use Rattle.shred.specs.Dispatchers.{dispatcher_plan};
@@ -104,8 +104,9 @@ fn place(
     number: u64,
     system: Planned,
 ) -> Result<(), Stopped>
-    ensures placed { OnOk result ((entry : PlanEntry ResourceId) × IsKept number system.reads.items system.writes.items Average entry × IsPlaced (plan_of builder.old) (barrier_of builder.old) (barrier_of builder.old) [] entry (plan_of builder.new)) }
+    ensures placed { OnOk result ((entry : PlanEntry ResourceId) × IsKept number system.reads.items system.writes.items Average entry × IsPlacedBy (rule_of builder.old) (plan_of builder.old) (barrier_of builder.old) [] entry (plan_of builder.new)) }
     ensures barrier { barrier_of builder.new ≡ barrier_of builder.old }
+    ensures rule { rule_of builder.new ≡ rule_of builder.old }
 {
     match builder.insert(&[], SystemId(number as usize), Plain(system)) {
         Ok(()) => Ok(()),

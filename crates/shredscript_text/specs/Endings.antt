@@ -6,7 +6,7 @@ use Rattle.shred_stage.specs.declared.dispatch.dispatch_error.DispatchError.{Dis
 use Rattle.shred_stage.specs.declared.dispatch.dispatch_error.DispatchError.TheVariants.{System as at_system, ThreadLocal, StageMemory as at_stage}
 use Rattle.shred_run.specs.declared.system.Fault.{Fault}
 use Rattle.shred_run.specs.declared.system.Fault.TheVariants.{Refused as refuses, OutOfMemory as wants_memory}
-use Rattle.shredscript_text.specs.declared.error.AddRefusal.TheVariants.{NoSuchSystem, NameTaken, IdsExhausted, ThreadLocalInBatch}
+use Rattle.shredscript_text.specs.declared.error.AddRefusal.TheVariants.{NoSuchSystem, NameTaken, IdsExhausted, ThreadLocalInBatch, RuleTooLate}
 use Rattle.shredscript_text.specs.declared.error.LineError.{LineError}
 use Rattle.shredscript_text.specs.declared.error.LineError.TheVariants.{Fault as has_fault, Memory}
 use Rattle.shredscript_text.specs.declared.error.ScriptError.{ScriptError}
@@ -41,6 +41,7 @@ add_error line builder.NameTaken = refused_line line NameTaken
 add_error line builder.IdsExhausted = refused_line line IdsExhausted
 add_error line builder.OutOfMemory = OutOfMemory
 add_error line builder.ThreadLocalInBatch = refused_line line ThreadLocalInBatch
+add_error line builder.RuleTooLate = refused_line line RuleTooLate
 
 -- the status of an outcome: 0 where nothing was refused, else 2
 abbrev pub outcome_status : Outcome → ℕ

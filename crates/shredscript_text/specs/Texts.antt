@@ -2,7 +2,7 @@
 use Rattle.std.specs.Prelude.{ℕ, ℤ, List, [], ◌∷◌, ◌++◌, codes}
 use Rattle.std.specs.Fmt.{decimal, signed_decimal}
 use Rattle.shredscript_text.specs.declared.error.AddRefusal.{AddRefusal}
-use Rattle.shredscript_text.specs.declared.error.AddRefusal.TheVariants.{NoSuchSystem, NameTaken, IdsExhausted, ThreadLocalInBatch}
+use Rattle.shredscript_text.specs.declared.error.AddRefusal.TheVariants.{NoSuchSystem, NameTaken, IdsExhausted, ThreadLocalInBatch, RuleTooLate}
 use Rattle.shredscript_text.specs.declared.error.LineFault.{LineFault}
 use Rattle.shredscript_text.specs.declared.error.LineFault.TheVariants.{UnknownLine, BadWord, NoSuchResource, ResourceTwice, NotInBatch, EndWithoutBatch, BatchWithoutEnd, BatchTooDeep}
 use Rattle.shredscript_text.specs.declared.error.ScriptError.{ScriptError}
@@ -61,6 +61,7 @@ refused_add_text (NoSuchSystem place) = codes "no such system at " ++ decimal pl
 refused_add_text NameTaken = codes "name taken"
 refused_add_text IdsExhausted = codes "ids exhausted"
 refused_add_text ThreadLocalInBatch = codes "thread-local system in batch"
+refused_add_text RuleTooLate = codes "rule too late"
 
 -- why a script is not run to its outcome
 abbrev pub error_text : ScriptError → List ℕ

@@ -83,6 +83,9 @@ pub enum AddRefusal {
 
     /// The plan of a batch has a thread-local system.
     ThreadLocalInBatch,
+
+    /// A system or a batch was added before the rule.
+    RuleTooLate,
 }
 
 impl fmt::Display for AddRefusal {
@@ -97,6 +100,7 @@ impl fmt::Display for AddRefusal {
             AddRefusal::NameTaken => write!(f, "name taken"),
             AddRefusal::IdsExhausted => write!(f, "ids exhausted"),
             AddRefusal::ThreadLocalInBatch => write!(f, "thread-local system in batch"),
+            AddRefusal::RuleTooLate => write!(f, "rule too late"),
         }
     }
 }
@@ -168,6 +172,7 @@ impl ScriptError {
             AddError::NameTaken => AddRefusal::NameTaken,
             AddError::IdsExhausted => AddRefusal::IdsExhausted,
             AddError::ThreadLocalInBatch => AddRefusal::ThreadLocalInBatch,
+            AddError::RuleTooLate => AddRefusal::RuleTooLate,
             AddError::OutOfMemory => return ScriptError::OutOfMemory,
         };
         ScriptError::Refused { line, refusal }

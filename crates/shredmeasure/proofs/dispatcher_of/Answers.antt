@@ -8,5 +8,5 @@ loop-number-preserved c =
     let inserted = on_ok c.insert.result (c.is_err.ensures.value) c.if-is_err.false c.insert.ensures.placed in
     record {
       within = omega arith;
-      one_for_each = one_for_next c.loop-number.number (planned c.loop-number.builder) (planned c.insert.new.self) (barrier_of c.loop-number.builder) (barrier_of c.loop-number.builder) [] inserted.0 c.loop-number.invariant.one_for_each inserted.1.same_writes inserted.2.placed;
+      one_for_each = one_for_next c.loop-number.number (planned c.loop-number.builder) (planned c.insert.new.self) (barrier_of c.loop-number.builder) inserted.2.placed.start [] inserted.0 c.loop-number.invariant.one_for_each inserted.1.same_writes inserted.2.placed.placed;
     }

@@ -7,7 +7,7 @@ use Rattle.shred.specs.Batches.{IsBatchAddition}
 use Rattle.shred_run.specs.declared.system.RunningTime.TheVariants.{VeryLong}
 use Rattle.shred_stage.specs.Refusals.{IsBatchRefusal, MayAdd}
 use Rattle.shred_stage.specs.declared.add_error.AddError.{AddError}
-use Rattle.shred_stage.specs.declared.add_error.AddError.TheVariants.{NoSuchSystem, NameTaken, IdsExhausted, OutOfMemory, ThreadLocalInBatch}
+use Rattle.shred_stage.specs.declared.add_error.AddError.TheVariants.{NoSuchSystem, NameTaken, IdsExhausted, OutOfMemory, ThreadLocalInBatch, RuleTooLate}
 use Rattle.shredscript_text.specs.Endings.{add_error}
 use Rattle.shredscript_text.specs.declared.error.ScriptError.{ScriptError}
 use Rattle.shredscript_text.specs.declared.script.BatchLine.{BatchLine}
@@ -73,4 +73,5 @@ not-added-by line batch around inner (NoSuchSystem place) told is why = subst (I
 not-added-by line batch around inner NameTaken told is why = subst (IsBatchNotAdded line batch around inner) (sym is) (refl, why)
 not-added-by line batch around inner IdsExhausted told is why = subst (IsBatchNotAdded line batch around inner) (sym is) (refl, why)
 not-added-by line batch around inner ThreadLocalInBatch told is why = subst (IsBatchNotAdded line batch around inner) (sym is) (refl, why)
+not-added-by line batch around inner RuleTooLate told is why = absurd why
 not-added-by line batch around inner OutOfMemory told is why = subst (IsBatchNotAdded line batch around inner) (sym is) tt

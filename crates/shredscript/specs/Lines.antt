@@ -13,7 +13,7 @@ use Rattle.shred_stage.specs.declared.add_error.AddError.{AddError}
 use Rattle.shred_stage.specs.declared.add_error.AddError.TheVariants as builder
 use Rattle.shredscript.specs.declared.batch.ScriptBatch.{ScriptBatch}
 use Rattle.shredscript_text.specs.declared.error.AddRefusal.{AddRefusal}
-use Rattle.shredscript_text.specs.declared.error.AddRefusal.TheVariants.{NoSuchSystem, NameTaken, IdsExhausted, ThreadLocalInBatch}
+use Rattle.shredscript_text.specs.declared.error.AddRefusal.TheVariants.{NoSuchSystem, NameTaken, IdsExhausted, ThreadLocalInBatch, RuleTooLate}
 use Rattle.shredscript_text.specs.declared.error.LineFault.TheVariants.{EndWithoutBatch, BatchWithoutEnd}
 use Rattle.shredscript_text.specs.declared.error.ScriptError.{ScriptError}
 use Rattle.shredscript_text.specs.declared.error.ScriptError.TheVariants.{TooLong, InputFailed, Line, Refused, Unnamed, OutOfMemory, OutputFailed}
@@ -103,6 +103,7 @@ answer_of (NoSuchSystem place) = builder.NoSuchSystem place
 answer_of NameTaken = builder.NameTaken
 answer_of IdsExhausted = builder.IdsExhausted
 answer_of ThreadLocalInBatch = builder.ThreadLocalInBatch
+answer_of RuleTooLate = builder.RuleTooLate
 
 -- why a line's system is not added: the builder refuses it, which is told with the line's number; or memory is refused
 abbrev pub IsNotAdded : SystemLine → ScriptBuilt → ScriptError → Type 0

@@ -4,7 +4,7 @@ use Rattle.shred_table.specs.declared.id.ResourceId.{ResourceId}
 use Rattle.shred_model.specs.Plan.{PlanEntry, Plan}
 use Rattle.shred_model.specs.Record.{Agent}
 use Rattle.shred_stage.specs.Added.{AreSame, IsAdded}
-use Rattle.shred_stage.specs.Addition.{KeepsAddition}
+use Rattle.shred_run.specs.AdditionOrder.{KeepsAddition}
 use Rattle.shred_stage.specs.Earlier.{ComesAfterConflicts, HasIdAt, IsFromBarrier, StandsAfter, AllBeforeBarrier}
 use Rattle.shred_run.specs.Kept.{IsKept}
 use Rattle.shred_stage.specs.Known.{Known, known_ids, with_name}
@@ -120,6 +120,6 @@ pub record IsConsistent {S L : Type 0} (built : Built S L) : Type 0 where
   pub one_name : (name other : List ℕ) (id : ℕ) → built.known name ≡ Some id → built.known other ≡ Some id → name ≡ other
   pub empty_unknown : built.known [] ≡ None
 
--- under Ordered, of two entries that conflict the one with the smaller id stands earlier
-abbrev pub KeepsOrder : {S L : Type 0} → Built S L → Type 0
-KeepsOrder built = built.rule ≡ Ordered → KeepsAddition built.plan
+-- under Ordered the plan keeps the order of addition
+abbrev pub KeepsAdditionIfOrdered : {S L : Type 0} → Built S L → Type 0
+KeepsAdditionIfOrdered built = built.rule ≡ Ordered → KeepsAddition built.plan

@@ -1,6 +1,6 @@
 //! Asynchronous dispatchers of builders.
 ghost use Rattle.shred.specs.Builders.{built};
-ghost use Rattle.shred.specs.Built.{IsConsistent};
+ghost use Rattle.shred.specs.Built.{IsConsistent, KeepsAdditionIfOrdered};
 ghost use Rattle.shred_async.specs.BuiltOver.{IsBuiltOver};
 ghost use Rattle.shred_async.specs.Standing.{state_of};
 ghost use Rattle.shred_world.specs.Worlds.{world_held};
@@ -20,6 +20,7 @@ pub fn build_async<
 >(builder: DispatcherBuilder<V, S, C, L>, world: World<V>) -> AsyncDispatcher<V, S, C, L>
     ensures built { IsBuiltOver (built builder) (world_held V.kind_of world) (state_of V.kind_of result) }
     ensures consistent { IsConsistent (built builder) }
+    ensures addition { KeepsAdditionIfOrdered (built builder) }
 {
     let (stages, thread_local, workers) = builder.build().into_parts();
     new_async(world, stages, thread_local, workers)

@@ -1,5 +1,5 @@
 -- Inner plans: the lists that they are kept with, their setup, depth and disposal.
-use Rattle.std.proofs.Common.{◌≡◌, ◌↔◌, ◌∙◌, Bool, true, false, List, Contains, sym, refl, ap, ℕ, zero, suc, None, ◌≤◌, subst, arith, ◌<◌, ◌||◌, length, get_or, ◌++◌, ◌+◌, [], ◌∷◌, take, Some, max, take_all}
+use Rattle.std.proofs.Common.{◌≡◌, ◌↔◌, ◌∙◌, Bool, true, false, List, Contains, sym, refl, ap, ℕ, zero, suc, None, ◌≤◌, subst, arith, ◌<◌, length, get_or, ◌++◌, ◌+◌, [], ◌∷◌, take, Some, max, take_all}
 use Rattle.shred_table.specs.declared.id.ResourceId.{ResourceId}
 use Rattle.shred_table.specs.Slots.{among}
 use Rattle.shred_table.proofs.Tables.Ids.{among-true, among-contains, among-false}

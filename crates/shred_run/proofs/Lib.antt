@@ -1,3 +1,4 @@
+pub mod Added
 pub mod Called
 pub mod Circle
 pub mod Groups

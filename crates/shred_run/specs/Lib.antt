@@ -1,3 +1,4 @@
+pub mod AdditionOrder
 pub mod Alone
 pub mod BatchRuns
 pub mod Batches

@@ -7,7 +7,6 @@ use Rattle.shred_table.specs.declared.id.ResourceId.{ResourceId}
 use Rattle.shred_table.specs.declared.table.Table.{Table}
 use Rattle.shred_table.specs.Shown.{Lent, shown, IsSameSlots}
 use Rattle.shred_table.specs.Slots.{among}
-use Rattle.shred_run.specs.declared.loan.Loan.{Loan}
 
 -- The step lies in the relation on what the two lists show; it keeps kinds, slots, the lists, and each value that is not written.
 pub record IsStepBy {V X E : Type 0} (kind : V → Kind) (own : X → List ResourceId → List ResourceId → Type 0) (step : Step V X E) (reads writes : List ResourceId) (lent : Lent V)

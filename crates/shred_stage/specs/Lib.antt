@@ -4,7 +4,6 @@ pub mod Placement
 pub mod SearchStart
 pub mod Search
 pub mod Earlier
-pub mod Addition
 pub mod Known
 pub mod BuilderPlan
 pub mod Names

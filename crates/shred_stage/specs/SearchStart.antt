@@ -21,7 +21,7 @@ abbrev pub IsSearchStart : {I : Type 0} → Rule → Plan I → ℕ → Access I
 IsSearchStart First plan barrier access start = start ≡ barrier
 IsSearchStart Ordered plan barrier access start = IsOrderedStart plan barrier access start
 
--- The first stage that admits the entry takes it, from where the rule has the search begin; what is left of its dependencies is counted from the barrier.
+-- The entry is placed by a search that begins where the rule has it begin; what is left of its dependencies is counted from the barrier.
 pub record IsPlacedBy {I : Type 0} (rule : Rule) (plan : Plan I) (barrier : ℕ) (dependencies : List ℕ) (entry : PlanEntry I) (new : Plan I) : Type 0 where
   pub start : ℕ
   pub begins : IsSearchStart rule plan barrier entry.access start

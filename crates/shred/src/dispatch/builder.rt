@@ -8,7 +8,9 @@ ghost use Rattle.shred_run.specs.Works.{tiers_plan};
 ghost use Rattle.shred_model.specs.Plan.{plan_ids};
 ghost use Rattle.shred_model.specs.Record.{Agent};
 ghost use Rattle.shred_stage.specs.BuilderPlan.{planned, barrier_of, rule_of, builder_states};
-ghost use Rattle.shred.specs.Built.{IsAddition, IsBarrierSet, IsConsistent, IsEntryAdded, IsLocalAdded, IsNewBuilt, IsPoolSet, IsRuleSet, IsSameBuilt};
+ghost use Rattle.shred.specs.Built.{IsAddition, IsBarrierSet, IsConsistent, IsEntryAdded, IsLocalAdded, IsNewBuilt, IsPoolSet, IsRuleSet, IsSameBuilt, KeepsAdditionIfOrdered};
+ghost use Rattle.shred_run.specs.AdditionOrder.{KeepsAddition};
+ghost use Rattle.shred_stage.specs.declared.dispatch.rule.Rule.TheVariants.{Ordered};
 ghost use Rattle.shred_run.specs.Depths.{Declared, lists_of};
 ghost use Rattle.shred_run.specs.OwnDepth.{OwnsItself};
 ghost use Rattle.shred_run.specs.OwnLists.{IsEntryOf};
@@ -58,6 +60,7 @@ pub struct DispatcherBuilder<
     ghost distinct_names: { IsUnique string_eq names } by { Prim.hlevel props },
     ghost known_planned: { (name : List ℕ) (id : ℕ) → names_of names name ≡ Some id → plan_has (planned stages) id ≡ true },
     ghost consistent: { IsConsistent (record { plan = planned stages; states = builder_states stages; known = names_of names; barrier = barrier_of stages; rule = rule_of stages; next = next; locals = systems_of thread_local; workers = workers }) },
+    ghost ordered: { rule_of stages ≡ Ordered → KeepsAddition (planned stages) },
 }
 
 impl<V: ResourceValue, S: System<V>, C: BatchController<V>, L: Drop> DispatcherBuilder<V, S, C, L> {
@@ -204,6 +207,7 @@ impl<V: ResourceValue, S: System<V>, C: BatchController<V>, L: Drop> DispatcherB
         ensures locals { dispatcher_locals result ≡ (built self).locals }
         ensures workers { dispatcher_workers result ≡ (built self).workers }
         ensures consistent { IsConsistent (built self) }
+        ensures addition { KeepsAdditionIfOrdered (built self) }
     {
         new_dispatcher(self.stages.build(), self.thread_local, self.workers)
     }
@@ -221,6 +225,7 @@ impl<V: ResourceValue, S: System<V>, C: BatchController<V>, L: Drop> DispatcherB
         ensures known { (name : List ℕ) → names_known result.1 name ≡ (built self).known name }
         ensures names { AreNames (names_pairs result.1) (built self).known }
         ensures consistent { IsConsistent (built self) }
+        ensures addition { KeepsAdditionIfOrdered (built self) }
     {
         let dispatcher = new_dispatcher(self.stages.build(), self.thread_local, self.workers);
         (dispatcher, SystemNames { names: self.names })

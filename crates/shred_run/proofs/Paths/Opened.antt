@@ -3,6 +3,7 @@ use Rattle.std.proofs.Common.{◌≡◌, ◌≢◌, ℕ, zero, suc, [], ◌∷�
 use Rattle.std.specs.Prelude.{option_and_then}
 use Rattle.shred_model.specs.Record.{Agent, Record, under}
 use Rattle.shred_model.proofs.Records.Telling.{tell_numbers, Tells}
+use Rattle.shred_run.specs.AdditionOrder.{under_place}
 use Rattle.shred_run.specs.Occupants.{inside_at, inside_each, Occupant, Occupants, a_system, a_batch}
 use Rattle.std.specs.List.{AllByRecursion}
 use Rattle.std.proofs.lemmas.List.{map-append}
@@ -52,10 +53,6 @@ module _ {X T : Type 0} (within : X → Agent → Option T) where
   ]
 
 -- Lists of records, each of which is opened into a list of records of agents inside its own.
--- the record, of an agent inside the one at this place
-abbrev pub under_place : {I V S O : Type 0} → Agent → Record Agent I V S O → Record Agent I V S O
-under_place place r = record r { agent = place ++ r.agent }
-
 module _ {I V S P : Type 0} where
   pub map-under_place : (n : ℕ) (place : Agent) (xs : List (Record Agent I V S P)) → map (under n) (map (under_place place) xs) ≡ map (under_place (n ∷ place)) xs
   map-under_place n place xs = map-map (under n) (under_place place) xs

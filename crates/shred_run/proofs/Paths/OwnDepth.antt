@@ -29,6 +29,7 @@ use Rattle.shred_run.specs.Alone.{KeepsKinds}
 use Rattle.shred_run.specs.NestedRuns.{NestedPlanRun, NestedRun}
 use Rattle.shred_run.specs.Occupants.{inside_each, work_occupants, work_states, Occupants, a_batch, a_system, inside_at, by_path}
 use Rattle.shred_run.specs.Dispatched.{Dispatched}
+use Rattle.shred_run.proofs.Added.InOrder.{ran-as-added}
 use Rattle.shred_run.proofs.Paths.Opened.{Fits, PlanFitsThroughout, plan_access, OccupantFits, PlanFits, StageFits, EachAt}
 use Rattle.shred_run.proofs.Paths.Within.{nested_within, plan_within, within-framed, within-entries, parallel-independent}
 use Rattle.shred_run.proofs.Paths.Works.{expand, plan-nested, plan-same, by_path-batch, inner_occupants, with_own}
@@ -138,9 +139,9 @@ module _ {V S C E : Type 0} (kind : V → Kind) (related : Related V S C E) (dep
   TurnAt place stage list told = (x : Answer (StageFault E)) × StageTurn kind (WorkStep kind related depth) stage list x × (told ≡ answers place x)
 
   -- A plan's run, of what fits its entries, where the groups of each stage do not conflict, leaves what a dispatch promises.
-  pub plan-dispatched : (plan new : model.Plan ResourceId) (answer : Answer F) → Ran (RunsUpToFault TurnAt 0 plan) (configuration_of a m) answer (configuration_of b n) → PlanFitsThroughout (inside_each 3 work_occupants a) plan → All (AreApart model.group_access) plan
+  pub plan-dispatched : ((place : ℕ) (x : Answer (StageFault E)) → Ok tt ≡ answers place x → x ≡ Ok tt) → (plan new : model.Plan ResourceId) (answer : Answer F) → Ran (RunsUpToFault TurnAt 0 plan) (configuration_of a m) answer (configuration_of b n) → PlanFitsThroughout (inside_each 3 work_occupants a) plan → All (AreApart model.group_access) plan
       → new ≡ plan → KeepsKinds kind m n → Dispatched kind related answers (record { plan = plan; works = a; values = m }) answer (record { plan = new; works = b; values = n })
-  plan-dispatched plan new answer ran throughout apart same kinds =
+  plan-dispatched tells plan new answer ran throughout apart same kinds =
       let fits = throughout depth in
       let all = inside_each 3 work_occupants a in
       let one = Ran-as_one_thread tell_ids (NestedPlanRun true (NestedRun true kind related depth) answers all plan) (configuration_of (inside_each 3 work_states a) m) answer (configuration_of (inside_each 3 work_states b) n)
@@ -152,6 +153,8 @@ module _ {V S C E : Type 0} (kind : V → Kind) (related : Related V S C E) (dep
         any_order = one.any_order;
         parallel = parallel-independent kind related answers plan all one.list answer apart throughout (depth, one.run);
         within = within-entries kind related answers plan all one.list answer throughout (depth, one.run);
+        as_added = λ keeps done. ran-as-added kind related answers tells depth (record { plan = plan; works = a; values = m }) (record { plan = new; works = b; values = n }) one.list fits
+            (subst (λ (told : Answer F). NestedPlanRun true (NestedRun true kind related depth) answers all plan one.list told) done one.run) one.replays keeps;
         plan = same;
         occupants = λ path i. plan-same kind related depth a b m n TurnAt answers (λ k stage list told turn. turn) plan answer ran i path;
         kinds = kinds;
@@ -325,11 +328,11 @@ module _ {V S C E : Type 0} (kind : V → Kind) (related : Related V S C E) wher
     told-deeper d e le n stage list told (x, turn, is) = (x, StageTurn-weaker kind (WorkStep kind related d) (WorkStep kind related e) (deeper d e le) stage list x turn, is)
 
     -- A plan's run, whose batches are as deep as is noted of them, leaves what a dispatch promises.
-    pub own-plan-dispatched : (a b : Agent → Option (Work S (Nested V S C))) (m n : Held V) (plan new : model.Plan ResourceId) (answer : Answer F) → Ran (RunsUpToFault (ToldTurn kind (OwnStep kind related) answers) 0 plan) (configuration_of a m) answer (configuration_of b n)
+    pub own-plan-dispatched : ((place : ℕ) (x : Answer (StageFault E)) → Ok tt ≡ answers place x → x ≡ Ok tt) → (a b : Agent → Option (Work S (Nested V S C))) (m n : Held V) (plan new : model.Plan ResourceId) (answer : Answer F) → Ran (RunsUpToFault (ToldTurn kind (OwnStep kind related) answers) 0 plan) (configuration_of a m) answer (configuration_of b n)
         → PlanFitsThroughout (inside_each 3 work_occupants a) plan → All (AreApart model.group_access) plan → new ≡ plan → KeepsKinds kind m n → Dispatched kind related answers (record { plan = plan; works = a; values = m }) answer (record { plan = new; works = b; values = n })
-    own-plan-dispatched a b m n plan new answer ran fits apart same kinds =
+    own-plan-dispatched tells a b m n plan new answer ran fits apart same kinds =
         let at = UpToFault-some (ToldTurn kind (OwnStep kind related) answers) (λ d. ToldTurn kind (WorkStep kind related d) answers) told-deeper told-some 0 plan ran.list answer ran.run in
-        plan-dispatched kind related at.0 a b m n answers plan new answer (record { list = ran.list; run = at.1; replays = ran.replays }) fits apart same kinds
+        plan-dispatched kind related at.0 a b m n answers tells plan new answer (record { list = ran.list; run = at.1; replays = ran.replays }) fits apart same kinds
 
 module _ {V S C : Type 0} (declared : Declared S C) where
   -- the stages of a plan whose groups may be kept with their lists fit them

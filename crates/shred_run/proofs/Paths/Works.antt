@@ -25,7 +25,8 @@ use Rattle.shred_run.specs.Entries.{EntryRun, GroupRun, StageTurn}
 use Rattle.shred_run.specs.Steps.{Outcome, Step, Written, IsStep, declared_of}
 use Rattle.shred_run.specs.NestedRecords.{NestedRecord, IsNestedStep, Reply, replied, bound, again, done}
 use Rattle.shred_run.specs.NestedRuns.{NestedEntryRun, NestedGroupRun, NestedStageTurn, NestedPlanRun, NestedRounds, NestedBatchRun, NestedRun, OccupantRun}
-use Rattle.shred_run.proofs.Paths.Opened.{EntryFits, GroupFits, PlanFits, StageFits, AreOpened, AreOpened-none, under_place, With, Each-with, UpToFault-with, Opening, Stays, StandsAt, RunsUpToFault-each, RunsEach-each, UpToFault-opened, Each-opened, stands, Fits, replays-opened}
+use Rattle.shred_run.specs.AdditionOrder.{under_place}
+use Rattle.shred_run.proofs.Paths.Opened.{EntryFits, GroupFits, PlanFits, StageFits, AreOpened, AreOpened-none, With, Each-with, UpToFault-with, Opening, Stays, StandsAt, RunsUpToFault-each, RunsEach-each, UpToFault-opened, Each-opened, stands, Fits, replays-opened}
 use Rattle.shred_world.specs.Worked.{Held}
 use Rattle.shred_run.specs.KeptControllers.{control_access}
 use Rattle.shred_run.proofs.Circle.Rounds.{batch_keeps}

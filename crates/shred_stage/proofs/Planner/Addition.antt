@@ -1,15 +1,15 @@
 -- Under Ordered, a plan keeps the order of addition.
-use Rattle.std.proofs.Common.{◌≡◌, ◌≢◌, ℕ, zero, ◌<◌, ◌≤◌, List, [], ◌∷◌, ◌++◌, length, set, Option, Some, None, refl, sym, ◌∙◌, ap, subst, inl, inr, ⊎_elim, arith}
+use Rattle.std.proofs.Common.{◌≡◌, ◌≢◌, ℕ, zero, ◌<◌, ◌≤◌, List, [], ◌∷◌, ◌++◌, length, set, Option, Some, None, refl, sym, ◌∙◌, ap, subst, subst₂, inl, inr, ⊎_elim, arith}
 use Rattle.std.specs.List.{Contains, slice_get, Any, All}
 use Rattle.std.proofs.lemmas.Bool.{cases_lt, cases_eq}
 use Rattle.std.proofs.lemmas.Option.{slice_get_within, slice_get_past, get_or_from_slice_get}
-use Rattle.shred_model.specs.Access.{Conflicts}
+use Rattle.shred_model.specs.Access.{Access, Conflicts}
 use Rattle.shred_model.specs.Plan.{PlanEntry, Group, Stage, Plan, group_access, entry_at}
 use Rattle.shred_model.specs.Record.{Agent}
 use Rattle.shred_model.specs.States.{own_state, listed_states}
 use Rattle.shred_model.proofs.Records.Places.{slice_get-set_same}
+use Rattle.shred_run.specs.AdditionOrder.{StandsBefore, KeepsAddition}
 use Rattle.shred_stage.specs.Added.{IsNewAt}
-use Rattle.shred_stage.specs.Addition.{KeepsAddition}
 use Rattle.shred_stage.specs.Earlier.{ComesAfterConflicts, IsEarlier, HasIdAt}
 use Rattle.shred_stage.specs.Placement.{IsPlaced, in_new_group, at_end_of_group, in_new_stage}
 use Rattle.shred_stage.specs.SearchStart.{IsOrderedStart, IsPlacedBy, IsSearchStart}
@@ -136,34 +136,55 @@ after-conflicts rule plan placed barrier dependencies entry place by new is othe
     let begins : IsOrderedStart plan barrier entry.access by.start = subst (λ r. IsSearchStart r plan barrier entry.access by.start) is by.begins in
     earlier plan placed barrier by.start dependencies entry place begins new by.placed other old (stands plan other old at) bound
 
+-- what is done earlier stands before
+earlier-before : (place other : Agent) → IsEarlier place other → StandsBefore place other
+earlier-before place other (inl (k, l, p, q, is, at, lt)) = subst₂ StandsBefore (sym is) (sym at) (inl lt)
+earlier-before place other (inr (k, g, i, j, is, at, lt)) = subst₂ StandsBefore (sym is) (sym at) (inr (refl, inr (refl, inl lt)))
+
+-- of two places, one stands before the other at most
+one_before : (place other : Agent) → StandsBefore place other → StandsBefore other place → ⊥
+one_before [] other h k = h
+one_before (n ∷ p) [] h k = h
+one_before (n ∷ p) (m ∷ q) (inl lt) (inl gt) = omega (arith, lt, gt)
+one_before (n ∷ p) (m ∷ q) (inl lt) (inr k) = omega (arith, lt, k.0)
+one_before (n ∷ p) (m ∷ q) (inr h) (inl gt) = omega (arith, gt, h.0)
+one_before (n ∷ p) (m ∷ q) (inr h) (inr k) = one_before p q h.1 k.1
+
+conflicts-turn : {I : Type 0} (a b : Access I) → Conflicts a b → Conflicts b a
+conflicts-turn a b (i, inl h) = (i, inr h)
+conflicts-turn a b (i, inr h) = (i, inl h)
+
 module _ {I : Type 0} (plan placed : Plan I) (entry : PlanEntry I) (place : Agent) (new : IsNewAt place (entry_at plan) (entry_at placed) entry) where
   same_entry : (e f : PlanEntry I) → Some e ≡ Some f → e ≡ f
   same_entry e f h = cc
 
   -- with an entry of a greater id that stands after all that it conflicts with, a plan keeps the order of addition
   pub keeps-added : ComesAfterConflicts plan entry.access place → ((path : Agent) (id : ℕ) → HasIdAt plan path id → id < entry.id) → KeepsAddition plan → KeepsAddition placed
-  keeps-added after greatest kept p q e f at_p at_q bound lt = ⊎_elim
-      (λ (p_new : p ≡ place). absurd (
+  keeps-added after greatest kept p q e f at_p at_q bound before = ⊎_elim
+      (λ (p_new : p ≡ place).
       let e_is : e ≡ entry = same_entry e entry (sym at_p ∙ ap (entry_at placed) p_new ∙ new.stands) in
-      let e_id : e.id ≡ entry.id = ap (λ x. x.id) e_is in
-      ⊎_elim (λ (q_new : q ≡ place). let f_is : f ≡ entry = same_entry f entry (sym at_q ∙ ap (entry_at placed) q_new ∙ new.stands) in let f_id : f.id ≡ entry.id = ap (λ x. x.id) f_is in omega (arith, lt, e_id, f_id))
-      (λ (q_old : q ≢ place). let below = greatest q f.id (f, sym (new.others q q_old) ∙ at_q, refl) in omega (arith, lt, e_id, below))
+      absurd (⊎_elim
+      (λ (q_new : q ≡ place). one_before p q before (subst₂ StandsBefore (p_new ∙ sym q_new) (q_new ∙ sym p_new) before))
+      (λ (q_old : q ≢ place).
+      let there : entry_at plan q ≡ Some f = sym (new.others q q_old) ∙ at_q in
+      let with_new : Conflicts entry.access f.access = subst (λ (x : PlanEntry I). Conflicts x.access f.access) e_is bound in
+      one_before p q before (subst (λ (w : Agent). StandsBefore q w) (sym p_new) (earlier-before q place (after q f there (conflicts-turn entry.access f.access with_new)))))
       (same_place q place)))
       (λ (p_old : p ≢ place).
-      let e_there : entry_at plan p ≡ Some e = sym (new.others p p_old) ∙ at_p in
-      ⊎_elim (λ (q_new : q ≡ place).
+      let there : entry_at plan p ≡ Some e = sym (new.others p p_old) ∙ at_p in
+      ⊎_elim
+      (λ (q_new : q ≡ place).
       let f_is : f ≡ entry = same_entry f entry (sym at_q ∙ ap (entry_at placed) q_new ∙ new.stands) in
-      let with_new : Conflicts e.access entry.access = subst (λ (x : PlanEntry I). Conflicts e.access x.access) f_is bound in
-      subst (λ (w : Agent). IsEarlier p w) (sym q_new) (after p e e_there with_new))
-      (λ (q_old : q ≢ place). kept p q e f e_there (sym (new.others q q_old) ∙ at_q) bound lt)
+      subst (λ (x : PlanEntry I). e.id < x.id) (sym f_is) (greatest p e.id (e, there, refl)))
+      (λ (q_old : q ≢ place). kept p q e f there (sym (new.others q q_old) ∙ at_q) bound before)
       (same_place q place))
       (same_place p place)
 
 -- an empty plan keeps it
 pub keeps-empty : {I : Type 0} (plan : Plan I) → plan ≡ [] → KeepsAddition plan
-keeps-empty plan none [] q e f at_p at_q bound lt = absurd (let g : None ≡ Some e = at_p in cc)
-keeps-empty plan none (k ∷ p) q e f at_p at_q bound lt = absurd (let g : None ≡ Some e = sym (ap (λ w. entry_at w (k ∷ p)) none) ∙ at_p in cc)
+keeps-empty plan none [] q e f at_p at_q bound before = absurd (let g : None ≡ Some e = at_p in cc)
+keeps-empty plan none (k ∷ p) q e f at_p at_q bound before = absurd (let g : None ≡ Some e = sym (ap (λ w. entry_at w (k ∷ p)) none) ∙ at_p in cc)
 
 -- and so does one whose ids are below 0
 pub keeps-without : {I : Type 0} (plan : Plan I) (count : ℕ) → count ≡ 0 → ((place : Agent) (id : ℕ) → HasIdAt plan place id → id < count) → KeepsAddition plan
-keeps-without plan count none below place other entry next at_place at_other bound lt = absurd (let b = below place entry.id (entry, at_place, refl) in omega (arith, b, none))
+keeps-without plan count none below place other entry next at_place at_other bound before = absurd (let b = below place entry.id (entry, at_place, refl) in omega (arith, b, none))

@@ -1,5 +1,5 @@
 -- Runs of stages, one after the other, leave what a dispatch promises.
-use Rattle.std.proofs.Common.{◌≡◌, ℕ, ◌<◌, ◌≤◌, ◌+◌, List, [], ◌∷◌, All, length, get_or, set, Ok, Err, refl, ◌∙◌, arith}
+use Rattle.std.proofs.Common.{◌≡◌, ℕ, ◌<◌, ◌≤◌, ◌+◌, List, [], ◌∷◌, All, length, get_or, set, Ok, Err, refl, sym, ◌∙◌, arith}
 use Rattle.std.proofs.Math.Seq.{map-set_same}
 use Rattle.std.proofs.lemmas.List.Elements.{All-nil, All-cons}
 use Rattle.shred_model.specs.Beside.{AreApart}
@@ -18,9 +18,10 @@ use Rattle.shred_run.specs.Entries.{StageTurn}
 use Rattle.shred_run.specs.OwnDepth.{OwnStep, OwnsItself}
 use Rattle.shred_run.specs.OwnLists.{IsGroupOf}
 use Rattle.shred_run.specs.declared.entry.StageFault.{StageFault}
+use Rattle.shred_run.specs.declared.entry.StageFault.TheVariants.{System, Memory}
 use Rattle.shred_run.proofs.Paths.OwnDepth.{ToldTurn, own-plan-dispatched, own-plan-fits}
 use Rattle.shred_stage.specs.Plans.{plan_states, stage_states}
-use Rattle.shred_stage.specs.Situations.{StageTook, stage_answer, stages_with}
+use Rattle.shred_stage.specs.Situations.{StageTook, dispatch_answer, stage_answer, stages_with}
 use Rattle.shred_stage.specs.StagePlan.{plan_of, stage_plan}
 use Rattle.shred_stage.specs.declared.dispatch.stage.Stage.{Stage}
 
@@ -29,6 +30,18 @@ pub turn-told : {V S C E F : Type 0} (kind : V → Kind) (related : Related V S 
     → Ran (StageTurn kind (OwnStep kind related) stage) x a y → Ran (ToldTurn kind (OwnStep kind related) answers place stage) x b y
 turn-told kind related answers place stage x y a b is ran = Ran-as (StageTurn kind (OwnStep kind related) stage) x a y (ToldTurn kind (OwnStep kind related) answers place stage) b (λ list run. (a, run, is)) ran
 
+-- only what is Done is told as Done
+abbrev pub TellsDone : {E F : Type 0} → (ℕ → Answer (StageFault E) → Answer F) → Type 0
+TellsDone {E} answers = (place : ℕ) (answer : Answer (StageFault E)) → Ok tt ≡ answers place answer → answer ≡ Ok tt
+
+pub dispatch-tells : {E : Type 0} → TellsDone (dispatch_answer {E = E})
+dispatch-tells place (Ok done) is = refl
+dispatch-tells place (Err (System id fault)) is = absurd (cc)
+dispatch-tells place (Err Memory) is = absurd (cc)
+
+pub stage-tells : {E : Type 0} → TellsDone (stage_answer {E = E})
+stage-tells place answer is = sym is
+
 module _ {V S C N A M B E : Type 0} {vd : _} {sd : _} {ad : _} {cd : _} {bd : _} (kind : V → Kind) (related : Related V S C E) (declared : Declared S C)
     (own : (stage : Stage V S C N A M B vd sd ad cd bd) → All (IsGroupOf (OwnsItself declared)) stage.groups.items) (apart : (stage : Stage V S C N A M B vd sd ad cd bd) → AreApart model.group_access (stage_plan stage)) where
   plan-apart : (stages : List (Stage V S C N A M B vd sd ad cd bd)) → All (AreApart model.group_access) (plan_of stages)
@@ -36,11 +49,11 @@ module _ {V S C N A M B E : Type 0} {vd : _} {sd : _} {ad : _} {cd : _} {bd : _}
   plan-apart (stage ∷ stages) = All-cons (AreApart model.group_access) _ _ (apart stage) (plan-apart stages)
 
   -- what some stages leave that ran one after the other
-  pub stages-dispatched : {F : Type 0} (answers : ℕ → Answer (StageFault E) → Answer F) (old new : List (Stage V S C N A M B vd sd ad cd bd)) (before after : Held V) (answer : Answer F)
+  pub stages-dispatched : {F : Type 0} (answers : ℕ → Answer (StageFault E) → Answer F) → TellsDone answers → (old new : List (Stage V S C N A M B vd sd ad cd bd)) (before after : Held V) (answer : Answer F)
       → Ran (RunsUpToFault (ToldTurn kind (OwnStep kind related) answers) 0 (plan_of old)) (configuration_of (plan_states old) before) answer (configuration_of (plan_states new) after) → plan_of new ≡ plan_of old → KeepsKinds kind before after
       → Dispatched kind related answers (stages_with old before) answer (stages_with new after)
-  stages-dispatched answers old new before after answer ran same kinds =
-      own-plan-dispatched kind related answers (plan_states old) (plan_states new) before after (plan_of old) (plan_of new) answer ran (own-plan-fits declared (λ stage. stage.groups.items) own old) (plan-apart old) same kinds
+  stages-dispatched answers tells old new before after answer ran same kinds =
+      own-plan-dispatched kind related answers tells (plan_states old) (plan_states new) before after (plan_of old) (plan_of new) answer ran (own-plan-fits declared (λ stage. stage.groups.items) own old) (plan-apart old) same kinds
 
 module _ {V S C N A M B E F : Type 0} {vd : _} {sd : _} {ad : _} {cd : _} {bd : _} (kind : V → Kind) (related : Related V S C E) (answers : ℕ → Answer (StageFault E) → Answer F) (start : List (Stage V S C N A M B vd sd ad cd bd)) (before : Held V) where
   -- Those before place n took their turn and were Done; their plans stay, and the ids that are held with the kinds of their values.
@@ -53,11 +66,11 @@ module _ {V S C N A M B E F : Type 0} {vd : _} {sd : _} {ad : _} {cd : _} {bd : 
   stages-start = record { plan = refl; kinds = λ id. refl; ran = SoFar-start (ToldTurn kind (OwnStep kind related) answers) _ _ }
 
 module _ {V S C N A M B E F : Type 0} {vd : _} {sd : _} {ad : _} {cd : _} {bd : _} {kind : V → Kind} {related : Related V S C E} {answers : ℕ → Answer (StageFault E) → Answer F} {start : List (Stage V S C N A M B vd sd ad cd bd)} {before : Held V}
-    {n : ℕ} {stages : List (Stage V S C N A M B vd sd ad cd bd)} {now : Held V} (so_far : StagesRan kind related answers start before n stages now) (declared : Declared S C)
+    {n : ℕ} {stages : List (Stage V S C N A M B vd sd ad cd bd)} {now : Held V} (so_far : StagesRan kind related answers start before n stages now) (tells : TellsDone answers) (declared : Declared S C)
     (own : (stage : Stage V S C N A M B vd sd ad cd bd) → All (IsGroupOf (OwnsItself declared)) stage.groups.items) (apart : (stage : Stage V S C N A M B vd sd ad cd bd) → AreApart model.group_access (stage_plan stage)) where
   -- past the last, all were Done
   pub stages-end : length stages ≤ n → Dispatched kind related answers (stages_with start before) (Ok tt) (stages_with stages now)
-  stages-end past = stages-dispatched kind related declared own apart answers start stages before now (Ok tt) (SoFar-end (ToldTurn kind (OwnStep kind related) answers) stage_plan stage_states stages now so_far.plan so_far.ran past) so_far.plan so_far.kinds
+  stages-end past = stages-dispatched kind related declared own apart answers tells start stages before now (Ok tt) (SoFar-end (ToldTurn kind (OwnStep kind related) answers) stage_plan stage_states stages now so_far.plan so_far.ran past) so_far.plan so_far.kinds
 
   module _ (d new : Stage V S C N A M B vd sd ad cd bd) (below : n < length stages) {answer : Answer (StageFault E)} {after : Held V} (took : StageTook kind related (get_or stages n d) now answer new after) where
     plan-stays : plan_of (set stages n new) ≡ plan_of start
@@ -65,7 +78,7 @@ module _ {V S C N A M B E F : Type 0} {vd : _} {sd : _} {ad : _} {cd : _} {bd : 
 
     -- a fault ends the run of all
     pub stages-fault : (fault : F) → Err fault ≡ answers n answer → Dispatched kind related answers (stages_with start before) (Err fault) (stages_with (set stages n new) after)
-    stages-fault fault is = stages-dispatched kind related declared own apart answers start (set stages n new) before after (Err fault)
+    stages-fault fault is = stages-dispatched kind related declared own apart answers tells start (set stages n new) before after (Err fault)
         (SoFar-fault (ToldTurn kind (OwnStep kind related) answers) stage_plan stage_states stages now so_far.plan so_far.ran d new after below fault (turn-told kind related answers n (stage_plan (get_or stages n d)) _ _ answer (Err fault) is took.ran))
         plan-stays (λ id. took.kinds id ∙ so_far.kinds id)
 
@@ -82,5 +95,5 @@ pub stage-dispatched : {V S C N A M B E : Type 0} {vd : _} {sd : _} {ad : _} {cd
     (own : (stage : Stage V S C N A M B vd sd ad cd bd) → All (IsGroupOf (OwnsItself declared)) stage.groups.items) (apart : (stage : Stage V S C N A M B vd sd ad cd bd) → AreApart model.group_access (stage_plan stage))
     (old new : Stage V S C N A M B vd sd ad cd bd) (before after : Held V) (answer : Answer (StageFault E)) → StageTook kind related old before answer new after → Dispatched kind related stage_answer (stages_with (old ∷ []) before) answer (stages_with (new ∷ []) after)
 stage-dispatched kind related declared own apart old new before after (Ok done) took =
-    stages-end (stages-more (stages-start kind related stage_answer (old ∷ []) before) declared own apart old new (omega arith) took refl) declared own apart (omega arith)
-stage-dispatched kind related declared own apart old new before after (Err fault) took = stages-fault (stages-start kind related stage_answer (old ∷ []) before) declared own apart old new (omega arith) took fault refl
+    stages-end (stages-more (stages-start kind related stage_answer (old ∷ []) before) stage-tells declared own apart old new (omega arith) took refl) stage-tells declared own apart (omega arith)
+stage-dispatched kind related declared own apart old new before after (Err fault) took = stages-fault (stages-start kind related stage_answer (old ∷ []) before) stage-tells declared own apart old new (omega arith) took fault refl

@@ -1,16 +1,16 @@
 use Rattle.std.proofs.Common.{refl, arith}
 use Rattle.shred_run.specs.Depths.{lists_of}
-use Rattle.shred_stage.proofs.Runs.Plans.{stages-start, stages-more, stages-fault, stages-end}
+use Rattle.shred_stage.proofs.Runs.Plans.{dispatch-tells, stages-start, stages-more, stages-fault, stages-end}
 use Rattle.shred_stage.proofs.dispatch.plan.run_beside.Goals as goal
 
 pub loop-place-init : goal.loop-place-init
 loop-place-init g c = stages-start _ _ _ _ _
 
 pub returns-in-Err : goal.returns-in-Err
-returns-in-Err g c = stages-fault c.loop-place.invariant (lists_of g.S.System.reads g.S.System.writes g.C.BatchController.reads g.C.BatchController.writes) (λ stage. stage.own_lists) (λ stage. stage.apart) c.index-stages-place.result c.turn_beside.new.self (omega arith) c.in-Err.ensures c.at_stage.result c.at_stage.ensures
+returns-in-Err g c = stages-fault c.loop-place.invariant dispatch-tells (lists_of g.S.System.reads g.S.System.writes g.C.BatchController.reads g.C.BatchController.writes) (λ stage. stage.own_lists) (λ stage. stage.apart) c.index-stages-place.result c.turn_beside.new.self (omega arith) c.in-Err.ensures c.at_stage.result c.at_stage.ensures
 
 pub loop-place-preserved : goal.loop-place-preserved
-loop-place-preserved g c = stages-more c.loop-place.invariant (lists_of g.S.System.reads g.S.System.writes g.C.BatchController.reads g.C.BatchController.writes) (λ stage. stage.own_lists) (λ stage. stage.apart) c.index-stages-place.result c.turn_beside.new.self (omega arith) c.in_default.ensures refl
+loop-place-preserved g c = stages-more c.loop-place.invariant dispatch-tells (lists_of g.S.System.reads g.S.System.writes g.C.BatchController.reads g.C.BatchController.writes) (λ stage. stage.own_lists) (λ stage. stage.apart) c.index-stages-place.result c.turn_beside.new.self (omega arith) c.in_default.ensures refl
 
 pub returns : goal.returns
-returns g c = stages-end c.loop-place.invariant (lists_of g.S.System.reads g.S.System.writes g.C.BatchController.reads g.C.BatchController.writes) (λ stage. stage.own_lists) (λ stage. stage.apart) (omega arith)
+returns g c = stages-end c.loop-place.invariant dispatch-tells (lists_of g.S.System.reads g.S.System.writes g.C.BatchController.reads g.C.BatchController.writes) (λ stage. stage.own_lists) (λ stage. stage.apart) (omega arith)

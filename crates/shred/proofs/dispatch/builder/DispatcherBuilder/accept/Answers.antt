@@ -1,4 +1,5 @@
 use Rattle.std.proofs.Common.{◌≡◌, ◌∙◌, ap, refl, subst, sym}
+use Rattle.shred_stage.proofs.Planner.Addition.{keeps-added}
 use Rattle.shred_stage.specs.BuilderPlan.{planned, barrier_of, rule_of}
 use Rattle.shred_stage.specs.Earlier.{ComesAfter}
 use Rattle.shred_stage.specs.Known.{known_ids, texts_of}
@@ -35,6 +36,8 @@ invariant_of-self-2 g c =
     record {
       distinct_names = c.enter.ensures.distinct c.args.self.now.distinct_names;
       known_planned = known-still (planned c.args.self.now.stages) (planned c.insert_entry.new.self) added.place entry (names_of c.args.self.now.names) (names_of c.enter.new.names) c.args.name.now c.args.self.now.next c.requires.id added.entry_is_new c.in_ok-enter.ensures.ok c.args.self.now.known_planned;
+      ordered = λ is. keeps-added (planned c.args.self.now.stages) (planned c.insert_entry.new.self) entry added.place added.entry_is_new (c.in_default.ensures.inserted.after_conflicts (sym c.insert_entry.ensures.rule ∙ is))
+          (λ path id there. rw c.requires.id (c.args.self.now.consistent.below path id there)) (c.args.self.now.ordered (sym c.insert_entry.ensures.rule ∙ is));
       consistent = entered-consistent _ _ added.place entry c.args.name.now c.requires.id added.entry_is_new c.in_ok-enter.ensures.ok refl c.args.self.now.consistent;
     }
 
@@ -44,6 +47,7 @@ invariant_of-self-in-Err g c =
     record {
       distinct_names = c.forget.ensures.distinct;
       known_planned = λ name id e. rw c.in-Err.ensures.err (c.args.self.now.known_planned name id (sym (same name) ∙ e));
+      ordered = λ is. rw c.in-Err.ensures.err (c.args.self.now.ordered (sym c.insert_entry.ensures.rule ∙ is));
       consistent = still-consistent _ _ c.in-Err.ensures.err same refl c.args.self.now.consistent;
     }
 
@@ -53,6 +57,7 @@ invariant_of-self g c =
     record {
       distinct_names = c.in_err-enter.ensures.distinct c.args.self.now.distinct_names;
       known_planned = λ name id e. c.args.self.now.known_planned name id (sym (same name) ∙ e);
+      ordered = c.args.self.now.ordered;
       consistent = still-consistent _ _ refl same refl c.args.self.now.consistent;
     }
 

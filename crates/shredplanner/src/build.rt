@@ -86,6 +86,7 @@ fn take_line<'text>(
             building.level.add_barrier();
             Ok(())
         }
+        PlanLine::Rule(line) => building.level.set_rule(line),
         PlanLine::Batch(batch) => open_batch(alloc, building, batch),
         PlanLine::End(line) => end_batch(alloc, building, line),
     }

@@ -12,6 +12,7 @@ use shred::{AddError, DispatcherBuilder, RunningTime};
 use shred_choices::{Declaration, Declarations};
 use shredplan_text::{Batch, Entry, Plan};
 use shredscript_text::error::ScriptError;
+use shredscript_text::script::RuleLine;
 use shredscript_text::step::Step;
 use shredscript_text::value::Value;
 use std::alloc::{AllocError, Global};
@@ -55,6 +56,14 @@ impl Level {
     /// What is added from here on stands behind all that is there.
     pub(crate) fn add_barrier(&mut self) {
         self.builder.add_barrier();
+    }
+
+    /// What is added from here on is placed by the line's rule, which is refused where something was added before.
+    pub(crate) fn set_rule(&mut self, line: RuleLine) -> Result<(), ScriptError> {
+        match self.builder.add_rule(line.rule) {
+            Ok(()) => Ok(()),
+            Err(error) => Err(ScriptError::of_add(line.line, error)),
+        }
     }
 
     /// Adds a system of these steps.

@@ -1,8 +1,8 @@
 -- What the lines of a script make of a builder.
-use Rattle.std.specs.Prelude.{◌≡◌, ℕ, List, [], ◌∷◌, ◌++◌, ◌⊎◌}
+use Rattle.std.specs.Prelude.{◌≡◌, ℕ, ◌<◌, List, [], ◌∷◌, ◌++◌, ◌⊎◌}
 use Rattle.shredscript.specs.declared.local.ScriptLocal.{ScriptLocal}
 use Rattle.shred.specs.Batches.{IsBatchAddition}
-use Rattle.shred.specs.Built.{Built, IsAddition, IsBarrierSet, IsLocalAdded, IsNewBuilt}
+use Rattle.shred.specs.Built.{Built, IsAddition, IsBarrierSet, IsLocalAdded, IsNewBuilt, IsRuleSet}
 use Rattle.shred_run.specs.declared.work.Nested.{Nested}
 use Rattle.shred_run.specs.declared.work.Work.{Work}
 use Rattle.shred_run.specs.declared.work.Work.TheVariants.{System as a_system}
@@ -19,7 +19,8 @@ use Rattle.shredscript_text.specs.declared.error.ScriptError.{ScriptError}
 use Rattle.shredscript_text.specs.declared.error.ScriptError.TheVariants.{TooLong, InputFailed, Line, Refused, Unnamed, OutOfMemory, OutputFailed}
 use Rattle.shredscript_text.specs.declared.script.BatchLine.{BatchLine}
 use Rattle.shredscript_text.specs.declared.script.PlanLine.{PlanLine}
-use Rattle.shredscript_text.specs.declared.script.PlanLine.TheVariants.{System, Local, Barrier, Batch, End}
+use Rattle.shredscript_text.specs.declared.script.PlanLine.TheVariants.{System, Local, Barrier, Rule, Batch, End}
+use Rattle.shredscript_text.specs.declared.script.RuleLine.{RuleLine}
 use Rattle.shredscript_text.specs.declared.script.SystemLine.{SystemLine}
 use Rattle.shredscript_text.specs.declared.step.Step.{Step}
 use Rattle.shredscript.specs.declared.system.ScriptSystem.{ScriptSystem}
@@ -76,11 +77,12 @@ pub record IsBatchEnded (old new : Building) : Type 0 where
   pub addition : IsBatchAddition around new.current batch.name.now (batch_needs batch) (record { reads = []; writes = [] }) VeryLong controller old.current
   pub rest : new.pending ≡ outer
 
--- what a line makes of the builders: its system is added, staged or thread-local, or the barrier is set, in the innermost one; or a batch begins, or ends
+-- what a line makes of the builders: its system is added, staged or thread-local, or the barrier or its rule is set, in the innermost one; or a batch begins, or ends
 abbrev pub IsLineTaken : PlanLine → Building → Building → Type 0
 IsLineTaken (System line) old new = IsLineAdded line old.current new.current × (new.pending ≡ old.pending)
 IsLineTaken (Local steps) old new = IsLocalTaken steps.items old.current new.current × (new.pending ≡ old.pending)
 IsLineTaken Barrier old new = IsBarrierSet old.current new.current × (new.pending ≡ old.pending)
+IsLineTaken (Rule line) old new = IsRuleSet old.current new.current line.rule × (new.pending ≡ old.pending)
 IsLineTaken (Batch batch) old new = IsBatchOpened batch old new
 IsLineTaken (End line) old new = IsBatchEnded old new
 
@@ -115,6 +117,10 @@ IsNotAdded line built (Line number fault) = ⊥
 IsNotAdded line built (Unnamed id) = ⊥
 IsNotAdded line built OutputFailed = ⊥
 
+-- why a line's rule is not set: a system or a batch was added before, which is told with the line's number
+abbrev pub IsRuleNotSet : RuleLine → ScriptBuilt → ScriptError → Type 0
+IsRuleNotSet line built error = (0 < built.next) × (error ≡ Refused line.line RuleTooLate)
+
 -- why the innermost open batch is not added: the builder around it refuses it, which is told with the number of the line that ends it; or memory is refused
 abbrev pub IsBatchNotAdded : ℕ → BatchLine → ScriptBuilt → ScriptBuilt → ScriptError → Type 0
 IsBatchNotAdded line batch around inner (Refused number refusal) = (number ≡ line) × IsBatchRefusal inner.locals around.known around.next batch.name.now (batch_needs batch) (answer_of refusal)
@@ -130,11 +136,12 @@ abbrev pub IsBatchNotEnded : ℕ → Building → ScriptError → Type 0
 IsBatchNotEnded line old error = ((old.pending ≡ []) × (error ≡ Line line EndWithoutBatch))
     ⊎ ((outer : List (BatchLine × ScriptBuilt)) × (batch : BatchLine) × (around : ScriptBuilt) × (old.pending ≡ outer ++ (batch, around) ∷ []) × IsBatchNotAdded line batch around old.current error)
 
--- why a line is not taken: its system is not added, a thread-local one and the beginning of a batch only for want of memory, and a batch is not ended; a barrier always is set
+-- why a line is not taken: its system is not added, a thread-local one and the beginning of a batch only for want of memory, its rule is not set, and a batch is not ended; a barrier always is set
 abbrev pub IsNotTaken : PlanLine → Building → ScriptError → Type 0
 IsNotTaken (System line) old error = IsNotAdded line old.current error
 IsNotTaken (Local steps) old error = error ≡ OutOfMemory
 IsNotTaken Barrier old error = ⊥
+IsNotTaken (Rule line) old error = IsRuleNotSet line old.current error
 IsNotTaken (Batch batch) old error = error ≡ OutOfMemory
 IsNotTaken (End line) old error = IsBatchNotEnded line old error
 

@@ -1,8 +1,9 @@
 //! The plan that a script's lines make.
 ghost use Rattle.std.specs.Prelude.{◌≡◌, OnOk, IfOk, IfErr};
 ghost use Rattle.shred.specs.Builders.{built};
+ghost use Rattle.shred.specs.Built.{IsRuleSet};
 ghost use Rattle.shredscript.specs.Building.{state_of};
-ghost use Rattle.shredscript.specs.Lines.{IsBatchOpened, IsBatchEnded, IsBatchNotEnded, IsBuiltBy, IsLineAdded, IsLineTaken, IsLocalTaken, IsNotAdded, IsNotBuilt, IsNotTaken};
+ghost use Rattle.shredscript.specs.Lines.{IsBatchOpened, IsBatchEnded, IsBatchNotEnded, IsBuiltBy, IsLineAdded, IsLineTaken, IsLocalTaken, IsNotAdded, IsNotBuilt, IsNotTaken, IsRuleNotSet};
 ghost use Rattle.shredscript.specs.Runs.{IsMadeOf};
 
 use crate::batch::ScriptBatch;
@@ -11,7 +12,7 @@ use crate::system::ScriptSystem;
 use shred::DispatcherBuilder;
 use shred_run::entry::push_or_drop;
 use shredscript_text::error::{LineFault, ScriptError};
-use shredscript_text::script::{BatchLine, PlanLine, SystemLine};
+use shredscript_text::script::{BatchLine, PlanLine, RuleLine, SystemLine};
 use shredscript_text::step::Step;
 use shredscript_text::value::Value;
 use std::alloc::Global;
@@ -87,8 +88,20 @@ fn take_line<'text>(
             building.builder.add_barrier();
             Ok(())
         }
+        PlanLine::Rule(line) => set_rule(&mut building.builder, line),
         PlanLine::Batch(batch) => open_batch(alloc, building, batch),
         PlanLine::End(line) => end_batch(building, line),
+    }
+}
+
+/// Sets the rule of a line, which is refused where a system or a batch was added before.
+fn set_rule(builder: &mut ScriptBuilder, line: RuleLine) -> Result<(), ScriptError>
+    ensures set { OnOk result (IsRuleSet (built builder.old) (built builder.new) line.rule) }
+    ensures not_set { IfErr result (IsRuleNotSet line (built builder.old)) }
+{
+    match builder.add_rule(line.rule) {
+        Ok(()) => Ok(()),
+        Err(error) => Err(ScriptError::of_add(line.line, error)),
     }
 }
 

@@ -6,6 +6,8 @@ use Rattle.std.specs.Char.{is_ascii_alphabetic, is_ascii_alphanumeric, is_ascii_
 use Rattle.std.specs.Str.Parse.{digits_value, signed_digits_value, starts_with_minus}
 use Rattle.shred_run.specs.declared.system.RunningTime.{RunningTime}
 use Rattle.shred_run.specs.declared.system.RunningTime.TheVariants.{VeryShort, Short, Average, Long, VeryLong}
+use Rattle.shred_stage.specs.declared.dispatch.rule.Rule.{Rule}
+use Rattle.shred_stage.specs.declared.dispatch.rule.Rule.TheVariants.{First, Ordered}
 
 -- whether a byte is a letter, a digit or `_`
 abbrev pub is_resource_byte : ℕ → Bool
@@ -54,3 +56,8 @@ time_word Short = codes "short"
 time_word Average = codes "average"
 time_word Long = codes "long"
 time_word VeryLong = codes "very-long"
+
+-- the word of each rule of the planner
+abbrev pub rule_word : Rule → List ℕ
+rule_word First = codes "first"
+rule_word Ordered = codes "ordered"

@@ -10,11 +10,12 @@ use Rattle.shredscript_text.specs.declared.script.Manner.{Manner}
 use Rattle.shredscript_text.specs.declared.script.Mode.{Mode}
 use Rattle.shredscript_text.specs.declared.script.Mode.TheVariants.{Parallel, Sequential}
 use Rattle.shredscript_text.specs.declared.script.PlanLine.{PlanLine}
-use Rattle.shredscript_text.specs.declared.script.PlanLine.TheVariants.{System, Local, Barrier, Batch, End}
+use Rattle.shredscript_text.specs.declared.script.PlanLine.TheVariants.{System, Local, Barrier, Rule, Batch, End}
+use Rattle.shredscript_text.specs.declared.script.RuleLine.{RuleLine}
 use Rattle.shredscript_text.specs.declared.script.Script.{Script}
 use Rattle.shredscript_text.specs.declared.script.SystemLine.{SystemLine}
 use Rattle.shredscript_text.specs.declared.step.Step.{Step}
-use Rattle.shredscript_text.specs.Forms.{IsResourceName, NamesSystem, WritesCount, WritesInteger, time_word}
+use Rattle.shredscript_text.specs.Forms.{IsResourceName, NamesSystem, WritesCount, WritesInteger, rule_word, time_word}
 use Rattle.shredscript_text.specs.Lines.{lines_of}
 use Rattle.shredscript_text.specs.Report.{resource_names}
 use Rattle.shredscript_text.specs.StepForms.{WritesNames, WritesStep}
@@ -142,6 +143,13 @@ pub record SaysBarrier (rest : List ℕ) (before after : Said) : Type 0 where
   pub are : HasWords rest []
   pub left : after ≡ with_line before Barrier before.unended
 
+-- `rule first` or `rule ordered`: a line of the plan with this number, which sets that rule
+pub record SaysRule (number : ℕ) (rest : List ℕ) (before after : Said) : Type 0 where
+  pub line : RuleLine
+  pub are : HasWords rest (rule_word line.rule ∷ [])
+  pub line_is : line.line ≡ number
+  pub left : after ≡ with_line before (Rule line) before.unended
+
 -- the text behind `batch` writes this batch of the line with this number: its name, dependencies and rounds
 pub record WritesBatch (number : ℕ) (rest : List ℕ) (batch : BatchLine) : Type 0 where
   pub name : List ℕ
@@ -205,6 +213,7 @@ pub data WordSays (number : ℕ) (word rest : List ℕ) (before after : Said) : 
   system : word ≡ codes "sys" → SaysSystem number rest before after → WordSays number word rest before after
   local : word ≡ codes "local" → SaysLocal rest before after → WordSays number word rest before after
   barrier : word ≡ codes "barrier" → SaysBarrier rest before after → WordSays number word rest before after
+  rule : word ≡ codes "rule" → SaysRule number rest before after → WordSays number word rest before after
   batch : word ≡ codes "batch" → SaysBatch number rest before after → WordSays number word rest before after
   end : word ≡ codes "end" → SaysEnd number rest before after → WordSays number word rest before after
   resource : word ≡ codes "res" → before.unended ≡ [] → SaysResource rest before after → WordSays number word rest before after

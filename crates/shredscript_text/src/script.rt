@@ -5,15 +5,16 @@ ghost use Rattle.shred_stage.specs.Known.{texts_of};
 ghost use Rattle.shredscript_text.specs.Input.{IsLineError};
 ghost use Rattle.shredscript_text.specs.Lines.{lines_of};
 ghost use Rattle.shredscript_text.specs.Report.{resource_names};
-ghost use Rattle.shredscript_text.specs.Scripts.{AreStepsOf, IsScriptOf, LineSays, LinesSay, SaysBarrier, SaysBatch, SaysEnd, SaysLocal, SaysMode, SaysPlan, SaysResource, SaysSystem, SaysTimes, SaysWorkers, WordSays, WritesBatch, WritesSystem, said_by};
+ghost use Rattle.shredscript_text.specs.Scripts.{AreStepsOf, IsScriptOf, LineSays, LinesSay, SaysBarrier, SaysBatch, SaysEnd, SaysLocal, SaysMode, SaysPlan, SaysResource, SaysRule, SaysSystem, SaysTimes, SaysWorkers, WordSays, WritesBatch, WritesSystem, said_by};
 ghost use Rattle.shredscript_text.specs.StepForms.{WritesNames};
 
 use crate::error::{LineError, LineFault, ScriptError};
 use crate::lines::Lines;
 use crate::step::{Resources, Step};
-use crate::words::{Words, count, integer, resource_name, running_time, system_name};
+use crate::words::{Words, count, integer, planner_rule, resource_name, running_time, system_name};
 use indexmap::IndexMap;
 use shred_run::RunningTime;
+use shred_stage::Rule;
 use std::alloc::Global;
 
 /// The most workers.
@@ -93,12 +94,20 @@ impl<'text> BatchLine<'text> {
     }
 }
 
+/// A line that sets the rule by which what is added behind it is placed.
+#[derive(Clone, Copy)]
+pub struct RuleLine {
+    pub line: usize,
+    pub rule: Rule,
+}
+
 /// A line that the plan is made by, or the thread-local systems. That which ends a batch has its number.
 #[derive(Drop)]
 pub enum PlanLine<'text> {
     System(SystemLine<'text>),
     Local(Vec<Step>),
     Barrier,
+    Rule(RuleLine),
     Batch(BatchLine<'text>),
     End(usize),
 }
@@ -195,6 +204,7 @@ impl<'text> Script<'text> {
         match word {
             "sys" => self.take_system(alloc, line, words),
             "barrier" => self.take_barrier(words),
+            "rule" => self.take_rule(line, words),
             "local" => self.take_local(alloc, words),
             "batch" => self.take_batch(alloc, line, words),
             "end" => self.take_end(line, words),
@@ -318,6 +328,15 @@ impl<'text> Script<'text> {
     {
         words.end()?;
         self.plan.push(PlanLine::Barrier)?;
+        Ok(())
+    }
+
+    fn take_rule(&mut self, line: usize, mut words: Words<'text>) -> Result<(), LineError>
+        ensures { OnOk result (SaysRule line words.entry.rest.now (said_by self.old) (said_by self.new)) }
+    {
+        let rule = planner_rule(words.required()?)?;
+        words.end()?;
+        self.plan.push(PlanLine::Rule(RuleLine { line, rule }))?;
         Ok(())
     }
 

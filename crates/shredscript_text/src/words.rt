@@ -5,11 +5,12 @@ ghost use Rattle.std.specs.Option.{option_copied};
 ghost use Rattle.std.specs.Char.{is_ascii_alphabetic, is_ascii_digit};
 ghost use Rattle.std.specs.List.{AllPass};
 ghost use Rattle.std.specs.Str.{IsAscii};
-ghost use Rattle.shredscript_text.specs.Forms.{is_resource_byte, is_system_byte, AreDigits, IsResourceName, NamesSystem, WritesCode, WritesCount, WritesInteger, time_word};
+ghost use Rattle.shredscript_text.specs.Forms.{is_resource_byte, is_system_byte, AreDigits, IsResourceName, NamesSystem, WritesCode, WritesCount, WritesInteger, rule_word, time_word};
 ghost use Rattle.shredscript_text.specs.Words.{next_word, after_word};
 
 use crate::error::LineFault;
 use shred_run::RunningTime;
+use shred_stage::Rule;
 
 /// The most bytes of a name.
 const MOST_NAME_BYTES: usize = 32;
@@ -121,6 +122,17 @@ pub(crate) fn running_time(word: &str) -> Result<RunningTime, LineFault>
         "average" => Ok(RunningTime::Average),
         "long" => Ok(RunningTime::Long),
         "very-long" => Ok(RunningTime::VeryLong),
+        _ => Err(LineFault::BadWord),
+    }
+}
+
+/// A rule of the planner, by its name.
+pub(crate) fn planner_rule(word: &str) -> Result<Rule, LineFault>
+    ensures { IfOk result (λ rule. word.now ≡ rule_word rule) }
+{
+    match word {
+        "first" => Ok(Rule::First),
+        "ordered" => Ok(Rule::Ordered),
         _ => Err(LineFault::BadWord),
     }
 }

@@ -120,4 +120,11 @@ pub(crate) const CASES: &[Case] = &[
         stderr: "",
         status: 2,
     },
+    Case {
+        name: "O1",
+        script: "rule ordered\nres X 1\nres Y 2\nres Z 0\nsys A average - X+=10\nsys B average - X*=2 Y+=X\nsys C average - Z=Y\n",
+        stdout: "X=22\nY=24\nZ=24\nok\n",
+        stderr: "",
+        status: 0,
+    },
 ];

@@ -5,7 +5,7 @@ use crate::calls::{built_with_names, expect_add, print_built, text_of};
 use crate::planned_system::{OnlyPlanned, PLAIN, system_of};
 use crate::stopping::{Stop, StoppingWriter};
 use shred::{
-    AddError, DispatchError, Dispatcher, DispatcherBuilder, Fault, PrintError, SystemId,
+    AddError, DispatchError, Dispatcher, DispatcherBuilder, Fault, PrintError, Rule, SystemId,
     SystemNames, ToWriter, Told,
 };
 use shredtest::values::Value;
@@ -160,7 +160,8 @@ fn with_plain(
 #[test]
 fn a_builder_is_handed_on(rt: HostRuntime) -> Result<(), Fail> {
     let alloc = rt.alloc();
-    let builder = with_plain(alloc, Builder::new(alloc), "a", &[])?;
+    let builder = Builder::new(alloc).with_rule(Rule::Ordered)?;
+    let builder = with_plain(alloc, builder, "a", &[])?;
     let builder = with_plain(alloc, builder.with_barrier(), "b", &["a"])?;
     let text =
         "seq![\n\tpar![\n\t\tseq![\n\t\t\ta,\n\t\t],\n\t],\n\tpar![\n\t\tseq![\n\t\t\tb,\n\t\t],\n\t],\n]\n\n";

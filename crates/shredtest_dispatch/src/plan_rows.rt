@@ -54,7 +54,77 @@ const WRITES_B: Case = Case {
     time: RunningTime::VeryShort,
 };
 
-/// Plans by what the systems touch, and by their times.
+/// A system, one that conflicts with it, and one that conflicts with the second alone.
+const CHAIN: &[Call] = &[
+    Call::Insert(
+        Case {
+            reads: &[],
+            writes: &[0],
+            time: RunningTime::Average,
+        },
+        &[],
+    ),
+    Call::Insert(
+        Case {
+            reads: &[],
+            writes: &[0, 1],
+            time: RunningTime::Average,
+        },
+        &[],
+    ),
+    Call::Insert(
+        Case {
+            reads: &[1],
+            writes: &[2],
+            time: RunningTime::Average,
+        },
+        &[],
+    ),
+];
+
+/// Plans by the rule `First` alone.
+pub(crate) const BY_FIRST: &[Row] = &[
+    // The last stands beside the first, before the second.
+    Row {
+        calls: CHAIN,
+        plan: "[[0],[2]] [[1]]",
+    },
+];
+
+/// Plans by the rule `Ordered` alone.
+pub(crate) const BY_ADDITION: &[Row] = &[
+    // Each conflicts with the one before it.
+    Row {
+        calls: CHAIN,
+        plan: "[[0]] [[1]] [[2]]",
+    },
+    // What is left of the dependencies of the last is counted from the barrier, though its search begins behind the first.
+    Row {
+        calls: &[
+            Call::Insert(
+                Case {
+                    reads: &[],
+                    writes: &[0],
+                    time: RunningTime::Average,
+                },
+                &[],
+            ),
+            Call::Insert(LONG, &[0]),
+            Call::Insert(WRITES_A, &[]),
+            Call::Insert(
+                Case {
+                    reads: &[],
+                    writes: &[0],
+                    time: RunningTime::Short,
+                },
+                &[0],
+            ),
+        ],
+        plan: "[[0]] [[1],[2,3]]",
+    },
+];
+
+/// Plans by what the systems touch, and by their times, by either rule.
 pub(crate) const BY_ACCESS: &[Row] = &[
     // A short reader joins the writer that it conflicts with.
     Row {
@@ -71,36 +141,6 @@ pub(crate) const BY_ACCESS: &[Row] = &[
             ),
         ],
         plan: "[[0],[1,2]]",
-    },
-    // A chain of two stands beside another.
-    Row {
-        calls: &[
-            Call::Insert(
-                Case {
-                    reads: &[],
-                    writes: &[0],
-                    time: RunningTime::Average,
-                },
-                &[],
-            ),
-            Call::Insert(
-                Case {
-                    reads: &[],
-                    writes: &[0, 1],
-                    time: RunningTime::Average,
-                },
-                &[],
-            ),
-            Call::Insert(
-                Case {
-                    reads: &[1],
-                    writes: &[2],
-                    time: RunningTime::Average,
-                },
-                &[],
-            ),
-        ],
-        plan: "[[0],[2]] [[1]]",
     },
     // A group takes four systems, and no fifth.
     Row {
@@ -210,7 +250,7 @@ pub(crate) const BY_ACCESS: &[Row] = &[
     },
 ];
 
-/// Plans by what the systems depend on, and by barriers.
+/// Plans by what the systems depend on, and by barriers, by either rule.
 pub(crate) const BY_DEPENDENCY: &[Row] = &[
     // Each comes after what it depends on, and beside what it does not.
     Row {

@@ -1,9 +1,9 @@
 //! The planner, on plans that were worked out by hand.
 
 use crate::calls::insert;
-use crate::plan_rows::{BY_ACCESS, BY_DEPENDENCY, Call, Row, UNSORTED};
+use crate::plan_rows::{BY_ACCESS, BY_ADDITION, BY_DEPENDENCY, BY_FIRST, Call, Row, UNSORTED};
 use crate::planned_system::{OnlyPlanned, expect_ids, system_of};
-use shred::{Stage, StagesBuilder, SystemId};
+use shred::{Rule, Stage, StagesBuilder, SystemId};
 use shredtest::values::Value;
 use std::alloc::{AllocError, Global};
 use std::process::Abort;
@@ -68,9 +68,14 @@ fn system_ids(alloc: Global, numbers: &[usize]) -> Result<Vec<SystemId>, AllocEr
     Ok(ids)
 }
 
-/// The builder after these calls.
+/// A new builder after these calls.
 pub(crate) fn quickly(alloc: Global, calls: &[Call]) -> Result<Builder, Fail> {
-    let mut builder = Builder::default(alloc);
+    after_calls(alloc, Builder::default(alloc), calls)
+}
+
+/// The builder after these calls.
+fn after_calls(alloc: Global, empty: Builder, calls: &[Call]) -> Result<Builder, Fail> {
+    let mut builder = empty;
     let mut next = 0;
     for call in calls {
         match *call {
@@ -85,9 +90,10 @@ pub(crate) fn quickly(alloc: Global, calls: &[Call]) -> Result<Builder, Fail> {
     Ok(builder)
 }
 
-fn expect_plans(rt: &impl Abort, alloc: Global, rows: &[Row]) -> Result<(), Fail> {
+fn expect_plans(rt: &impl Abort, alloc: Global, rule: Rule, rows: &[Row]) -> Result<(), Fail> {
     for row in rows {
-        let stages = quickly(alloc, row.calls)?.build();
+        let empty = Builder::new_with_rule(alloc, rule);
+        let stages = after_calls(alloc, empty, row.calls)?.build();
         let text = text_of_stages(alloc, stages.as_slice())?;
         assert_eq!(rt; text.as_str(), row.plan);
     }
@@ -96,8 +102,12 @@ fn expect_plans(rt: &impl Abort, alloc: Global, rows: &[Row]) -> Result<(), Fail
 
 #[test]
 fn systems_are_planned_by_what_they_touch_and_depend_on(rt: HostRuntime) -> Result<(), Fail> {
-    expect_plans(&rt, rt.alloc(), BY_ACCESS)?;
-    expect_plans(&rt, rt.alloc(), BY_DEPENDENCY)
+    for rule in [Rule::First, Rule::Ordered] {
+        expect_plans(&rt, rt.alloc(), rule, BY_ACCESS)?;
+        expect_plans(&rt, rt.alloc(), rule, BY_DEPENDENCY)?;
+    }
+    expect_plans(&rt, rt.alloc(), Rule::First, BY_FIRST)?;
+    expect_plans(&rt, rt.alloc(), Rule::Ordered, BY_ADDITION)
 }
 
 fn expect_lists(

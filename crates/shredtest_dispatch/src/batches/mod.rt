@@ -6,5 +6,6 @@ mod bounds;
 mod gate;
 mod plans;
 mod rounds;
+mod rules;
 mod settled;
 mod stages;

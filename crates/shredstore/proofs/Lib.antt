@@ -1,0 +1,16 @@
+mod Found
+mod Place
+mod Remade
+mod RemadeTables
+mod Outcomes
+mod Shown
+mod SetValues
+pub mod EachStep
+pub mod KeptStates
+pub mod Ticked
+pub mod Counted
+pub mod PlanOrder
+pub mod RuleRuns
+pub mod Planned
+pub mod Dispatches
+mod RuleRun

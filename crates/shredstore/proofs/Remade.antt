@@ -1,0 +1,110 @@
+-- Rows whose values are made anew, one after the other.
+use Rattle.std.proofs.Common.{◌≡◌, ℕ, ℤ, zero, suc, ◌+◌, ◌<◌, ◌≤◌, ◌==◌, Bool, true, false, if◌then◌else◌, List, [], ◌∷◌, ◌++◌, length, get_or, set, take, drop, map, Option, Some, None, pos, refl, sym, ◌∙◌, ap, subst, ⊎_elim, arith, add-one, append-nil, take_all}
+use Rattle.std.specs.Option.{option_map}
+use Rattle.std.proofs.lemmas.List.{length-map, get_or-map, drop_all}
+use Rattle.std.proofs.lemmas.Bool.{cases_lt}
+use Rattle.std.proofs.lemmas.Bool.Decides.{nat_tests}
+use Rattle.shredstore.specs.Rows.{IsAscending, IsAt, IsLeastUnfit, IsUnfit, NoneUnfit, AllFit, AllFitTwice, Pairs, each_row, entity_at, number_at, plus, value_at, with_constant, with_sum}
+use Rattle.shredstore.proofs.Place.{value_there}
+
+module _ {X : Type 0} (f : X → X) where
+  -- the item at the place is still the old one
+  pub still : (xs : List X) (i : ℕ) (d : X) → i < length xs → get_or (map f (take i xs) ++ drop i xs) i d ≡ get_or xs i d
+  still [] i d h = absurd (omega (arith, h))
+  still (x ∷ xs) zero d h = refl
+  still (x ∷ xs) (suc i) d h = still xs i d (omega (arith, h))
+
+  changed-suc : (xs : List X) (i : ℕ) (d y : X) → i < length xs → y ≡ f (get_or xs i d) → set (map f (take i xs) ++ drop i xs) i y ≡ map f (take (suc i) xs) ++ drop (suc i) xs
+  changed-suc [] i d y h is = absurd (omega (arith, h))
+  changed-suc (x ∷ xs) zero d y h is = ap (λ z. z ∷ xs) is
+  changed-suc (x ∷ xs) (suc i) d y h is = ap (λ zs. f x ∷ zs) (changed-suc xs i d y (omega (arith, h)) is)
+
+  -- one item more is changed
+  pub changed : (now xs : List X) (i : ℕ) (d y : X) → now ≡ map f (take i xs) ++ drop i xs → i < length xs → y ≡ f (get_or now i d) → set now i y ≡ map f (take (i + 1) xs) ++ drop (i + 1) xs
+  changed now xs i d y is h same = rw (is, add-one) (changed-suc xs i d y h (same ∙ ap (λ l. f (get_or l i d)) is ∙ ap f (still xs i d h)))
+
+-- what fits for a row fits until its turn
+pub fits_still : (made : ℕ → ℤ → ℤ) (more : ℕ × ℤ → Option ℤ) (now rows : Pairs) (i : ℕ) → now ≡ each_row made (take i rows) ++ drop i rows → i < length rows
+    → (IsUnfit (Some (get_or rows i (0, pos 0)).1) (more (get_or rows i (0, pos 0))) → ⊥) → IsUnfit (Some (get_or now i (0, pos 0)).1) (more (get_or now i (0, pos 0))) → ⊥
+fits_still made more now rows i is below fits =
+    let same : get_or now i (0, pos 0) ≡ get_or rows i (0, pos 0) = ap (λ l. get_or l i (0, pos 0)) is ∙ still (λ row. (row.0, made row.0 row.1)) rows i (0, pos 0) below in
+    subst (λ (row : ℕ × ℤ). IsUnfit (Some row.1) (more row) → ⊥) (sym same) fits
+
+-- at the end all are changed
+pub all_made : (made : ℕ → ℤ → ℤ) (now rows : Pairs) (i : ℕ) → now ≡ each_row made (take i rows) ++ drop i rows → length rows ≤ i → now ≡ each_row made rows
+all_made made now rows i is past = is ∙ rw (take_all i rows past, drop_all i rows past) (append-nil (each_row made rows))
+
+module _ (made : ℕ → ℤ → ℤ) (rows : Pairs) where
+  -- the entities are the same
+  pub entity-each : (i : ℕ) → i < length rows → entity_at (each_row made rows) i ≡ entity_at rows i
+  entity-each i below = ap (λ (row : ℕ × ℤ). row.0) (get_or-map (λ row. (row.0, made row.0 row.1)) rows i (0, pos 0) (0, pos 0) below)
+
+  -- in the same order
+  pub ascending_each : IsAscending rows → IsAscending (each_row made rows)
+  ascending_each ascending i j lt in_range =
+      let size : length (each_row made rows) ≡ length rows = length-map rows (λ row. (row.0, made row.0 row.1)) in
+      let below : j < length rows = omega (arith, in_range, size) in
+      rw (entity-each i (omega (arith, lt, below)), entity-each j below) (ascending i j lt below)
+
+-- each entity has what was made of its value
+pub value-each : (made : ℕ → ℤ → ℤ) (rows : Pairs) (entity : ℕ) → value_at (each_row made rows) entity ≡ option_map (made entity) (value_at rows entity)
+value-each made [] entity = refl
+value-each made (row ∷ rows) entity = told (row.0 == entity) refl (value-each made rows entity) where
+  told : (b : Bool) → (row.0 == entity) ≡ b → value_at (each_row made rows) entity ≡ option_map (made entity) (value_at rows entity)
+      → (if b then Some (made row.0 row.1) else value_at (each_row made rows) entity) ≡ option_map (made entity) (if b then Some row.1 else value_at rows entity)
+  told true e rest = let same : row.0 ≡ entity = grind (arith, nat_tests) in ap (λ n. Some (made n row.1)) same
+  told false e rest = rest
+
+-- the sum with another value, where there is one
+pub plus-sum : (value more : Option ℤ) → option_map (λ v. plus v more) value ≡ with_sum value more
+plus-sum (Some v) (Some m) = refl
+plus-sum (Some v) None = refl
+plus-sum None more = refl
+
+pub twice-sum : (value : Option ℤ) → option_map (λ v. plus v (Some v)) value ≡ with_sum value value
+twice-sum (Some v) = refl
+twice-sum None = refl
+
+pub constant-each : (constant : ℤ) (value : Option ℤ) → option_map (λ v. constant) value ≡ with_constant constant value
+constant-each constant (Some v) = refl
+constant-each constant None = refl
+
+module _ (rows : Pairs) (ascending : IsAscending rows) where
+  -- the entity of a row has its value
+  pub value_of_row : (i : ℕ) → i < length rows → value_at rows (entity_at rows i) ≡ Some (number_at rows i)
+  value_of_row i below = value_there rows ascending (entity_at rows i) i (record { in_range = below; is_its = refl })
+
+  -- what fits for each entity fits for each row
+  pub fit_each : (more : ℕ → Option ℤ) → NoneUnfit (value_at rows) more → AllFit more rows
+  fit_each more none i below unfit = none (entity_at rows i) (subst (λ (o : Option ℤ). IsUnfit o (more (entity_at rows i))) (sym (value_of_row i below)) unfit)
+
+  pub fit_twice : NoneUnfit (value_at rows) (value_at rows) → AllFitTwice rows
+  fit_twice none i below unfit = none (entity_at rows i) (subst (λ (o : Option ℤ). IsUnfit o o) (sym (value_of_row i below)) unfit)
+
+-- an entity with a value has a row
+row_of : (rows : Pairs) (entity : ℕ) (more : Option ℤ) → IsUnfit (value_at rows entity) more → (place : ℕ) × IsAt rows entity place
+row_of [] entity more unfit = absurd unfit
+row_of (row ∷ rows) entity more unfit = told (row.0 == entity) refl (λ there. row_of rows entity more there) unfit where
+  told : (b : Bool) → (row.0 == entity) ≡ b → (IsUnfit (value_at rows entity) more → (place : ℕ) × IsAt rows entity place) → IsUnfit (if b then Some row.1 else value_at rows entity) more → (place : ℕ) × IsAt (row ∷ rows) entity place
+  told true e rest here = (zero, record { in_range = omega arith; is_its = grind (arith, nat_tests) })
+  told false e rest there = let (place, at) = rest there in (suc place, record { in_range = omega (arith, at.in_range); is_its = at.is_its })
+
+module _ (rows : Pairs) (ascending : IsAscending rows) (more : ℕ → Option ℤ) where
+  -- the sum of an entity fits where that of its row does
+  fits_of_row : (entity place : ℕ) → IsAt rows entity place → (IsUnfit (Some (number_at rows place)) (more (entity_at rows place)) → ⊥) → IsUnfit (value_at rows entity) (more entity) → ⊥
+  fits_of_row entity place at fits unfit = fits (subst (λ (o : Option ℤ). IsUnfit o (more (entity_at rows place))) (value_of_row rows ascending place at.in_range) (subst (λ (e : ℕ). IsUnfit (value_at rows e) (more e)) (sym at.is_its) unfit))
+
+  -- the first row whose sum does not fit is that of the least such entity
+  pub least_of_first : (i : ℕ) → i < length rows → ((j : ℕ) → j < i → IsUnfit (Some (number_at rows j)) (more (entity_at rows j)) → ⊥) → IsUnfit (Some (number_at rows i)) (more (entity_at rows i)) → IsLeastUnfit (value_at rows) more (entity_at rows i)
+  least_of_first i below before here = record {
+    unfit = subst (λ (o : Option ℤ). IsUnfit o (more (entity_at rows i))) (sym (value_of_row rows ascending i below)) here;
+    least = λ other unfit.
+        let (place, at) = row_of rows other (more other) unfit in
+        ⊎_elim (λ (lt : place < i). absurd (fits_of_row other place at (before place lt) unfit))
+        (λ (ge : i ≤ place). let rise : entity_at rows i ≤ entity_at rows place = grind (arith, ascending i place, at.in_range, λ (same : i ≡ place). ap (entity_at rows) same) in omega (arith, rise, at.is_its))
+        (cases_lt place i);
+  }
+
+  -- where that of each row fits, that of each entity does
+  pub none_unfit : AllFit more rows → NoneUnfit (value_at rows) more
+  none_unfit fit entity unfit = let (place, at) = row_of rows entity (more entity) unfit in fits_of_row entity place at (fit place at.in_range) unfit

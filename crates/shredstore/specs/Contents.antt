@@ -1,0 +1,50 @@
+-- What a store has: its facts, the number of the next entity, and how many tables there are.
+use Rattle.std.specs.Prelude.{◌≡◌, ◌+◌, ◌==◌, ◌&&◌, ℕ, ℤ, true, false, cond, Some, None}
+use Rattle.shredstore.specs.Facts.{Facts}
+
+-- The facts, the number that the next entity is to have, and how many tables there are.
+pub record Contents : Type 0 where
+  pub facts : Facts
+  pub next : ℕ
+  pub tables : ℕ
+
+-- There are no facts, and the first entity is to be 0.
+pub record IsEmpty (count : ℕ) (new : Contents) : Type 0 where
+  pub live : (entity : ℕ) → new.facts.live entity ≡ false
+  pub value : (entity table : ℕ) → new.facts.value entity table ≡ None
+  pub next : new.next ≡ 0
+  pub tables : new.tables ≡ count
+
+-- All is as before.
+pub record IsSame (old new : Contents) : Type 0 where
+  pub live : (entity : ℕ) → new.facts.live entity ≡ old.facts.live entity
+  pub value : (entity table : ℕ) → new.facts.value entity table ≡ old.facts.value entity table
+  pub next : new.next ≡ old.next
+  pub tables : new.tables ≡ old.tables
+
+-- The entity of the next number is live, and the next number is one more; all else stays.
+pub record IsCreated (old new : Contents) : Type 0 where
+  pub live : (entity : ℕ) → new.facts.live entity ≡ cond (old.next == entity) true (old.facts.live entity)
+  pub value : (entity table : ℕ) → new.facts.value entity table ≡ old.facts.value entity table
+  pub next : new.next ≡ old.next + 1
+  pub tables : new.tables ≡ old.tables
+
+-- The entity is not live, and has no value in any table; all else stays.
+pub record IsDeleted (old new : Contents) (entity : ℕ) : Type 0 where
+  pub live : (other : ℕ) → new.facts.live other ≡ cond (entity == other) false (old.facts.live other)
+  pub value : (other table : ℕ) → new.facts.value other table ≡ cond (entity == other) None (old.facts.value other table)
+  pub next : new.next ≡ old.next
+  pub tables : new.tables ≡ old.tables
+
+-- The entity has this number in the table; all else stays.
+pub record IsValueSet (old new : Contents) (entity table : ℕ) (number : ℤ) : Type 0 where
+  pub live : (other : ℕ) → new.facts.live other ≡ old.facts.live other
+  pub value : (other column : ℕ) → new.facts.value other column ≡ cond (table == column && entity == other) (Some number) (old.facts.value other column)
+  pub next : new.next ≡ old.next
+  pub tables : new.tables ≡ old.tables
+
+-- The same entities are live, and the next number and the number of tables stay.
+pub record KeepsEntities (old new : Contents) : Type 0 where
+  pub live : (entity : ℕ) → new.facts.live entity ≡ old.facts.live entity
+  pub next : new.next ≡ old.next
+  pub tables : new.tables ≡ old.tables

@@ -1,0 +1,11 @@
+pub mod Contents
+pub mod EntityFacts
+pub mod Facts
+pub mod Held
+pub mod Plans
+pub mod Rows
+pub mod RuleSteps
+pub mod Rules
+pub mod Stores
+pub mod Tables
+pub mod Ticks

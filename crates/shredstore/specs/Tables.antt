@@ -1,0 +1,38 @@
+-- Tables of rows, held under ids of kind 0, each under its own number.
+use Rattle.std.specs.Prelude.{◌≡◌, ℕ, ℤ, Option, Some, None, MatchOption}
+use Rattle.shred_table.specs.Id.{id_of}
+use Rattle.shred_table.specs.Only.{only_kind}
+use Rattle.shred_table.specs.Slots.{with_at}
+use Rattle.shred_table.specs.declared.id.Kind.{Kind}
+use Rattle.shred_table.specs.declared.id.ResourceId.{ResourceId}
+use Rattle.shred_table.specs.declared.only.Only.{Only}
+use Rattle.shred_world.specs.Worked.{Held}
+use Rattle.shredstore.specs.Facts.{Values}
+use Rattle.shredstore.specs.Rows.{Pairs, value_at}
+
+-- the kind of every table
+abbrev pub kind_of : Only Pairs → Kind
+kind_of value = only_kind
+
+-- the id of a table
+abbrev pub table_id : ℕ → ResourceId
+table_id table = id_of only_kind table
+
+-- rows, as a world holds them
+abbrev pub table_of : Pairs → Only Pairs
+table_of rows = record { 0 = rows }
+
+-- the value of an entity in a table, if one is there
+abbrev pub value_in : Option (Only Pairs) → ℕ → Option ℤ
+value_in (Some table) entity = value_at table.0 entity
+value_in None entity = None
+
+-- the value of each entity in each table of those that are held
+abbrev pub values_in : Held (Only Pairs) → Values
+values_in held entity table = value_in (held (table_id table)) entity
+
+-- each entity of the table, where there is one, has what these make of it and of what it had; where there is none nothing changes, and all else stays
+abbrev pub IsRemade : (ℕ → Option ℤ → Option ℤ) → ℕ → Held (Only Pairs) → Held (Only Pairs) → Type 0
+IsRemade made table before after = MatchOption (before (table_id table))
+    ((id : ResourceId) → after id ≡ before id)
+    (λ old. (rows : Pairs) × ((entity : ℕ) → value_at rows entity ≡ made entity (value_at old.0 entity)) × ((id : ResourceId) → after id ≡ with_at before (table_id table) (Some (table_of rows)) id))

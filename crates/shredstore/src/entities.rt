@@ -1,0 +1,103 @@
+//! Entities, and their values in tables.
+ghost use Rattle.shredstore.specs.Held.{AreBelow, AreOfLive, HasTables};
+
+use crate::entity::Entity;
+use crate::error::StoreError;
+use crate::rows::Rows;
+use crate::tables::{empty_tables, remove_everywhere, set_in, value_in};
+use shred::{Only, OutOfMemory, World};
+use std::alloc::Global;
+use std::collections::BTreeSet;
+
+/// Which entities are live, and the values that they have in tables.
+#[derive(Drop)]
+pub struct Entities {
+    pub(crate) tables: u64,
+    pub(crate) next: u64,
+    pub(crate) live: BTreeSet<u64>,
+    pub(crate) world: World<Only<Rows>>,
+    ghost has_tables: { HasTables tables world },
+    ghost below: { AreBelow next live },
+    ghost of_live: { AreOfLive live world },
+}
+
+impl Entities {
+    ghost use Rattle.std.specs.Prelude.{◌≡◌, ◌↔◌, ◌<◌, ◌-◌, ◌^◌, true, false, None, Err, IfErr, IfOk, OnErr, OnOk};
+    ghost use Rattle.shredstore.specs.Contents.{IsCreated, IsDeleted, IsEmpty, IsSame, IsValueSet};
+    ghost use Rattle.shredstore.specs.EntityFacts.{contents_in};
+    ghost use Rattle.shredstore.specs.declared.error.StoreError.TheVariants.{EntitiesExhausted, NoSuchEntity, NoSuchTable, OutOfMemory as NoMemory};
+
+    /// No entity is live, and there are so many tables.
+    pub fn new(alloc: Global, tables: u64) -> Result<Self, OutOfMemory>
+        ensures { IfOk result (λ entities. IsEmpty tables (contents_in entities)) }
+    {
+        Ok(Entities {
+            tables,
+            next: 0,
+            live: BTreeSet::new(alloc),
+            world: empty_tables(alloc, tables)?,
+        })
+    }
+
+    /// A live entity, of a number that none had before: 0, 1, 2 and so on. `EntitiesExhausted` where that would be the greatest
+    /// number; else `OutOfMemory`. After a refusal all is as before.
+    pub fn create(&mut self) -> Result<Entity, StoreError>
+        ensures number { IfOk result (λ entity. entity.0 ≡ (contents_in self.old).next) }
+        ensures created { OnOk result (IsCreated (contents_in self.old) (contents_in self.new)) }
+        ensures exhausted { ((contents_in self.old).next ≡ 2 ^ 64 - 1) ↔ (result ≡ Err EntitiesExhausted) }
+        ensures refused { IfErr result (λ error. ((contents_in self.old).next ≡ 2 ^ 64 - 1 → ⊥) → error ≡ NoMemory) }
+        ensures unchanged { OnErr result (IsSame (contents_in self.old) (contents_in self.new)) }
+    {
+        if self.next == u64::MAX {
+            return Err(StoreError::EntitiesExhausted);
+        }
+        if self.live.insert(self.next).is_err() {
+            return Err(StoreError::OutOfMemory);
+        }
+        let entity = Entity(self.next);
+        self.next += 1;
+        Ok(entity)
+    }
+
+    /// Whether the entity was live. It is not from now on, and has no values.
+    pub fn delete(&mut self, entity: Entity) -> bool
+        ensures was_live { result ≡ (contents_in self.old).facts.live entity.0 }
+        ensures deleted { IsDeleted (contents_in self.old) (contents_in self.new) entity.0 }
+    {
+        if !self.live.contains(&entity.0) {
+            return false;
+        }
+        remove_everywhere(&mut self.world, self.tables, entity.0);
+        self.live.remove(&entity.0);
+        true
+    }
+
+    /// Gives a live entity a value in a table, and answers the one that it had there. `NoSuchTable`, `NoSuchEntity`, or
+    /// `OutOfMemory`, tested in this order. After a refusal all is as before.
+    pub fn set(&mut self, entity: Entity, table: u64, value: i64) -> Result<Option<i64>, StoreError>
+        ensures had { IfOk result (λ had. had ≡ (contents_in self.old).facts.value entity.0 table) }
+        ensures set { OnOk result (IsValueSet (contents_in self.old) (contents_in self.new) entity.0 table value) }
+        ensures no_such_table { (table < (contents_in self.old).tables → ⊥) ↔ (result ≡ Err (NoSuchTable table)) }
+        ensures no_such_entity { table < (contents_in self.old).tables → ((contents_in self.old).facts.live entity.0 ≡ false) ↔ (result ≡ Err NoSuchEntity) }
+        ensures refused { IfErr result (λ error. table < (contents_in self.old).tables → (contents_in self.old).facts.live entity.0 ≡ true → (error ≡ NoMemory) × ((contents_in self.old).facts.value entity.0 table ≡ None)) }
+        ensures unchanged { OnErr result (IsSame (contents_in self.old) (contents_in self.new)) }
+    {
+        if table >= self.tables {
+            return Err(StoreError::NoSuchTable { table });
+        }
+        if !self.live.contains(&entity.0) {
+            return Err(StoreError::NoSuchEntity);
+        }
+        match set_in(&mut self.world, table, entity.0, value) {
+            Ok(had) => Ok(had),
+            Err(_) => Err(StoreError::OutOfMemory),
+        }
+    }
+
+    /// The value of an entity in a table, if it has one there.
+    pub fn get(&self, entity: Entity, table: u64) -> Option<i64>
+        ensures { result ≡ (contents_in self.now).facts.value entity.0 table }
+    {
+        value_in(&self.world, table, entity.0)
+    }
+}

@@ -1,0 +1,32 @@
+//! Why a call of a store is refused.
+
+use thiserror::Error;
+
+/// Why a call of a store was refused. The store is then as before.
+#[derive(Clone, Copy, Debug, PartialEq, Eq, Error)]
+pub enum StoreError {
+    #[error("there is no table {table}")]
+    NoSuchTable { table: u64 },
+    #[error("out of memory")]
+    OutOfMemory,
+    /// The next entity's number would be the greatest one.
+    #[error("no number is left for an entity")]
+    EntitiesExhausted,
+    #[error("there is no such entity")]
+    NoSuchEntity,
+}
+
+/// Why a tick ended before all rules were applied. What the rules before did stays.
+#[derive(Clone, Copy, Debug, PartialEq, Eq, Error)]
+pub enum TickError {
+    /// A sum of the rule at this place does not fit, and this is the least entity of which one does not. The rule changed
+    /// nothing.
+    #[error("rule {rule}: the sum of entity {entity} does not fit")]
+    Overflow { rule: usize, entity: u64 },
+    /// The stage of this number was refused for memory; those before it are done, and it was not begun.
+    #[error("stage {stage}: out of memory")]
+    Memory { stage: usize },
+    /// The rule at this place was refused for memory, and changed nothing.
+    #[error("rule {rule}: out of memory")]
+    RuleMemory { rule: usize },
+}

@@ -1,0 +1,200 @@
+//! The store.
+ghost use Rattle.std.specs.Prelude.{◌≡◌, IfOk};
+ghost use Rattle.shred.specs.Dispatchers.{dispatcher_over, dispatcher_with};
+ghost use Rattle.shredstore.specs.Contents.{IsEmpty};
+ghost use Rattle.shredstore.specs.EntityFacts.{contents_in};
+ghost use Rattle.shredstore.specs.Plans.{RunsOverAny};
+ghost use Rattle.shredstore.specs.Rules.{first_missing, missing};
+ghost use Rattle.shredstore.specs.Tables.{kind_of};
+ghost use Rattle.shredstore.specs.Ticks.{IsDispatch, IsOfStages, Tells};
+
+use crate::entities::Entities;
+use crate::entity::Entity;
+use crate::error::{StoreError, TickError};
+use crate::planning::{RuleDispatcher, dispatcher_of};
+use crate::rows::Rows;
+use crate::rule::{Overflow, StoreRule};
+use shred::{DispatchError, Fault, Only, OutOfMemory, World};
+use std::alloc::Global;
+use std::thread::Threads;
+
+/// Entities with values in tables, and rules that each tick applies.
+#[derive(Drop)]
+pub struct Store {
+    pub(crate) entities: Entities,
+    rules: Vec<StoreRule>,
+    dispatcher: RuleDispatcher,
+    ghost runs_rules: { ∥ RunsOverAny rules.items (dispatcher_with dispatcher) ∥₁ },
+}
+
+// The first table of the rules that is not among so many.
+fn first_missing(tables: u64, rules: &[StoreRule]) -> Option<u64>
+    ensures { result ≡ first_missing tables rules.now }
+{
+    for rule in rules {
+        if let Some(table) = missing(tables, *rule) {
+            return Some(table);
+        }
+    }
+    None
+}
+
+// The first table of the rule that is not among so many.
+fn missing(tables: u64, rule: StoreRule) -> Option<u64>
+    ensures { result ≡ missing tables rule }
+{
+    match rule {
+        StoreRule::Add(x, y) => {
+            if x >= tables {
+                Some(x)
+            } else if y >= tables {
+                Some(y)
+            } else {
+                None
+            }
+        }
+        StoreRule::Set(table, _) => { if table >= tables { Some(table) } else { None } }
+    }
+}
+
+// What a tick tells of a dispatch.
+fn told(answer: Result<(), DispatchError<Overflow>>) -> Result<(), TickError>
+    requires { IsOfStages answer }
+    ensures { Tells answer result }
+{
+    match answer {
+        Ok(()) => Ok(()),
+        Err(DispatchError::System { id, fault }) => match fault {
+            Fault::Refused(overflow) => Err(TickError::Overflow {
+                rule: id.0,
+                entity: overflow.entity,
+            }),
+            Fault::OutOfMemory => Err(TickError::RuleMemory { rule: id.0 }),
+        },
+        Err(DispatchError::ThreadLocal { .. }) => unreachable!(),
+        Err(DispatchError::StageMemory { stage }) => Err(TickError::Memory { stage }),
+    }
+}
+
+// A dispatch on threads.
+fn dispatched<R: Threads + Sync>(
+    rt: &R,
+    dispatcher: &mut RuleDispatcher,
+    world: &mut World<Only<Rows>>,
+) -> Result<(), DispatchError<Overflow>>
+    ensures { IsDispatch (dispatcher_over kind_of dispatcher.old world.old) result (dispatcher_over kind_of dispatcher.new world.new) }
+{
+    dispatcher.dispatch_par(rt, world)
+}
+
+// A dispatch on the caller's thread.
+fn dispatched_in_order(
+    dispatcher: &mut RuleDispatcher,
+    world: &mut World<Only<Rows>>,
+) -> Result<(), DispatchError<Overflow>>
+    ensures { IsDispatch (dispatcher_over kind_of dispatcher.old world.old) result (dispatcher_over kind_of dispatcher.new world.new) }
+{
+    dispatcher.dispatch_seq(world)
+}
+
+// A store without entities, with so many tables and these rules.
+fn store_of(alloc: Global, tables: u64, rules: &[StoreRule]) -> Result<Store, OutOfMemory>
+    ensures entities { IfOk result (λ store. IsEmpty tables (contents_in store.entities)) }
+    ensures rules { IfOk result (λ store. store.rules.items ≡ rules.now) }
+{
+    Ok(Store {
+        entities: Entities::new(alloc, tables)?,
+        rules: Vec::from_slice(alloc, rules)?,
+        dispatcher: dispatcher_of(alloc, rules)?,
+    })
+}
+
+impl Store {
+    ghost use Rattle.std.specs.Prelude.{◌↔◌, ◌<◌, ◌-◌, ◌^◌, ℕ, true, false, None, Err, IfErr, IfNone, IfSome, OnErr, OnOk};
+    ghost use Rattle.shredstore.specs.Contents.{IsCreated, IsDeleted, IsSame, IsValueSet, KeepsEntities};
+    ghost use Rattle.shredstore.specs.Rules.{applied_all};
+    ghost use Rattle.shredstore.specs.Stores.{contents_of, rules_of, situation_of};
+    ghost use Rattle.shredstore.specs.Ticks.{IsTick};
+    ghost use Rattle.shredstore.specs.declared.error.StoreError.TheVariants.{EntitiesExhausted, NoSuchEntity, NoSuchTable, OutOfMemory as NoMemory};
+
+    /// A store without entities, with so many tables, numbered from 0 on, and these rules. `NoSuchTable` for the first rule with a
+    /// table that is not among them, and there for its first such table, tested first; else `OutOfMemory`.
+    pub fn new(alloc: Global, tables: u64, rules: &[StoreRule]) -> Result<Self, StoreError>
+        ensures empty { IfOk result (λ store. IsEmpty tables (contents_of store)) }
+        ensures rules { IfOk result (λ store. rules_of store ≡ rules.now) }
+        ensures no_such_table { IfSome (first_missing tables rules.now) (λ table. result ≡ Err (NoSuchTable table)) }
+        ensures refused { IfNone (first_missing tables rules.now) (IfErr result (λ error. error ≡ NoMemory)) }
+    {
+        if let Some(table) = first_missing(tables, rules) {
+            return Err(StoreError::NoSuchTable { table });
+        }
+        match store_of(alloc, tables, rules) {
+            Ok(store) => Ok(store),
+            Err(_) => Err(StoreError::OutOfMemory),
+        }
+    }
+
+    /// A live entity, of a number that none had before: 0, 1, 2 and so on. `EntitiesExhausted` where that would be the greatest
+    /// number; else `OutOfMemory`. After a refusal the store is as before.
+    pub fn create(&mut self) -> Result<Entity, StoreError>
+        ensures number { IfOk result (λ entity. entity.0 ≡ (contents_of self.old).next) }
+        ensures created { OnOk result (IsCreated (contents_of self.old) (contents_of self.new)) }
+        ensures exhausted { ((contents_of self.old).next ≡ 2 ^ 64 - 1) ↔ (result ≡ Err EntitiesExhausted) }
+        ensures refused { IfErr result (λ error. ((contents_of self.old).next ≡ 2 ^ 64 - 1 → ⊥) → error ≡ NoMemory) }
+        ensures unchanged { OnErr result (IsSame (contents_of self.old) (contents_of self.new)) }
+        ensures rules { rules_of self.new ≡ rules_of self.old }
+    {
+        self.entities.create()
+    }
+
+    /// Whether the entity was live. It is not from now on, and its rows are gone.
+    pub fn delete(&mut self, entity: Entity) -> bool
+        ensures was_live { result ≡ (contents_of self.old).facts.live entity.0 }
+        ensures deleted { IsDeleted (contents_of self.old) (contents_of self.new) entity.0 }
+        ensures rules { rules_of self.new ≡ rules_of self.old }
+    {
+        self.entities.delete(entity)
+    }
+
+    /// Gives a live entity a value in a table, and answers the one that it had there. `NoSuchTable`, `NoSuchEntity`, or
+    /// `OutOfMemory`, tested in this order. After a refusal the store is as before.
+    pub fn set(&mut self, entity: Entity, table: u64, value: i64) -> Result<Option<i64>, StoreError>
+        ensures had { IfOk result (λ had. had ≡ (contents_of self.old).facts.value entity.0 table) }
+        ensures set { OnOk result (IsValueSet (contents_of self.old) (contents_of self.new) entity.0 table value) }
+        ensures no_such_table { (table < (contents_of self.old).tables → ⊥) ↔ (result ≡ Err (NoSuchTable table)) }
+        ensures no_such_entity { table < (contents_of self.old).tables → ((contents_of self.old).facts.live entity.0 ≡ false) ↔ (result ≡ Err NoSuchEntity) }
+        ensures refused { IfErr result (λ error. table < (contents_of self.old).tables → (contents_of self.old).facts.live entity.0 ≡ true → (error ≡ NoMemory) × ((contents_of self.old).facts.value entity.0 table ≡ None)) }
+        ensures unchanged { OnErr result (IsSame (contents_of self.old) (contents_of self.new)) }
+        ensures rules { rules_of self.new ≡ rules_of self.old }
+    {
+        self.entities.set(entity, table, value)
+    }
+
+    /// The value of an entity in a table, if it has one there.
+    pub fn get(&self, entity: Entity, table: u64) -> Option<i64>
+        ensures { result ≡ (contents_of self.now).facts.value entity.0 table }
+    {
+        self.entities.get(entity, table)
+    }
+
+    /// Applies the rules one after the other, in the order given to `new`, those that touch other tables beside each other on
+    /// threads. A refused rule ends the tick; what the rules that ran have done stays.
+    pub fn tick<R: Threads + Sync>(&mut self, rt: &R) -> Result<(), TickError>
+        ensures applied { OnOk result ((entity table : ℕ) → (contents_of self.new).facts.value entity table ≡ applied_all (rules_of self.old) (contents_of self.old).facts.value entity table) }
+        ensures dispatched { IsTick (situation_of self.old) result (situation_of self.new) }
+        ensures kept { KeepsEntities (contents_of self.old) (contents_of self.new) }
+        ensures rules { rules_of self.new ≡ rules_of self.old }
+    {
+        told(dispatched(rt, &mut self.dispatcher, &mut self.entities.world))
+    }
+
+    /// `tick`, on the caller's thread.
+    pub fn tick_seq(&mut self) -> Result<(), TickError>
+        ensures applied { OnOk result ((entity table : ℕ) → (contents_of self.new).facts.value entity table ≡ applied_all (rules_of self.old) (contents_of self.old).facts.value entity table) }
+        ensures dispatched { IsTick (situation_of self.old) result (situation_of self.new) }
+        ensures kept { KeepsEntities (contents_of self.old) (contents_of self.new) }
+        ensures rules { rules_of self.new ≡ rules_of self.old }
+    {
+        told(dispatched_in_order(&mut self.dispatcher, &mut self.entities.world))
+    }
+}

@@ -198,3 +198,18 @@ impl Store {
         told(dispatched_in_order(&mut self.dispatcher, &mut self.entities.world))
     }
 }
+
+#[cfg(test)]
+mod tests {
+    use super::*;
+    use std::test::Fail;
+
+    #[test]
+    fn no_entity_has_the_greatest_number(rt: HostRuntime) -> Result<(), Fail> {
+        let mut store = Store::new(rt.alloc(), 0, &[])?;
+        store.entities.next = u64::MAX;
+        assert_eq!(rt; store.create(), Err(StoreError::EntitiesExhausted));
+        assert!(rt; !store.delete(Entity(u64::MAX)));
+        Ok(())
+    }
+}

@@ -25,6 +25,7 @@ impl Entities {
     ghost use Rattle.std.specs.Prelude.{◌≡◌, ◌↔◌, ◌<◌, ◌-◌, ◌^◌, true, false, None, Err, IfErr, IfOk, OnErr, OnOk};
     ghost use Rattle.shredstore.specs.Contents.{IsCreated, IsDeleted, IsEmpty, IsSame, IsValueSet};
     ghost use Rattle.shredstore.specs.EntityFacts.{contents_in};
+    ghost use Rattle.shredstore.specs.Facts.{OnlyLive};
     ghost use Rattle.shredstore.specs.declared.error.StoreError.TheVariants.{EntitiesExhausted, NoSuchEntity, NoSuchTable, OutOfMemory as NoMemory};
 
     /// No entity is live, and there are so many tables.
@@ -94,9 +95,10 @@ impl Entities {
         }
     }
 
-    /// The value of an entity in a table, if it has one there.
+    /// The value of an entity in a table, if it has one there. Live entities alone have values.
     pub fn get(&self, entity: Entity, table: u64) -> Option<i64>
-        ensures { result ≡ (contents_in self.now).facts.value entity.0 table }
+        ensures value { result ≡ (contents_in self.now).facts.value entity.0 table }
+        ensures only_live { OnlyLive (contents_in self.now).facts.live (contents_in self.now).facts.value }
     {
         value_in(&self.world, table, entity.0)
     }

@@ -6,7 +6,7 @@ ghost use Rattle.shredstore.specs.Plans.{IsAddedRule, IsPlanned, RunsOverAny};
 
 use crate::rows::Rows;
 use crate::rule::StoreRule;
-use shred::{AddError, Dispatcher, DispatcherBuilder, Only, OutOfMemory, Plain, Rule};
+use shred::{Dispatcher, DispatcherBuilder, Only, OutOfMemory, Plain, Rule};
 use std::alloc::Global;
 
 /// What plans a store's rules.

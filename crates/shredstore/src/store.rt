@@ -112,6 +112,7 @@ fn store_of(alloc: Global, tables: u64, rules: &[StoreRule]) -> Result<Store, Ou
 impl Store {
     ghost use Rattle.std.specs.Prelude.{◌↔◌, ◌<◌, ◌-◌, ◌^◌, ℕ, true, false, None, Err, IfErr, IfNone, IfSome, OnErr, OnOk};
     ghost use Rattle.shredstore.specs.Contents.{IsCreated, IsDeleted, IsSame, IsValueSet, KeepsEntities};
+    ghost use Rattle.shredstore.specs.Facts.{OnlyLive};
     ghost use Rattle.shredstore.specs.Rules.{applied_all};
     ghost use Rattle.shredstore.specs.Stores.{contents_of, rules_of, situation_of};
     ghost use Rattle.shredstore.specs.Ticks.{IsTick};
@@ -170,11 +171,19 @@ impl Store {
         self.entities.set(entity, table, value)
     }
 
-    /// The value of an entity in a table, if it has one there.
+    /// The value of an entity in a table, if it has one there. Live entities alone have values.
     pub fn get(&self, entity: Entity, table: u64) -> Option<i64>
-        ensures { result ≡ (contents_of self.now).facts.value entity.0 table }
+        ensures value { result ≡ (contents_of self.now).facts.value entity.0 table }
+        ensures only_live { OnlyLive (contents_of self.now).facts.live (contents_of self.now).facts.value }
     {
         self.entities.get(entity, table)
+    }
+
+    /// The rules, in the order given to `new`.
+    pub fn rules(&self) -> &[StoreRule]
+        ensures { result.now ≡ rules_of self.now }
+    {
+        &self.rules
     }
 
     /// Applies the rules one after the other, in the order given to `new`, those that touch other tables beside each other on

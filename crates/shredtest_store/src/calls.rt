@@ -1,5 +1,5 @@
 //! What the calls of a store answer.
-use crate::stores::{row_of, two_entities};
+use crate::stores::{RULES, row_of, two_entities};
 use shredstore::{Entity, Store, StoreError, StoreRule};
 use std::test::Fail;
 
@@ -57,5 +57,12 @@ fn a_set_answers_the_old_value(rt: HostRuntime) -> Result<(), Fail> {
     assert_eq!(rt; store.get(first, 1), Some(-3));
     assert_eq!(rt; store.get(second, 1), Some(6));
     assert_eq!(rt; store.get(second, 3), None);
+    Ok(())
+}
+
+#[test]
+fn the_rules_are_those_that_were_given(rt: HostRuntime) -> Result<(), Fail> {
+    let (store, _, _) = two_entities(rt.alloc())?;
+    assert_eq!(rt; store.rules(), RULES.as_slice());
     Ok(())
 }

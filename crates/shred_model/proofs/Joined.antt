@@ -3,6 +3,7 @@ pub mod Ran
 pub mod UpToFault
 pub mod InTurn
 pub mod FirstFault
+pub mod Faults
 pub mod AllWent
 pub mod Apart
 pub mod Beside

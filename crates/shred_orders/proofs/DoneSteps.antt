@@ -14,7 +14,7 @@ use Rattle.shred_run.specs.declared.entry.StageFault.TheVariants.{System as faul
 use Rattle.shred_run.specs.Depths.{Related}
 use Rattle.shred_run.specs.Entries.{entry_answer}
 use Rattle.shred_run.specs.NestedRecords.{IsNestedStep, NestedRecord, done}
-use Rattle.shred_run.specs.NestedRuns.{NestedBatchRun, NestedEntryRun, NestedGroupRun, NestedPlanRun, NestedRun, NestedStageTurn, OccupantRun}
+use Rattle.shred_run.specs.NestedRuns.{NestedBatchRun, NestedEntryRun, NestedGroupRun, NestedPlanRun, NestedRun, NestedStageRun, OccupantRun}
 use Rattle.shred_run.specs.Occupants.{Occupant, Occupants, a_batch, a_system, inside_at, of_system}
 use Rattle.shred_run.specs.Steps.{Outcome, Step}
 use Rattle.shred_stage.specs.Situations.{dispatch_answer}
@@ -61,14 +61,14 @@ module _ {V S C E : Type 0} (kind : V → Kind) (related : Related V S C E) wher
 
   -- what stands there is one step where it is Done
   abbrev pub RunsAlone : Option Occupant → Type 0
-  RunsAlone there = (depth : ℕ) (occupants : Occupants) (access : Access ResourceId) (list : Records) → occupants [] ≡ there → NestedRun true kind related depth occupants access list (Ok tt) → IsOneStep access list (Ok tt)
+  RunsAlone there = (depth : ℕ) (occupants : Occupants) (access : Access ResourceId) (list : Records) → occupants [] ≡ there → NestedRun kind related depth occupants access list (Ok tt) → IsOneStep access list (Ok tt)
 
   -- a system is
   pub system-alone : (there : Option Occupant) → there ≡ Some a_system → RunsAlone there
   unfolding NestedRun
   system-alone there system zero occupants access list is run = subst (λ (o : Option Occupant). OccupantRun kind related (λ control plan part end. ⊥) o access list (Ok tt)) (is ∙ system) run
   system-alone there system (suc less) occupants access list is run =
-      subst (λ (o : Option Occupant). OccupantRun kind related (λ control plan. NestedBatchRun kind related.asks control (NestedPlanRun true (NestedRun true kind related less) (λ place answer. answer) occupants plan) related.begins) o access list (Ok tt)) (is ∙ system) run
+      subst (λ (o : Option Occupant). OccupantRun kind related (λ control plan. NestedBatchRun kind related.asks control (NestedPlanRun (NestedRun kind related less) (λ place answer. answer) occupants plan) related.begins) o access list (Ok tt)) (is ∙ system) run
 
   module _ (no_batch : (c d : C) (seen left : Held V) (most : ℕ) → related.begins c seen (Ok most) d left → ⊥) where
     no-batch_done : (control : Access ResourceId) (Inner : Records → Answer (StageFault E) → Type 0) (list : Records) → NestedBatchRun kind related.asks control Inner related.begins list (Ok tt) → ⊥
@@ -130,7 +130,7 @@ module _ {V S C E : Type 0} (kind : V → Kind) (related : Related V S C E) wher
 
   module _ (depth : ℕ) where
     abbrev Own : Occupants → Access ResourceId → Records → Outcome E → Type 0
-    Own = NestedRun true kind related depth
+    Own = NestedRun kind related depth
 
     entry-done : (occupants : Occupants) (n : ℕ) (entry : PlanEntry ResourceId) (list : Records) → NestedEntryRun Own occupants n entry list (Ok tt) → RunAlone (inside_at occupants n) (([], entry) ∷ []) → AreDoneAt (([], entry) ∷ []) list
     entry-done occupants n entry list (outcome, run, answer) held =
@@ -152,14 +152,13 @@ module _ {V S C E : Type 0} (kind : V → Kind) (related : Related V S C E) wher
     group-done occupants n group list run held = up-to-fault (NestedEntryRun Own (inside_at occupants n)) of_entry (inside_at occupants n) (entry-done (inside_at occupants n)) 0 group list run held
 
     abbrev Turn : Occupants → ℕ → Stage ResourceId → Records → Answer (DispatchError E) → Type 0
-    Turn occupants n stage list told = (a : Answer (StageFault E)) × NestedStageTurn true Own (inside_at occupants n) stage list a × (told ≡ dispatch_answer n a)
+    Turn occupants n stage list told = (a : Answer (StageFault E)) × NestedStageRun Own (inside_at occupants n) stage list a × (told ≡ dispatch_answer n a)
 
     turn-done : (occupants : Occupants) (n : ℕ) (stage : Stage ResourceId) (list : Records) → Turn occupants n stage list (Ok tt) → RunAlone (inside_at occupants n) (located (located of_entry 0) 0 stage) → AreDoneAt (located (located of_entry 0) 0 stage) list
-    turn-done occupants n stage list (Ok ended, inl run, is) held = each (NestedGroupRun Own (inside_at occupants n)) (located of_entry 0) (inside_at occupants n) (group-done (inside_at occupants n)) 0 stage list run held
-    turn-done occupants n stage list (Ok ended, inr (wanting, none, is), same) held = absurd (cc)
+    turn-done occupants n stage list (Ok ended, run, is) held = each (NestedGroupRun Own (inside_at occupants n)) (located of_entry 0) (inside_at occupants n) (group-done (inside_at occupants n)) 0 stage list run held
     turn-done occupants n stage list (Err (faulty id fault), run, is) held = absurd (cc)
     turn-done occupants n stage list (Err Memory, run, is) held = absurd (cc)
 
     -- a run that is Done has a step of each entry's system, in order
-    pub plan-done : (occupants : Occupants) (plan : Plan ResourceId) (list : Records) → NestedPlanRun true Own dispatch_answer occupants plan list (Ok tt) → RunAlone occupants (entries_with_paths plan) → AreDoneAt (entries_with_paths plan) list
+    pub plan-done : (occupants : Occupants) (plan : Plan ResourceId) (list : Records) → NestedPlanRun Own dispatch_answer occupants plan list (Ok tt) → RunAlone occupants (entries_with_paths plan) → AreDoneAt (entries_with_paths plan) list
     plan-done occupants plan list run held = up-to-fault (Turn occupants) (located (located of_entry 0) 0) occupants (turn-done occupants) 0 plan list run held

@@ -9,4 +9,3 @@ pub mod OwnRecords
 pub mod OwnWorks
 pub mod OneEnd
 pub mod Made
-pub mod Needed

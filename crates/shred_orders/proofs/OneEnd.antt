@@ -1,5 +1,5 @@
 -- Two dispatches from one place end the same, where all relations allow one end and no memory was wanting.
-use Rattle.std.proofs.Common.{◌≡◌, ◌≢◌, ℕ, suc, true, false, List, [], ◌∷◌, ◌++◌, map, Ok, Err, Result, All, refl, sym, ◌∙◌, ap, subst}
+use Rattle.std.proofs.Common.{◌≡◌, ◌≢◌, ℕ, suc, List, [], ◌∷◌, ◌++◌, map, Ok, Err, Result, All, refl, sym, ◌∙◌, ap, subst}
 use Rattle.std.proofs.Math.Path.{fun_ext}
 use Rattle.std.specs.Prelude.{MatchResult}
 use Rattle.std.specs.List.{AllByRecursion}
@@ -43,13 +43,13 @@ module _ {V S C E : Type 0} (kind : V → Kind) (related : Related V S C E) (dec
     (steps : IsDeterministic kind related.steps declared.reads declared.writes (EndsIn Admitted)) (begins : IsDeterministic kind related.begins declared.control_reads declared.control_writes (EndsIn Admitted)) (asks : IsDeterministic kind related.asks declared.control_reads declared.control_writes (EndsIn Admitted)) where
   -- two runs of a plan from one place, of fine records, answer the same and lead to one place
   pub runs-one : {F : Type 0} (answers : ℕ → Answer (StageFault E) → Answer F) (depth other : ℕ) (occupants : Occupants) (plan : model.Plan ResourceId) (c y z : Configuration Agent ResourceId V (AgentState S C)) (l m : List (NestedRecord V S C E)) (a b : Answer F) → AreOfKinds kind c.values
-      → EachFine (IsFine declared Admitted) l → EachFine (IsFine declared Admitted) m → NestedPlanRun false (NestedRun false kind related depth) answers occupants plan l a → NestedPlanRun false (NestedRun false kind related other) answers occupants plan m b → Replays c l y → Replays c m z → (a ≡ b) × AreAlike y z
+      → EachFine (IsFine declared Admitted) l → EachFine (IsFine declared Admitted) m → NestedPlanRun (NestedRun kind related depth) answers occupants plan l a → NestedPlanRun (NestedRun kind related other) answers occupants plan m b → Replays c l y → Replays c m z → (a ≡ b) × AreAlike y z
   runs-one answers depth other occupants plan c y z l m a b sound fl fm run its p q =
       let own = nested-one (AreOfKinds kind) (IsFine declared Admitted) kind related
       (λ access. step-run-one kind related.steps of_system (λ ended. done) access declared.reads declared.writes declared Admitted (λ x y e. cc) (λ x h. h) steps)
       (λ access. step-run-one kind related.begins of_controller bound access declared.control_reads declared.control_writes declared Admitted (λ x y e. cc) (λ x h. h) begins)
       (λ access. step-run-one kind related.asks of_controller again access declared.control_reads declared.control_writes declared Admitted (λ x y e. cc) (λ x h. h) asks) depth other in
-      let same = plan-one (AreOfKinds kind) (IsFine declared Admitted) (NestedRun false kind related depth) (NestedRun false kind related other) own answers occupants plan (λ w. w) c y z l m [] [] a b sound fl fm run its
+      let same = plan-one (AreOfKinds kind) (IsFine declared Admitted) (NestedRun kind related depth) (NestedRun kind related other) own answers occupants plan (λ w. w) c y z l m [] [] a b sound fl fm run its
       (subst (λ (w : List (NestedRecord V S C E)). Replays c w y) (as_joined l) p) (subst (λ (w : List (NestedRecord V S C E)). Replays c w z) (as_joined m) q) in
       (same.answer, record { values = λ id. same.second.values id ∙ sym (same.first.values id); states = λ w. same.second.states w ∙ sym (same.first.states w) })
 
@@ -154,7 +154,7 @@ module _ {V S C L E : Type 0} (kind : V → Kind) (related : Related V S C E) (d
 
   own-second : AllByRecursion (λ r. HasOwnLists declared r.before r.access) too.dispatched.list
   own-second = own-records declared kind related keep dispatch_answer too.dispatched.run.0 (occupants_of before.staged) before.staged.plan too.dispatched.list too.of_plan (configuration_in before.staged) (configuration_in (record end.staged { values = too.middle })) (owns too.dispatched.run.0)
-      (subst (λ (start : Start). NestedPlanRun true (NestedRun true kind related too.dispatched.run.0) dispatch_answer start.1 start.0 too.dispatched.list too.of_plan) same_start too.dispatched.run.1) replays-too
+      (subst (λ (start : Start). NestedPlanRun (NestedRun kind related too.dispatched.run.0) dispatch_answer start.1 start.0 too.dispatched.list too.of_plan) same_start too.dispatched.run.1) replays-too
 
   module _ (Admitted : Fault E → Type 0) (Ends : Outcome E → Type 0) (Fine : Answer (DispatchError E) → Type 0) (fine : Fine (Ok tt)) (admits : (n : ℕ) (o : Outcome E) → Fine (local_answer n o) → Ends o)
       (steps : IsDeterministic kind related.steps declared.reads declared.writes (EndsIn Admitted)) (begins : IsDeterministic kind related.begins declared.control_reads declared.control_writes (EndsIn Admitted)) (asks : IsDeterministic kind related.asks declared.control_reads declared.control_writes (EndsIn Admitted)) where
@@ -162,15 +162,15 @@ module _ {V S C L E : Type 0} (kind : V → Kind) (related : Related V S C E) (d
     fine-records [] own ends = tt
     fine-records (r ∷ list) own ends = ((own.0, ends.0), fine-records list own.1 ends.1)
 
-    -- Two full runs from one place end the same, whatever their threads: where no stage was refused for memory, and each outcome is admitted.
+    -- Two full runs from one place end the same, whatever their threads, where each outcome is admitted.
     full-run-deterministic : AllByRecursion (IsDeterministicLocal kind runs Ends) before.locals → Fine answer → Fine its
-        → (run : (depth : ℕ) × NestedPlanRun false (NestedRun false kind related depth) dispatch_answer (occupants_of before.staged) before.staged.plan ran.dispatched.list ran.of_plan)
-        → (its_run : (depth : ℕ) × NestedPlanRun false (NestedRun false kind related depth) dispatch_answer (occupants_of other.staged) other.staged.plan too.dispatched.list too.of_plan)
         → AllByRecursion (λ r. EndsIn Admitted r.outcome) ran.dispatched.list → AllByRecursion (λ r. EndsIn Admitted r.outcome) too.dispatched.list → SameEnd answer its after end
-    full-run-deterministic one_local fa fb run its_run ends its_ends =
+    full-run-deterministic one_local fa fb ends its_ends =
+        let run = ran.dispatched.run in
+        let its_run = too.dispatched.run in
         let plans = runs-one kind related declared Admitted steps begins asks dispatch_answer run.0 its_run.0 (occupants_of before.staged) before.staged.plan (configuration_in before.staged) (configuration_in (record after.staged { values = ran.middle })) (configuration_in (record end.staged { values = too.middle }))
         ran.dispatched.list too.dispatched.list ran.of_plan too.of_plan sound (fine-records ran.dispatched.list own-first ends) (fine-records too.dispatched.list own-second its_ends) run.1
-        (subst (λ (start : Start). NestedPlanRun false (NestedRun false kind related its_run.0) dispatch_answer start.1 start.0 too.dispatched.list too.of_plan) same_start its_run.1) ran.dispatched.replays replays-too in
+        (subst (λ (start : Start). NestedPlanRun (NestedRun kind related its_run.0) dispatch_answer start.1 start.0 too.dispatched.list too.of_plan) same_start its_run.1) ran.dispatched.replays replays-too in
         let middles : too.middle ≡ ran.middle = fun_ext plans.1.values in
         let states = fun_ext plans.1.states in
         let later : Later kind runs ran.of_plan ran.middle before.locals its end.locals end.staged.values =
@@ -189,27 +189,22 @@ module _ {V S C L E : Type 0} (kind : V → Kind) (related : Related V S C E) (d
         }
 
   -- two full runs in which no memory was wanting
-  pub full-run-alike : AllowOneEnd kind related declared (λ A. IsNotOutOfMemory {A = A}) → All (IsDeterministicLocal kind runs IsNotOutOfMemory) before.locals → HadMemory kind related before.staged ran.dispatched.list ran.of_plan answer → HadMemory kind related other.staged too.dispatched.list too.of_plan its → SameEnd answer its after end
+  pub full-run-alike : AllowOneEnd kind related declared (λ A. IsNotOutOfMemory {A = A}) → All (IsDeterministicLocal kind runs IsNotOutOfMemory) before.locals → HadMemory ran.dispatched.list answer → HadMemory too.dispatched.list its → SameEnd answer its after end
   full-run-alike one one_local had had_too = full-run-deterministic (λ fault. fault ≢ OutOfMemory) IsNotOutOfMemory TellsNoLocalWant (λ index e. cc) tells-no-local
       (admitting-fewer kind related.steps declared.reads declared.writes (EndsIn (λ fault. fault ≢ OutOfMemory)) IsNotOutOfMemory wants-none one.steps)
       (admitting-fewer kind related.begins declared.control_reads declared.control_writes (EndsIn (λ fault. fault ≢ OutOfMemory)) IsNotOutOfMemory wants-none one.begins)
       (admitting-fewer kind related.asks declared.control_reads declared.control_writes (EndsIn (λ fault. fault ≢ OutOfMemory)) IsNotOutOfMemory wants-none one.asks)
-      (recursion_from_All (IsDeterministicLocal kind runs IsNotOutOfMemory) before.locals one_local) had.told had_too.told had.run had_too.run (ended ran.dispatched.list had.steps) (ended too.dispatched.list had_too.steps) where
+      (recursion_from_All (IsDeterministicLocal kind runs IsNotOutOfMemory) before.locals one_local) had.told had_too.told (ended ran.dispatched.list had.steps) (ended too.dispatched.list had_too.steps) where
         ended : (list : List (NestedRecord V S C E)) → All (λ r. IsNotOutOfMemory r.outcome) list → AllByRecursion (λ r. EndsIn (λ fault. fault ≢ OutOfMemory) r.outcome) list
         ended list all = AllByRecursion-weaker (λ (r : NestedRecord V S C E). IsNotOutOfMemory r.outcome) (λ r. EndsIn (λ fault. fault ≢ OutOfMemory) r.outcome) (λ r h. no-want r.outcome h) list (recursion_from_All (λ (r : NestedRecord V S C E). IsNotOutOfMemory r.outcome) list all)
 
-  -- a full run that is Done is one in which no stage was refused for memory, and no outcome is a fault
-  abbrev RanDone : (start : Whole V S C L) (told : Answer (DispatchError E)) (last : Whole V S C L) → FullyDispatched kind related runs start told last → Type 0
-  RanDone start told last full = ((depth : ℕ) × NestedPlanRun false (NestedRun false kind related depth) dispatch_answer (occupants_of start.staged) start.staged.plan full.dispatched.list full.of_plan) × AllByRecursion (λ r. EndsIn (λ fault. ⊥) r.outcome) full.dispatched.list
-
-  ran-done : (start : Whole V S C L) (told : Answer (DispatchError E)) (last : Whole V S C L) (full : FullyDispatched kind related runs start told last) → told ≡ Ok tt → RanDone start told last full
+  -- a full run that is Done is one in which no outcome is a fault
+  ran-done : (start : Whole V S C L) (told : Answer (DispatchError E)) (last : Whole V S C L) (full : FullyDispatched kind related runs start told last) → told ≡ Ok tt → AllByRecursion (λ r. EndsIn (λ fault. ⊥) r.outcome) full.dispatched.list
   ran-done start told last full is =
       let ok : full.of_plan ≡ Ok tt = planned kind runs IsDone (λ (a : Answer (DispatchError E)). a ≡ Ok tt) refl done-local full.of_plan full.middle start.locals told last.locals last.staged.values is full.locals in
-      let both = plan_done kind related dispatch_answer done-stage full.dispatched.run.0 (occupants_of start.staged) start.staged.plan full.dispatched.list
-      (subst (λ (a : Answer (DispatchError E)). NestedPlanRun true (NestedRun true kind related full.dispatched.run.0) dispatch_answer (occupants_of start.staged) start.staged.plan full.dispatched.list a) ok full.dispatched.run.1) in (
-        (full.dispatched.run.0, subst (λ (a : Answer (DispatchError E)). NestedPlanRun false (NestedRun false kind related full.dispatched.run.0) dispatch_answer (occupants_of start.staged) start.staged.plan full.dispatched.list a) (sym ok) both.0),
-        AllByRecursion-weaker (λ (r : NestedRecord V S C E). IsDone r.outcome) (λ r. EndsIn (λ fault. ⊥) r.outcome) (λ r h. no-fault r.outcome h) full.dispatched.list both.1,
-      )
+      let all = plan_done kind related dispatch_answer done-stage full.dispatched.run.0 (occupants_of start.staged) start.staged.plan full.dispatched.list
+      (subst (λ (a : Answer (DispatchError E)). NestedPlanRun (NestedRun kind related full.dispatched.run.0) dispatch_answer (occupants_of start.staged) start.staged.plan full.dispatched.list a) ok full.dispatched.run.1) in
+      AllByRecursion-weaker (λ (r : NestedRecord V S C E). IsDone r.outcome) (λ r. EndsIn (λ fault. ⊥) r.outcome) (λ r h. no-fault r.outcome h) full.dispatched.list all
 
   -- two full runs that are Done
   pub full-run-alike-done : AllowOneEnd kind related declared (λ A. IsDone {A = A}) → All (IsDeterministicLocal kind runs IsDone) before.locals → answer ≡ Ok tt → its ≡ Ok tt → SameEnd answer its after end
@@ -220,4 +215,4 @@ module _ {V S C L E : Type 0} (kind : V → Kind) (related : Related V S C E) (d
       (admitting-fewer kind related.steps declared.reads declared.writes (EndsIn (λ fault. ⊥)) IsDone faults-none one.steps)
       (admitting-fewer kind related.begins declared.control_reads declared.control_writes (EndsIn (λ fault. ⊥)) IsDone faults-none one.begins)
       (admitting-fewer kind related.asks declared.control_reads declared.control_writes (EndsIn (λ fault. ⊥)) IsDone faults-none one.asks)
-      (recursion_from_All (IsDeterministicLocal kind runs IsDone) before.locals one_local) is its_is first.0 second.0 first.1 second.1
+      (recursion_from_All (IsDeterministicLocal kind runs IsDone) before.locals one_local) is its_is first second

@@ -1,5 +1,5 @@
--- Two runs of a plan from one place are the same, at every depth, where each step is and no stage is refused for memory.
-use Rattle.std.proofs.Common.{◌≡◌, ℕ, zero, suc, Bool, true, false, List, [], ◌∷◌, ◌++◌, map, Option, Some, None, Ok, Err, Result, inl, inr, refl, sym, ◌∙◌, ap, append-nil}
+-- Two runs of a plan from one place are the same, at every depth, where each step is.
+use Rattle.std.proofs.Common.{◌≡◌, ℕ, zero, suc, Bool, true, false, List, [], ◌∷◌, ◌++◌, map, Option, Some, None, Ok, Err, Result, refl, sym, ◌∙◌, ap, append-nil}
 use Rattle.shred_model.specs.Access.{Access}
 use Rattle.shred_model.specs.Plan as model
 use Rattle.shred_model.specs.Runs.{Answer}
@@ -11,7 +11,7 @@ use Rattle.shred_run.specs.declared.system.Fault.{Fault}
 use Rattle.shred_run.specs.Depths.{Related}
 use Rattle.shred_run.specs.Entries.{entry_answer}
 use Rattle.shred_run.specs.NestedRecords.{NestedRecord, Reply, again, bound, done}
-use Rattle.shred_run.specs.NestedRuns.{NestedBatchRun, NestedEntryRun, NestedGroupRun, NestedPlanRun, NestedRounds, NestedRun, NestedStageTurn, OccupantRun}
+use Rattle.shred_run.specs.NestedRuns.{NestedBatchRun, NestedEntryRun, NestedGroupRun, NestedPlanRun, NestedRounds, NestedRun, NestedStageRun, OccupantRun}
 use Rattle.shred_run.specs.Occupants.{AgentState, Occupant, Occupants, a_batch, a_system, inside_at, of_controller, of_system}
 use Rattle.shred_run.specs.Rounds.{fault_within}
 use Rattle.shred_run.specs.Steps.{Outcome}
@@ -36,15 +36,13 @@ module _ {V S C E : Type 0} (Sound : Held V → Type 0) (Fine : Access ResourceI
     group-one : (occupants : Occupants) (n : ℕ) (group : model.Group ResourceId) → Alike (NestedGroupRun Own occupants n group) (NestedGroupRun Its occupants n group)
     group-one occupants n group = UpToFault-one Sound Fine (NestedEntryRun Own (inside_at occupants n)) (NestedEntryRun Its (inside_at occupants n)) (entry-one (inside_at occupants n)) 0 group
 
-    stage-one : (occupants : Occupants) (stage : model.Stage ResourceId) → Alike (NestedStageTurn false Own occupants stage) (NestedStageTurn false Its occupants stage)
-    stage-one occupants stage g c y z l m rest others a b sound fl fm (inl run) (inl other) p q = Each-one Sound Fine (NestedGroupRun Own occupants) (NestedGroupRun Its occupants) (group-one occupants) 0 stage g c y z l m rest others a b sound fl fm run other p q
-    stage-one occupants stage g c y z l m rest others a b sound fl fm (inr refused) other p q = absurd (let no = refused.0 in cc)
-    stage-one occupants stage g c y z l m rest others a b sound fl fm (inl run) (inr refused) p q = absurd (let no = refused.0 in cc)
+    stage-one : (occupants : Occupants) (stage : model.Stage ResourceId) → Alike (NestedStageRun Own occupants stage) (NestedStageRun Its occupants stage)
+    stage-one occupants stage = Each-one Sound Fine (NestedGroupRun Own occupants) (NestedGroupRun Its occupants) (group-one occupants) 0 stage
 
-    pub plan-one : {F : Type 0} (answers : ℕ → Answer (StageFault E) → Answer F) (occupants : Occupants) (plan : model.Plan ResourceId) → Alike (NestedPlanRun false Own answers occupants plan) (NestedPlanRun false Its answers occupants plan)
+    pub plan-one : {F : Type 0} (answers : ℕ → Answer (StageFault E) → Answer F) (occupants : Occupants) (plan : model.Plan ResourceId) → Alike (NestedPlanRun Own answers occupants plan) (NestedPlanRun Its answers occupants plan)
     plan-one {F} answers occupants plan = UpToFault-one Sound Fine (Turn Own) (Turn Its) turn-one 0 plan where
       Turn : (Occupants → Access ResourceId → List (NestedRecord V S C E) → Outcome E → Type 0) → ℕ → model.Stage ResourceId → List (NestedRecord V S C E) → Answer F → Type 0
-      Turn Any n stage part told = (a : Answer (StageFault E)) × NestedStageTurn false Any (inside_at occupants n) stage part a × (told ≡ answers n a)
+      Turn Any n stage part told = (a : Answer (StageFault E)) × NestedStageRun Any (inside_at occupants n) stage part a × (told ≡ answers n a)
 
       turn-one : (n : ℕ) (stage : model.Stage ResourceId) → Alike (Turn Own n stage) (Turn Its n stage)
       turn-one n stage g c y z l m rest others a b sound fl fm (o, run, is) (p, other, at) q s =
@@ -125,13 +123,13 @@ module _ {V S C E : Type 0} (Sound : Held V → Type 0) (Fine : Access ResourceI
 
     -- a run of an inner plan whose batches nest to this depth at most
     abbrev Inner : ℕ → Occupants → model.Plan ResourceId → List (NestedRecord V S C E) → Answer (StageFault E) → Type 0
-    Inner depth = NestedPlanRun false (NestedRun false kind related depth) (λ place answer. answer)
+    Inner depth = NestedPlanRun (NestedRun kind related depth) (λ place answer. answer)
 
-    pub nested-one : (depth other : ℕ) (occupants : Occupants) (access : Access ResourceId) → Alike (NestedRun false kind related depth occupants access) (NestedRun false kind related other occupants access)
+    pub nested-one : (depth other : ℕ) (occupants : Occupants) (access : Access ResourceId) → Alike (NestedRun kind related depth occupants access) (NestedRun kind related other occupants access)
     unfolding NestedRun
     nested-one zero zero occupants access = occupant-one (λ control plan part o. ⊥) (λ control plan part o. ⊥) (λ control plan g c y z l m rest others a b sound fl fm run other p q. absurd run) (occupants []) access
     nested-one zero (suc more) occupants access = occupant-one (λ control plan part o. ⊥) (λ control plan. NestedBatchRun kind related.asks control (Inner more occupants plan) related.begins) (λ control plan g c y z l m rest others a b sound fl fm run other p q. absurd run) (occupants []) access
     nested-one (suc less) zero occupants access = occupant-one (λ control plan. NestedBatchRun kind related.asks control (Inner less occupants plan) related.begins) (λ control plan part o. ⊥) (λ control plan g c y z l m rest others a b sound fl fm run other p q. absurd other) (occupants []) access
     nested-one (suc less) (suc more) occupants access =
         occupant-one (λ control plan. NestedBatchRun kind related.asks control (Inner less occupants plan) related.begins) (λ control plan. NestedBatchRun kind related.asks control (Inner more occupants plan) related.begins)
-        (λ control plan. batch-one kind related control (Inner less occupants plan) (Inner more occupants plan) (plan-one (NestedRun false kind related less) (NestedRun false kind related more) (nested-one less more) (λ place answer. answer) occupants plan) (begins control) (asks control)) (occupants []) access
+        (λ control plan. batch-one kind related control (Inner less occupants plan) (Inner more occupants plan) (plan-one (NestedRun kind related less) (NestedRun kind related more) (nested-one less more) (λ place answer. answer) occupants plan) (begins control) (asks control)) (occupants []) access

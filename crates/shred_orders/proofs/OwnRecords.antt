@@ -18,7 +18,7 @@ use Rattle.shred_run.specs.Controls.{Control}
 use Rattle.shred_run.specs.Depths.{Declared, Related}
 use Rattle.shred_run.specs.Kept.{AreOwnLists}
 use Rattle.shred_run.specs.NestedRecords.{NestedRecord, IsNestedStep, Reply, again, bound, done}
-use Rattle.shred_run.specs.NestedRuns.{NestedBatchRun, NestedEntryRun, NestedGroupRun, NestedPlanRun, NestedRounds, NestedRun, NestedStageTurn, OccupantRun}
+use Rattle.shred_run.specs.NestedRuns.{NestedBatchRun, NestedEntryRun, NestedGroupRun, NestedPlanRun, NestedRounds, NestedRun, NestedStageRun, OccupantRun}
 use Rattle.shred_run.specs.Occupants.{AgentState, Occupant, Occupants, a_batch, a_system, inside_at, of_controller, of_system}
 use Rattle.shred_run.specs.Steps.{Outcome}
 use Rattle.shred_run.proofs.Paths.Opened.{EachAt, RunsEach-each, RunsUpToFault-each, UpToFault-with, Each-with, With}
@@ -81,20 +81,19 @@ module _ {V S C E : Type 0} (declared : Declared S C) where
         RunsUpToFault-each (With Of (NestedEntryRun Own (inside_at occupants n))) (IsUnder (inside_at states n)) (λ m entry part b turn. one (inside_at (inside_at occupants n) m) (inside_at (inside_at states n) m) entry.access turn.0 part turn.1.0 turn.1.1) 0 group list a
         (UpToFault-with Of (NestedEntryRun Own (inside_at occupants n)) 0 group list a kept run)
 
-    stage-under : (occupants : Occupants) (states : States S C) (stage : model.Stage ResourceId) → StageOwns declared Kept occupants states stage → AreUnder states (NestedStageTurn true Own occupants stage)
-    stage-under occupants states stage kept list a (inl run) =
+    stage-under : (occupants : Occupants) (states : States S C) (stage : model.Stage ResourceId) → StageOwns declared Kept occupants states stage → AreUnder states (NestedStageRun Own occupants stage)
+    stage-under occupants states stage kept list a run =
         RunsEach-each (With (GroupOwns declared Kept occupants states) (NestedGroupRun Own occupants)) (IsUnder states) (λ n group part b turn. group-under occupants states n group turn.0 part b turn.1) 0 stage list a
         (Each-with (GroupOwns declared Kept occupants states) (NestedGroupRun Own occupants) 0 stage list a kept run)
-    stage-under occupants states stage kept list a (inr refused) = AllByRecursion-same (IsUnder states) list [] refused.1 tt
 
-    plan-under : {F : Type 0} (answers : ℕ → Answer (StageFault E) → Answer F) (occupants : Occupants) (states : States S C) (plan : model.Plan ResourceId) → PlanOwns declared Kept occupants states plan → AreUnder states (NestedPlanRun true Own answers occupants plan)
+    plan-under : {F : Type 0} (answers : ℕ → Answer (StageFault E) → Answer F) (occupants : Occupants) (states : States S C) (plan : model.Plan ResourceId) → PlanOwns declared Kept occupants states plan → AreUnder states (NestedPlanRun Own answers occupants plan)
     plan-under {F} answers occupants states plan kept list a run =
         RunsUpToFault-each (With Of Turn) (IsUnder states) (λ n stage part told turn. stage-under (inside_at occupants n) (inside_at states n) stage turn.0 part turn.1.0 turn.1.1) 0 plan list a (UpToFault-with Of Turn 0 plan list a kept run) where
           Of : ℕ → model.Stage ResourceId → Type 0
           Of n stage = StageOwns declared Kept (inside_at occupants n) (inside_at states n) stage
 
           Turn : ℕ → model.Stage ResourceId → List (NestedRecord V S C E) → Answer F → Type 0
-          Turn n stage part told = (b : Answer (StageFault E)) × NestedStageTurn true Own (inside_at occupants n) stage part b × (told ≡ answers n b)
+          Turn n stage part told = (b : Answer (StageFault E)) × NestedStageRun Own (inside_at occupants n) stage part b × (told ≡ answers n b)
 
   module _ (kind : V → Kind) (related : Related V S C E) (keep : KeepDeclared related declared) where
     -- a step at a path, where it keeps what is declared
@@ -133,13 +132,13 @@ module _ {V S C E : Type 0} (declared : Declared S C) where
     occupant-under Inner Batches states access batch (Some (a_batch control plan)) own = batch control plan own.0 own.1
     occupant-under Inner Batches states access batch None own = λ list o run. absurd run
 
-    nested-under : (depth : ℕ) (occupants : Occupants) (states : States S C) (access : Access ResourceId) → OwnsAt declared depth occupants states access → AreUnder states (NestedRun true kind related depth occupants access)
+    nested-under : (depth : ℕ) (occupants : Occupants) (states : States S C) (access : Access ResourceId) → OwnsAt declared depth occupants states access → AreUnder states (NestedRun kind related depth occupants access)
     unfolding NestedRun OwnsAt
     nested-under zero occupants states access = occupant-under (λ plan. Unit {0}) (λ control plan part o. ⊥) states access (λ control plan own inner part o none. absurd none) (occupants [])
     nested-under (suc less) occupants states access = occupant-under (PlanOwns declared (OwnsAt declared less) occupants states) (λ control plan. NestedBatchRun kind related.asks control (Inner plan) related.begins) states access
-        (λ control plan own inner. batch-under states control own (Inner plan) (plan-under (NestedRun true kind related less) (OwnsAt declared less) (nested-under less) (λ place answer. answer) occupants states plan inner)) (occupants []) where
+        (λ control plan own inner. batch-under states control own (Inner plan) (plan-under (NestedRun kind related less) (OwnsAt declared less) (nested-under less) (λ place answer. answer) occupants states plan inner)) (occupants []) where
           Inner : model.Plan ResourceId → List (NestedRecord V S C E) → Answer (StageFault E) → Type 0
-          Inner = NestedPlanRun true (NestedRun true kind related less) (λ place answer. answer) occupants
+          Inner = NestedPlanRun (NestedRun kind related less) (λ place answer. answer) occupants
 
     -- a step keeps it that the other records are under their own lists
     moves : (r : NestedRecord V S C E) (x y : Configuration Agent ResourceId V (AgentState S C)) → Goes r x y → declared_by declared r.after ≡ declared_by declared r.before → (q : NestedRecord V S C E) → IsUnder x.states q → IsUnder y.states q
@@ -159,5 +158,5 @@ module _ {V S C E : Type 0} (declared : Declared S C) where
 
     -- each record of a plan's run is a call under the lists that are declared in its own state
     pub own-records : {F : Type 0} (answers : ℕ → Answer (StageFault E) → Answer F) (depth : ℕ) (occupants : Occupants) (plan : model.Plan ResourceId) (list : List (NestedRecord V S C E)) (a : Answer F) (x y : Configuration Agent ResourceId V (AgentState S C)) → PlanOwns declared (OwnsAt declared depth) occupants x.states plan
-        → NestedPlanRun true (NestedRun true kind related depth) answers occupants plan list a → Replays x list y → AllByRecursion (λ r. HasOwnLists declared r.before r.access) list
-    own-records answers depth occupants plan list a x y owns run replays = own-before list x y replays (plan-under (NestedRun true kind related depth) (OwnsAt declared depth) (nested-under depth) answers occupants x.states plan owns list a run)
+        → NestedPlanRun (NestedRun kind related depth) answers occupants plan list a → Replays x list y → AllByRecursion (λ r. HasOwnLists declared r.before r.access) list
+    own-records answers depth occupants plan list a x y owns run replays = own-before list x y replays (plan-under (NestedRun kind related depth) (OwnsAt declared depth) (nested-under depth) answers occupants x.states plan owns list a run)

@@ -1,5 +1,5 @@
 -- Systems and controllers whose relations allow one end, and dispatches that begin and end the same.
-use Rattle.std.specs.Prelude.{◌≡◌, ◌≢◌, ℕ, Bool, false, List, Some, None, Ok, Err, All, Result}
+use Rattle.std.specs.Prelude.{◌≡◌, ◌≢◌, ℕ, Bool, List, Some, None, Ok, Err, All, Result}
 use Rattle.std.specs.Option.{option_map}
 use Rattle.shred_model.specs.Access.{Access, Declares}
 use Rattle.shred_model.specs.Record.{Agent, Record, IsFramed}
@@ -13,13 +13,11 @@ use Rattle.shred_run.specs.declared.system.Fault.TheVariants.{OutOfMemory}
 use Rattle.shred_run.specs.Alone.{KeepsKinds}
 use Rattle.shred_run.specs.Controls.{Control}
 use Rattle.shred_run.specs.Depths.{Declared, Related}
-use Rattle.shred_run.specs.Dispatched.{Situation, configuration_in, occupants_of}
+use Rattle.shred_run.specs.Dispatched.{configuration_in, occupants_of}
 use Rattle.shred_run.specs.NestedRecords.{NestedRecord}
-use Rattle.shred_run.specs.NestedRuns.{NestedPlanRun, NestedRun}
 use Rattle.shred_run.specs.Steps.{Outcome, Step}
 use Rattle.shred_stage.specs.declared.dispatch.dispatch_error.DispatchError.{DispatchError}
 use Rattle.shred_stage.specs.declared.dispatch.dispatch_error.DispatchError.TheVariants.{ThreadLocal}
-use Rattle.shred_stage.specs.Situations.{dispatch_answer}
 use Rattle.shred.specs.FullRuns.{FullyDispatched, Whole}
 
 -- the outcome is not want of memory
@@ -72,9 +70,8 @@ IsDeterministicLocal {V} {L} {E} kind runs Admitted local = (held : Held V) (o p
 abbrev pub TellsNoLocalWant : {E : Type 0} → Answer (DispatchError E) → Type 0
 TellsNoLocalWant {E} answer = (index : ℕ) → answer ≢ Err (ThreadLocal index OutOfMemory)
 
--- No memory was wanting in a dispatch from there: its records are a run of the plan in which no stage is refused for memory, at any depth, no record's outcome is want of it, and the answer tells of none of a thread-local system.
-pub record HadMemory {V S C E : Type 0} (kind : V → Kind) (related : Related V S C E) (before : Situation V S C) (list : List (NestedRecord V S C E)) (of_plan answer : Answer (DispatchError E)) : Type 0 where
-  pub run : (depth : ℕ) × NestedPlanRun false (NestedRun false kind related depth) dispatch_answer (occupants_of before) before.plan list of_plan
+-- No memory was wanting in a dispatch with these records: no record's outcome is want of it, and the answer tells of none of a thread-local system.
+pub record HadMemory {V S C E : Type 0} (list : List (NestedRecord V S C E)) (answer : Answer (DispatchError E)) : Type 0 where
   pub steps : All (λ r. IsNotOutOfMemory r.outcome) list
   pub told : TellsNoLocalWant answer
 
@@ -95,6 +92,6 @@ pub record EndAlike {V S C L E : Type 0} (kind : V → Kind) (related : Related 
   pub ran : FullyDispatched kind related runs before answer after
   pub other_ran : FullyDispatched kind related runs other its end
   pub alike : IsSameButThreads before other → AllowOneEnd kind related declared (λ A. IsNotOutOfMemory {A = A}) → All (IsDeterministicLocal kind runs IsNotOutOfMemory) before.locals
-      → HadMemory kind related before.staged ran.dispatched.list ran.of_plan answer → HadMemory kind related other.staged other_ran.dispatched.list other_ran.of_plan its → SameEnd answer its after end
+      → HadMemory ran.dispatched.list answer → HadMemory other_ran.dispatched.list its → SameEnd answer its after end
   pub alike_done : IsSameButThreads before other → AllowOneEnd kind related declared (λ A. IsDone {A = A}) → All (IsDeterministicLocal kind runs IsDone) before.locals
       → answer ≡ Ok tt → its ≡ Ok tt → SameEnd answer its after end

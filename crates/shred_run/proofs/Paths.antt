@@ -1,4 +1,6 @@
+pub mod AgentSteps
 pub mod Opened
+pub mod ToldFaults
 pub mod OwnDepth
 pub mod Within
 pub mod Works

@@ -1,5 +1,5 @@
--- Runs of entries and of groups, and the turn of a stage.
-use Rattle.std.specs.Prelude.{◌≡◌, ◌⊎◌, ℕ, List, [], ◌∷◌, Option, Ok, Err}
+-- Runs of entries, groups and stages.
+use Rattle.std.specs.Prelude.{◌≡◌, ℕ, List, [], ◌∷◌, Option, Ok, Err}
 use Rattle.shred_model.specs.Plan as model
 use Rattle.shred_model.specs.Record.{Agent}
 use Rattle.shred_model.specs.Runs.{Answer, RunsUpToFault, RunsEach}
@@ -9,7 +9,7 @@ use Rattle.shred_table.specs.declared.id.ResourceId.{ResourceId}
 use Rattle.shred_run.specs.declared.entry.GroupEntry.{GroupEntry}
 use Rattle.shred_run.specs.declared.entry.Group.{Group}
 use Rattle.shred_run.specs.declared.entry.StageFault.{StageFault}
-use Rattle.shred_run.specs.declared.entry.StageFault.TheVariants.{System, Memory}
+use Rattle.shred_run.specs.declared.entry.StageFault.TheVariants.{System}
 use Rattle.shred_run.specs.Steps.{Outcome, Step, Written, IsStep}
 
 -- the answer of an entry whose step had this outcome
@@ -29,10 +29,6 @@ module _ {V S E : Type 0} (kind : V → Kind) (step : Step V S E) where
   -- a stage's run joins its groups' runs, in order, every group's; its answer is that of the first that is not Done
   abbrev pub StageRun : model.Stage ResourceId → List (Written V S E) → Answer (StageFault E) → Type 0
   StageRun stage list answer = RunsEach GroupRun 0 stage list answer
-
-  -- a stage runs, or is refused for memory before it begins, and then there is no record
-  abbrev pub StageTurn : model.Stage ResourceId → List (Written V S E) → Answer (StageFault E) → Type 0
-  StageTurn stage list answer = StageRun stage list answer ⊎ ((list ≡ []) × (answer ≡ Err Memory))
 
 -- the state of the entry's work
 abbrev pub entry_states : {V S : Type 0} → GroupEntry V S → Agent → Option S

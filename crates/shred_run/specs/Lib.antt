@@ -1,4 +1,5 @@
 pub mod AdditionOrder
+pub mod AgentSteps
 pub mod Alone
 pub mod BatchRuns
 pub mod Batches

@@ -1,12 +1,11 @@
 -- Which lists of records are runs of entries, groups, stages and plans, batches at every depth opened into the records of their controllers and systems.
-use Rattle.std.specs.Prelude.{◌≡◌, ◌⊎◌, ℕ, zero, suc, Bool, true, MatchBool, List, [], ◌∷◌, ◌++◌, Option, Some, None, Ok, Err, Result, MatchResult}
+use Rattle.std.specs.Prelude.{◌≡◌, ℕ, zero, suc, Bool, MatchBool, List, [], ◌∷◌, ◌++◌, Option, Some, None, Ok, Err, Result, MatchResult}
 use Rattle.shred_model.specs.Access.{Access}
 use Rattle.shred_model.specs.Plan as model
 use Rattle.shred_model.specs.Runs.{Answer, RunsUpToFault, RunsEach}
 use Rattle.shred_table.specs.declared.id.Kind.{Kind}
 use Rattle.shred_table.specs.declared.id.ResourceId.{ResourceId}
 use Rattle.shred_run.specs.declared.entry.StageFault.{StageFault}
-use Rattle.shred_run.specs.declared.entry.StageFault.TheVariants.{Memory}
 use Rattle.shred_run.specs.declared.system.Fault.{Fault}
 use Rattle.shred_run.specs.Entries.{entry_answer}
 use Rattle.shred_run.specs.Steps.{Outcome}
@@ -26,16 +25,14 @@ module _ {V S C E : Type 0} (Own : Occupants → Access ResourceId → List (Nes
   abbrev pub NestedGroupRun : Occupants → ℕ → model.Group ResourceId → List (NestedRecord V S C E) → Answer (StageFault E) → Type 0
   NestedGroupRun occupants place group list answer = RunsUpToFault (NestedEntryRun (inside_at occupants place)) 0 group list answer
 
--- Where `wanting` is false, no stage is refused for memory, at any depth.
-module _ {V S C E : Type 0} (wanting : Bool) (Own : Occupants → Access ResourceId → List (NestedRecord V S C E) → Outcome E → Type 0) where
-  -- a stage's run joins its groups' runs, in order, every group's, and its answer is that of the first that is not Done; or the stage is refused for memory before it begins, and then there is no record
-  abbrev pub NestedStageTurn : Occupants → model.Stage ResourceId → List (NestedRecord V S C E) → Answer (StageFault E) → Type 0
-  NestedStageTurn occupants stage list answer = RunsEach (NestedGroupRun Own occupants) 0 stage list answer ⊎ ((wanting ≡ true) × (list ≡ []) × (answer ≡ Err Memory))
+  -- a stage's run joins its groups' runs, in order, every group's; its answer is that of the first that is not Done
+  abbrev pub NestedStageRun : Occupants → model.Stage ResourceId → List (NestedRecord V S C E) → Answer (StageFault E) → Type 0
+  NestedStageRun occupants stage list answer = RunsEach (NestedGroupRun occupants) 0 stage list answer
 
-  -- a plan's run joins its stages' turns, in order, up to the first that is not Done; `answers` says what the plan answers for what the stage at a place does
+  -- a plan's run joins its stages' runs, in order, up to the first that is not Done; `answers` says what the plan answers for what the stage at a place does
   abbrev pub NestedPlanRun : {F : Type 0} → (ℕ → Answer (StageFault E) → Answer F) → Occupants → model.Plan ResourceId → List (NestedRecord V S C E) → Answer F → Type 0
   NestedPlanRun {F} answers occupants plan list answer =
-      RunsUpToFault (λ place stage part (told : Answer F). (a : Answer (StageFault E)) × NestedStageTurn (inside_at occupants place) stage part a × (told ≡ answers place a)) 0 plan list answer
+      RunsUpToFault (λ place stage part (told : Answer F). (a : Answer (StageFault E)) × NestedStageRun (inside_at occupants place) stage part a × (told ≡ answers place a)) 0 plan list answer
 
 module _ {V S C E : Type 0} (kind : V → Kind) (asks : Control V C Bool E) (access : Access ResourceId) (Inner : List (NestedRecord V S C E) → Answer (StageFault E) → Type 0) where
   -- At most so many times: the controller is asked, which is one record; on yes a run of the inner plan follows, and on no the batch is Done; the first outcome that is not Done ends it, and is told as the batch's own. After the last round it is Done.
@@ -61,9 +58,9 @@ module _ {V S C E : Type 0} (kind : V → Kind) (related : Related V S C E) wher
   OccupantRun Batches (Some (a_batch control plan)) access list outcome = Batches control plan list outcome
   OccupantRun Batches None access list outcome = ⊥
 
-module _ {V S C E : Type 0} (wanting : Bool) (kind : V → Kind) (related : Related V S C E) where
+module _ {V S C E : Type 0} (kind : V → Kind) (related : Related V S C E) where
   -- A run of what stands in an entry, where batches nest to this depth at most. A batch has none at depth zero; deeper its inner plan's runs are those in which batches nest less deep.
   unfoldable pub NestedRun : ℕ → Occupants → Access ResourceId → List (NestedRecord V S C E) → Outcome E → Type 0
   NestedRun zero occupants access list outcome = OccupantRun kind related (λ control plan part o. ⊥) (occupants []) access list outcome
   NestedRun (suc less) occupants access list outcome =
-      OccupantRun kind related (λ control plan. NestedBatchRun kind related.asks control (NestedPlanRun wanting (NestedRun less) (λ place answer. answer) occupants plan) related.begins) (occupants []) access list outcome
+      OccupantRun kind related (λ control plan. NestedBatchRun kind related.asks control (NestedPlanRun (NestedRun less) (λ place answer. answer) occupants plan) related.begins) (occupants []) access list outcome

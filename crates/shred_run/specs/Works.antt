@@ -12,7 +12,7 @@ use Rattle.shred_table.specs.declared.id.ResourceId.{ResourceId}
 use Rattle.shred_table.specs.Slots.{among}
 use Rattle.shred_world.specs.Worked.{Held}
 use Rattle.shred_run.specs.declared.entry.StageFault.{StageFault}
-use Rattle.shred_run.specs.Entries.{StageTurn, group_states}
+use Rattle.shred_run.specs.Entries.{StageRun, group_states}
 use Rattle.shred_run.specs.Hands.{KeepsRoom, some_writes}
 use Rattle.shred_run.specs.OwnLists.{IsGroupOf}
 use Rattle.shred_run.specs.PlanOf.{group_numbers, groups_plan}
@@ -58,6 +58,6 @@ tier_numbers tier = map group_numbers tier.groups.items
 
 -- A run of an inner plan: its tiers' turns, in order, up to the first that is not Done. The plan stays, and the ids beside its groups.
 pub record InnerRun {V X E : Type 0} (kind : V → Kind) (step : Step V X E) (tiers : List (Tier V X)) (before : Held V) (answer : Answer (StageFault E)) (news : List (Tier V X)) (after : Held V) : Type 0 where
-  pub ran : Ran (RunsUpToFault (λ place. StageTurn kind step) 0 (tiers_plan tiers)) (configuration_of (listed_states tier_states tiers) before) answer (configuration_of (listed_states tier_states news) after)
+  pub ran : Ran (RunsUpToFault (λ place. StageRun kind step) 0 (tiers_plan tiers)) (configuration_of (listed_states tier_states tiers) before) answer (configuration_of (listed_states tier_states news) after)
   pub same_plan : tiers_plan news ≡ tiers_plan tiers
   pub same_ids : map tier_numbers news ≡ map tier_numbers tiers

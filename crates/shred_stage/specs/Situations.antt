@@ -9,7 +9,7 @@ use Rattle.shred_world.specs.declared.world.World.{World}
 use Rattle.shred_run.specs.Alone.{KeepsKinds}
 use Rattle.shred_run.specs.Depths.{Related}
 use Rattle.shred_run.specs.Dispatched.{Situation}
-use Rattle.shred_run.specs.Entries.{StageTurn}
+use Rattle.shred_run.specs.Entries.{StageRun}
 use Rattle.shred_run.specs.OwnDepth.{OwnStep}
 use Rattle.shred_run.specs.declared.entry.StageFault.{StageFault}
 use Rattle.shred_run.specs.declared.entry.StageFault.TheVariants.{System, Memory}
@@ -40,6 +40,6 @@ module _ {V S C N A M B : Type 0} {vd : _} {sd : _} {ad : _} {cd : _} {bd : _} w
 
   -- The stage took its turn, each batch as one step of its entry; its plan stays, and the ids that are held with the kinds of their values.
   pub record StageTook {E : Type 0} (kind : V → Kind) (related : Related V S C E) (old : Stage V S C N A M B vd sd ad cd bd) (before : Held V) (answer : Answer (StageFault E)) (new : Stage V S C N A M B vd sd ad cd bd) (after : Held V) : Type 0 where
-    pub ran : Ran (StageTurn kind (OwnStep kind related) (stage_plan old)) (configuration_of (stage_states old) before) answer (configuration_of (stage_states new) after)
+    pub ran : Ran (StageRun kind (OwnStep kind related) (stage_plan old)) (configuration_of (stage_states old) before) answer (configuration_of (stage_states new) after)
     pub plan : stage_plan new ≡ stage_plan old
     pub kinds : KeepsKinds kind before after

@@ -15,15 +15,15 @@ use Rattle.shred_run.specs.AdditionOrder.{EntriesRun, KeepsAddition, entry_alone
 use Rattle.shred_run.specs.Depths.{Related}
 use Rattle.shred_run.specs.Dispatched.{RanAsAdded, Situation, configuration_in, occupants_of}
 use Rattle.shred_run.specs.NestedRecords.{NestedRecord}
-use Rattle.shred_run.specs.NestedRuns.{NestedEntryRun, NestedGroupRun, NestedPlanRun, NestedRun, NestedStageTurn}
+use Rattle.shred_run.specs.NestedRuns.{NestedEntryRun, NestedGroupRun, NestedPlanRun, NestedRun, NestedStageRun}
 use Rattle.shred_run.specs.Occupants.{Occupants, inside_at}
 use Rattle.shred_run.specs.Steps.{Outcome}
 use Rattle.shred_run.specs.declared.entry.StageFault.{StageFault}
-use Rattle.shred_run.specs.declared.entry.StageFault.TheVariants.{Memory}
 use Rattle.shred_run.proofs.Added.Entries.{AllLater, entries-all, entries-keep}
 use Rattle.shred_run.proofs.Added.Runs.{Each-entries, UpToFault-entries, run-alone}
 use Rattle.shred_run.proofs.Added.Sorted.{ran-sorted}
 use Rattle.shred_run.proofs.Paths.Opened.{EntryFits, Fits, GroupFits, PlanFits, StageFits}
+use Rattle.shred_run.proofs.Paths.ToldFaults.{TellsDone}
 use Rattle.shred_run.proofs.Paths.Within.{nested_within}
 
 module _ {V S C E : Type 0} (Own : Occupants → Access ResourceId → List (NestedRecord V S C E) → Outcome E → Type 0) where
@@ -38,19 +38,18 @@ module _ {V S C E : Type 0} (Own : Occupants → Access ResourceId → List (Nes
   group-run : (all : Occupants) (n : ℕ) (group : model.Group ResourceId) (list : List (NestedRecord V S C E)) → NestedGroupRun Own all n group list (Ok tt) → EntriesRun Ended (inside_at all n) (group_entries group) list
   group-run all n group list run = UpToFault-entries Ended entry_alone (NestedEntryRun Own (inside_at all n)) (inside_at all n) (entry-run (inside_at all n)) 0 group list run
 
-  stage-run : (all : Occupants) (stage : model.Stage ResourceId) (list : List (NestedRecord V S C E)) → NestedStageTurn true Own all stage list (Ok tt) → EntriesRun Ended all (stage_entries stage) list
-  stage-run all stage list (inl run) = Each-entries Ended group_entries (NestedGroupRun Own all) all (group-run all) 0 stage list (Ok tt) refl run
-  stage-run all stage list (inr refused) = absurd (let e : Ok tt ≡ Err Memory = refused.2 in cc)
+  stage-run : (all : Occupants) (stage : model.Stage ResourceId) (list : List (NestedRecord V S C E)) → NestedStageRun Own all stage list (Ok tt) → EntriesRun Ended all (stage_entries stage) list
+  stage-run all stage list run = Each-entries Ended group_entries (NestedGroupRun Own all) all (group-run all) 0 stage list (Ok tt) refl run
 
   -- where only what is Done is told as Done
-  plan-run : {F : Type 0} (answers : ℕ → Answer (StageFault E) → Answer F) → ((n : ℕ) (a : Answer (StageFault E)) → Ok tt ≡ answers n a → a ≡ Ok tt) → (all : Occupants) (plan : model.Plan ResourceId) (list : List (NestedRecord V S C E))
-      → NestedPlanRun true Own answers all plan list (Ok tt) → EntriesRun Ended all (plan_entries plan) list
+  plan-run : {F : Type 0} (answers : ℕ → Answer (StageFault E) → Answer F) → TellsDone answers → (all : Occupants) (plan : model.Plan ResourceId) (list : List (NestedRecord V S C E))
+      → NestedPlanRun Own answers all plan list (Ok tt) → EntriesRun Ended all (plan_entries plan) list
   plan-run {F} answers tells all plan list run = UpToFault-entries Ended stage_entries Turn all one 0 plan list run where
     Turn : ℕ → model.Stage ResourceId → List (NestedRecord V S C E) → Answer F → Type 0
-    Turn n stage part told = (a : Answer (StageFault E)) × NestedStageTurn true Own (inside_at all n) stage part a × (told ≡ answers n a)
+    Turn n stage part told = (a : Answer (StageFault E)) × NestedStageRun Own (inside_at all n) stage part a × (told ≡ answers n a)
 
     one : (n : ℕ) (stage : model.Stage ResourceId) (part : List (NestedRecord V S C E)) → Turn n stage part (Ok tt) → EntriesRun Ended (inside_at all n) (stage_entries stage) part
-    one n stage part (a, turn, is) = stage-run (inside_at all n) stage part (subst (λ (x : Answer (StageFault E)). NestedStageTurn true Own (inside_at all n) stage part x) (tells n a is) turn)
+    one n stage part (a, turn, is) = stage-run (inside_at all n) stage part (subst (λ (x : Answer (StageFault E)). NestedStageRun Own (inside_at all n) stage part x) (tells.1 n a is) turn)
 
 -- what stands in a plan's entries fits them, entry by entry
 module _ (Fits : Occupants → Access ResourceId → Type 0) where
@@ -68,12 +67,12 @@ pairs-from_later R [] h = λ i j d lt below. absurd (omega (arith, below))
 pairs-from_later R (x ∷ xs) h = AllPairs-cons R x xs (All-from_recursion (R x) xs h.0) (pairs-from_later R xs h.1)
 
 -- what a run that is Done leaves, the same steps leave by the entries in the order of their ids
-pub ran-as-added : {V S C E F : Type 0} (kind : V → Kind) (related : Related V S C E) (answers : ℕ → Answer (StageFault E) → Answer F) → ((n : ℕ) (a : Answer (StageFault E)) → Ok tt ≡ answers n a → a ≡ Ok tt)
-    → (depth : ℕ) (before after : Situation V S C) (list : List (NestedRecord V S C E)) → PlanFits (Fits depth) (occupants_of before) before.plan → NestedPlanRun true (NestedRun true kind related depth) answers (occupants_of before) before.plan list (Ok tt)
+pub ran-as-added : {V S C E F : Type 0} (kind : V → Kind) (related : Related V S C E) (answers : ℕ → Answer (StageFault E) → Answer F) → TellsDone answers
+    → (depth : ℕ) (before after : Situation V S C) (list : List (NestedRecord V S C E)) → PlanFits (Fits depth) (occupants_of before) before.plan → NestedPlanRun (NestedRun kind related depth) answers (occupants_of before) before.plan list (Ok tt)
     → Replays (configuration_in before) list (configuration_in after) → KeepsAddition before.plan → RanAsAdded kind related list before after
 ran-as-added kind related answers tells depth before after list fits run replays keeps =
-    let sorted = ran-sorted tell_ids (Ended (NestedRun true kind related depth)) (Fits depth) (λ all access own fit one. nested_within kind related depth all access own (Ok tt) fit one) (occupants_of before) (plan_entries before.plan) (entries-keep before.plan keeps)
-    (plan-fits (Fits depth) (occupants_of before) before.plan fits) list (configuration_in before) (configuration_in after) (plan-run (NestedRun true kind related depth) answers tells (occupants_of before) before.plan list run) replays in
+    let sorted = ran-sorted tell_ids (Ended (NestedRun kind related depth)) (Fits depth) (λ all access own fit one. nested_within kind related depth all access own (Ok tt) fit one) (occupants_of before) (plan_entries before.plan) (entries-keep before.plan keeps)
+    (plan-fits (Fits depth) (occupants_of before) before.plan fits) list (configuration_in before) (configuration_in after) (plan-run (NestedRun kind related depth) answers tells (occupants_of before) before.plan list run) replays in
     record {
       order = sorted.order;
       all = sorted.same;

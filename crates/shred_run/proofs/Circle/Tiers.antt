@@ -31,7 +31,7 @@ use Rattle.shred_run.specs.declared.loan.Loan.{Loan}
 use Rattle.shred_run.specs.declared.work.Tier.{Tier}
 use Rattle.shred_model.proofs.Joined.UpToFault.{SoFar, SoFar-end, SoFar-fault, SoFar-more, SoFar-start}
 use Rattle.shred_model.specs.States.{configuration_of, listed_states}
-use Rattle.shred_run.specs.Entries.{StageTurn}
+use Rattle.shred_run.specs.Entries.{StageRun}
 use Rattle.std.specs.Prelude.{is_some}
 use Rattle.shred_table.specs.declared.table.Slot.{Slot}
 use Rattle.shred_table.specs.Parting.{emptied, given, slot_value}
@@ -99,13 +99,13 @@ module _ {V X E : Type 0} (kind : V → Kind) (own : X → List ResourceId → L
   pub record TiersRan (n : ℕ) (tiers : List (Tier V X)) (now : Table V) : Type 0 where
     pub kept : KeepsTiers kind own loan start before tiers now
     pub ids : map tier_numbers tiers ≡ map tier_numbers start
-    pub ran : SoFar (λ place. StageTurn kind step) n (tiers_plan start) (configuration_of (listed_states tier_states start) (shown kind (lent_slot loan.shelf.now) before)) (configuration_of (listed_states tier_states tiers) (shown kind (lent_slot loan.shelf.now) now))
+    pub ran : SoFar (λ place. StageRun kind step) n (tiers_plan start) (configuration_of (listed_states tier_states start) (shown kind (lent_slot loan.shelf.now) before)) (configuration_of (listed_states tier_states tiers) (shown kind (lent_slot loan.shelf.now) now))
 
   pub tiers-start : All (IsTierWithin own loan.reads.now loan.writes.now) start → TiersRan 0 start before
   tiers-start within = record {
     kept = record { plan = refl; within = within; keeps = keeps-all loan kind before };
     ids = refl;
-    ran = SoFar-start (λ place. StageTurn kind step) (tiers_plan start) (configuration_of (listed_states tier_states start) (shown kind (lent_slot loan.shelf.now) before));
+    ran = SoFar-start (λ place. StageRun kind step) (tiers_plan start) (configuration_of (listed_states tier_states start) (shown kind (lent_slot loan.shelf.now) before));
   }
 
 module _ {V X E : Type 0} {kind : V → Kind} {own : X → List ResourceId → List ResourceId → Type 0} {step : Step V X E} {loan : Loan V} {start : List (Tier V X)} {before : Table V}
@@ -119,7 +119,7 @@ module _ {V X E : Type 0} {kind : V → Kind} {own : X → List ResourceId → L
   tiers-end past = record {
     kept = so_far.kept;
     ran = record {
-      ran = SoFar-end (λ place. StageTurn kind step) tier_plan tier_states tiers (shown kind (lent_slot loan.shelf.now) now) so_far.kept.plan so_far.ran past;
+      ran = SoFar-end (λ place. StageRun kind step) tier_plan tier_states tiers (shown kind (lent_slot loan.shelf.now) now) so_far.kept.plan so_far.ran past;
       same_plan = so_far.kept.plan;
       same_ids = so_far.ids;
     };
@@ -133,15 +133,15 @@ module _ {V X E : Type 0} {kind : V → Kind} {own : X → List ResourceId → L
     set-ids : map tier_numbers (set tiers n new) ≡ map tier_numbers start
     set-ids = map-set_same tier_numbers tiers n new d turn.took.ids ∙ so_far.ids
 
-    answered : {a : Answer (StageFault E)} → answer ≡ a → Ran (StageTurn kind step (tier_plan (get_or tiers n d))) (configuration_of (tier_states (get_or tiers n d)) (shown kind (lent_slot loan.shelf.now) now)) a (configuration_of (tier_states new) (shown kind (lent_slot loan.shelf.now) after))
-    answered is = subst (λ (a : Answer (StageFault E)). Ran (StageTurn kind step (tier_plan (get_or tiers n d))) (configuration_of (tier_states (get_or tiers n d)) (shown kind (lent_slot loan.shelf.now) now)) a (configuration_of (tier_states new) (shown kind (lent_slot loan.shelf.now) after))) is turn.took.ran
+    answered : {a : Answer (StageFault E)} → answer ≡ a → Ran (StageRun kind step (tier_plan (get_or tiers n d))) (configuration_of (tier_states (get_or tiers n d)) (shown kind (lent_slot loan.shelf.now) now)) a (configuration_of (tier_states new) (shown kind (lent_slot loan.shelf.now) after))
+    answered is = subst (λ (a : Answer (StageFault E)). Ran (StageRun kind step (tier_plan (get_or tiers n d))) (configuration_of (tier_states (get_or tiers n d)) (shown kind (lent_slot loan.shelf.now) now)) a (configuration_of (tier_states new) (shown kind (lent_slot loan.shelf.now) after))) is turn.took.ran
 
     -- a fault ends the run of all
     pub tiers-fault : (fault : StageFault E) → answer ≡ Err fault → Done (Err fault) (set tiers n new) after
     tiers-fault fault is = record {
       kept = tiers-kept;
       ran = record {
-        ran = SoFar-fault (λ place. StageTurn kind step) tier_plan tier_states tiers (shown kind (lent_slot loan.shelf.now) now) so_far.kept.plan so_far.ran d new (shown kind (lent_slot loan.shelf.now) after) below fault (answered is);
+        ran = SoFar-fault (λ place. StageRun kind step) tier_plan tier_states tiers (shown kind (lent_slot loan.shelf.now) now) so_far.kept.plan so_far.ran d new (shown kind (lent_slot loan.shelf.now) after) below fault (answered is);
         same_plan = tiers-kept.plan;
         same_ids = set-ids;
       };
@@ -152,7 +152,7 @@ module _ {V X E : Type 0} {kind : V → Kind} {own : X → List ResourceId → L
     tiers-next is = record {
       kept = tiers-kept;
       ids = set-ids;
-      ran = SoFar-more (λ place. StageTurn kind step) tier_plan tier_states tiers (shown kind (lent_slot loan.shelf.now) now) so_far.kept.plan so_far.ran d new (shown kind (lent_slot loan.shelf.now) after) below (answered is);
+      ran = SoFar-more (λ place. StageRun kind step) tier_plan tier_states tiers (shown kind (lent_slot loan.shelf.now) now) so_far.kept.plan so_far.ran d new (shown kind (lent_slot loan.shelf.now) after) below (answered is);
     }
 
 -- A table before what is lent shared, out of which values are moved and into which they go back.

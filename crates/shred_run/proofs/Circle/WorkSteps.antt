@@ -28,7 +28,7 @@ use Rattle.shred_table.specs.Slots.{among}
 use Rattle.shred_table.proofs.Tables.Ids.{among-contains}
 use Rattle.shred_world.specs.Worked.{Held}
 use Rattle.shred_run.specs.declared.entry.StageFault.{StageFault}
-use Rattle.shred_run.specs.Entries.{EntryRun, GroupRun, StageTurn}
+use Rattle.shred_run.specs.Entries.{EntryRun, GroupRun, StageRun}
 use Rattle.shred_run.specs.Sides.{group_side, stage_side}
 use Rattle.shred_run.specs.declared.entry.Side.TheVariants.{Reads}
 use Rattle.shred_run.specs.Controls.{Control}
@@ -143,13 +143,9 @@ module _ {V X E : Type 0} (kind : V → Kind) (step : Step V X E) (outer : Acces
   groups-covered [] covered = tt
   groups-covered (group ∷ rest) covered = ((λ n list a run. RunsUpToFault-all (EntryRun kind step) (λ (r : Written V X E). IsCovered outer r.access) 0 group list a (entries-covered group covered.0) run), groups-covered rest covered.1)
 
-  turn-covered : (stage : model.Stage ResourceId) → IsStageCovered outer stage → (list : List (Written V X E)) (a : Answer (StageFault E)) → StageTurn kind step stage list a → AllByRecursion (λ (r : Written V X E). IsCovered outer r.access) list
-  turn-covered stage covered list a (inl run) = RunsEach-all (GroupRun kind step) (λ (r : Written V X E). IsCovered outer r.access) 0 stage list a (groups-covered stage covered) run
-  turn-covered stage covered list a (inr refused) = AllByRecursion-same (λ (r : Written V X E). IsCovered outer r.access) list [] refused.0 tt
-
-  stages-covered : (plan : model.Plan ResourceId) → IsPlanCovered outer plan → EachPasses (λ place. StageTurn kind step) (λ (r : Written V X E). IsCovered outer r.access) plan
+  stages-covered : (plan : model.Plan ResourceId) → IsPlanCovered outer plan → EachPasses (λ place. StageRun kind step) (λ (r : Written V X E). IsCovered outer r.access) plan
   stages-covered [] covered = tt
-  stages-covered (stage ∷ rest) covered = ((λ n list a run. turn-covered stage covered.0 list a run), stages-covered rest covered.1)
+  stages-covered (stage ∷ rest) covered = ((λ n list a run. RunsEach-all (GroupRun kind step) (λ (r : Written V X E). IsCovered outer r.access) 0 stage list a (groups-covered stage covered.0) run), stages-covered rest covered.1)
 
   -- one run of an inner plan
   pub inner-restricted : (tiers : List (Tier V X)) (m : Held V) (a : Answer (StageFault E)) (news : List (Tier V X)) (n : Held V) → IsPlanCovered outer (tiers_plan tiers)
@@ -158,7 +154,7 @@ module _ {V X E : Type 0} (kind : V → Kind) (step : Step V X E) (outer : Acces
     ran = record {
       list = run.ran.list;
       run = run.ran.run;
-      replays = replays-restricted outer run.ran.list _ _ (RunsUpToFault-all (λ place. StageTurn kind step) (λ (r : Written V X E). IsCovered outer r.access) 0 (tiers_plan tiers) run.ran.list a (stages-covered (tiers_plan tiers) covered) run.ran.run) run.ran.replays;
+      replays = replays-restricted outer run.ran.list _ _ (RunsUpToFault-all (λ place. StageRun kind step) (λ (r : Written V X E). IsCovered outer r.access) 0 (tiers_plan tiers) run.ran.list a (stages-covered (tiers_plan tiers) covered) run.ran.run) run.ran.replays;
     };
     same_plan = run.same_plan;
     same_ids = run.same_ids;

@@ -10,7 +10,7 @@ use Rattle.shred_table.specs.declared.id.Kind.{Kind}
 use Rattle.shred_table.specs.declared.id.ResourceId.{ResourceId}
 use Rattle.shred_world.specs.Worked.{Held}
 use Rattle.shred_run.specs.declared.entry.StageFault.{StageFault}
-use Rattle.shred_run.specs.Entries.{EntryRun, GroupRun, StageRun, StageTurn, entry_states, group_states}
+use Rattle.shred_run.specs.Entries.{EntryRun, GroupRun, StageRun, StageRun, entry_states, group_states}
 use Rattle.shred_run.specs.Steps.{Outcome, Step, Written, IsStep}
 use Rattle.shred_run.specs.Controls.{Control}
 use Rattle.shred_run.specs.Depths.{BatchStep, Related, WorkStep, batch_of, Declared, Owns}
@@ -30,6 +30,8 @@ use Rattle.shred_run.specs.NestedRuns.{NestedPlanRun, NestedRun}
 use Rattle.shred_run.specs.Occupants.{inside_each, work_occupants, work_states, Occupants, a_batch, a_system, inside_at, by_path}
 use Rattle.shred_run.specs.Dispatched.{Dispatched}
 use Rattle.shred_run.proofs.Added.InOrder.{ran-as-added}
+use Rattle.shred_run.proofs.Paths.AgentSteps.{agent-steps}
+use Rattle.shred_run.proofs.Paths.ToldFaults.{TellsDone, nested-fault, plan-tells}
 use Rattle.shred_run.proofs.Paths.Opened.{Fits, PlanFitsThroughout, plan_access, OccupantFits, PlanFits, StageFits, EachAt}
 use Rattle.shred_run.proofs.Paths.Within.{nested_within, plan_within, within-framed, within-entries, parallel-independent}
 use Rattle.shred_run.proofs.Paths.Works.{expand, plan-nested, plan-same, by_path-batch, inner_occupants, with_own}
@@ -96,14 +98,10 @@ module _ {V X E : Type 0} (kind : V → Kind) (step wider : Step V X E) (weaker 
   pub StageRun-weaker : (stage : model.Stage ResourceId) (list : List (Written V X E)) (a : Answer (StageFault E)) → StageRun kind step stage list a → StageRun kind wider stage list a
   StageRun-weaker stage list a run = RunsEach-weaker (GroupRun kind step) (GroupRun kind wider) GroupRun-weaker 0 stage list a run
 
-  pub StageTurn-weaker : (stage : model.Stage ResourceId) (list : List (Written V X E)) (a : Answer (StageFault E)) → StageTurn kind step stage list a → StageTurn kind wider stage list a
-  StageTurn-weaker stage list a (inl run) = inl (StageRun-weaker stage list a run)
-  StageTurn-weaker stage list a (inr refused) = inr refused
-
   pub InnerRun-weaker : (tiers : List (Tier V X)) (before : Held V) (a : Answer (StageFault E)) (news : List (Tier V X)) (after : Held V) → InnerRun kind step tiers before a news after → InnerRun kind wider tiers before a news after
   InnerRun-weaker tiers before a news after run = record {
-    ran = Ran-as (RunsUpToFault (λ place. StageTurn kind step) 0 (tiers_plan tiers)) (configuration_of (listed_states tier_states tiers) before) a (configuration_of (listed_states tier_states news) after) (RunsUpToFault (λ place. StageTurn kind wider) 0 (tiers_plan tiers)) a
-        (λ list one. RunsUpToFault-weaker (λ place. StageTurn kind step) (λ place. StageTurn kind wider) (λ place. StageTurn-weaker) 0 (tiers_plan tiers) list a one) run.ran;
+    ran = Ran-as (RunsUpToFault (λ place. StageRun kind step) 0 (tiers_plan tiers)) (configuration_of (listed_states tier_states tiers) before) a (configuration_of (listed_states tier_states news) after) (RunsUpToFault (λ place. StageRun kind wider) 0 (tiers_plan tiers)) a
+        (λ list one. RunsUpToFault-weaker (λ place. StageRun kind step) (λ place. StageRun kind wider) (λ place. StageRun-weaker) 0 (tiers_plan tiers) list a one) run.ran;
     same_plan = run.same_plan;
     same_ids = run.same_ids;
   }
@@ -136,25 +134,27 @@ module _ {V S C E : Type 0} (kind : V → Kind) (related : Related V S C E) wher
 module _ {V S C E : Type 0} (kind : V → Kind) (related : Related V S C E) (depth : ℕ) (a b : Agent → Option (Work S (Nested V S C))) (m n : Held V) {F : Type 0} (answers : ℕ → Answer (StageFault E) → Answer F) where
   -- the turn of one stage of a plan
   abbrev pub TurnAt : ℕ → model.Stage ResourceId → List (Written V (Work S (Nested V S C)) E) → Answer F → Type 0
-  TurnAt place stage list told = (x : Answer (StageFault E)) × StageTurn kind (WorkStep kind related depth) stage list x × (told ≡ answers place x)
+  TurnAt place stage list told = (x : Answer (StageFault E)) × StageRun kind (WorkStep kind related depth) stage list x × (told ≡ answers place x)
 
   -- A plan's run, of what fits its entries, where the groups of each stage do not conflict, leaves what a dispatch promises.
-  pub plan-dispatched : ((place : ℕ) (x : Answer (StageFault E)) → Ok tt ≡ answers place x → x ≡ Ok tt) → (plan new : model.Plan ResourceId) (answer : Answer F) → Ran (RunsUpToFault TurnAt 0 plan) (configuration_of a m) answer (configuration_of b n) → PlanFitsThroughout (inside_each 3 work_occupants a) plan → All (AreApart model.group_access) plan
+  pub plan-dispatched : TellsDone answers → (plan new : model.Plan ResourceId) (answer : Answer F) → Ran (RunsUpToFault TurnAt 0 plan) (configuration_of a m) answer (configuration_of b n) → PlanFitsThroughout (inside_each 3 work_occupants a) plan → All (AreApart model.group_access) plan
       → new ≡ plan → KeepsKinds kind m n → Dispatched kind related answers (record { plan = plan; works = a; values = m }) answer (record { plan = new; works = b; values = n })
   plan-dispatched tells plan new answer ran throughout apart same kinds =
       let fits = throughout depth in
       let all = inside_each 3 work_occupants a in
-      let one = Ran-as_one_thread tell_ids (NestedPlanRun true (NestedRun true kind related depth) answers all plan) (configuration_of (inside_each 3 work_states a) m) answer (configuration_of (inside_each 3 work_states b) n)
-      (λ list x run. within-framed (plan_access plan) list (plan_within (NestedRun true kind related depth) (Fits depth) (nested_within kind related depth) answers all plan list x fits run)) (plan-nested kind related depth a b m n TurnAt answers (λ k stage list told turn. turn) plan answer ran (expand kind related depth) fits) in
+      let one = Ran-as_one_thread tell_ids (NestedPlanRun (NestedRun kind related depth) answers all plan) (configuration_of (inside_each 3 work_states a) m) answer (configuration_of (inside_each 3 work_states b) n)
+      (λ list x run. within-framed (plan_access plan) list (plan_within (NestedRun kind related depth) (Fits depth) (nested_within kind related depth) answers all plan list x fits run)) (plan-nested kind related depth a b m n TurnAt answers (λ k stage list told turn. turn) plan answer ran (expand kind related depth) fits) in
       record {
         list = one.list;
         run = (depth, one.run);
+        steps = agent-steps kind related depth answers all plan one.list answer one.run;
+        told = plan-tells (NestedRun kind related depth) (nested-fault kind related depth) answers tells all plan one.list answer one.run;
         replays = one.replays;
         any_order = one.any_order;
         parallel = parallel-independent kind related answers plan all one.list answer apart throughout (depth, one.run);
         within = within-entries kind related answers plan all one.list answer throughout (depth, one.run);
         as_added = λ keeps done. ran-as-added kind related answers tells depth (record { plan = plan; works = a; values = m }) (record { plan = new; works = b; values = n }) one.list fits
-            (subst (λ (told : Answer F). NestedPlanRun true (NestedRun true kind related depth) answers all plan one.list told) done one.run) one.replays keeps;
+            (subst (λ (told : Answer F). NestedPlanRun (NestedRun kind related depth) answers all plan one.list told) done one.run) one.replays keeps;
         plan = same;
         occupants = λ path i. plan-same kind related depth a b m n TurnAt answers (λ k stage list told turn. turn) plan answer ran i path;
         kinds = kinds;
@@ -301,7 +301,7 @@ module _ {X I V S O F : Type 0} (Run : ℕ → X → List (Record Agent I V S O)
 
 -- the turn of the stage at a place, whose answer is told as `answers` says
 abbrev pub ToldTurn : {V X E F : Type 0} → (V → Kind) → Step V X E → (ℕ → Answer (StageFault E) → Answer F) → ℕ → model.Stage ResourceId → List (Written V X E) → Answer F → Type 0
-ToldTurn {E = E} kind step answers place stage list told = (x : Answer (StageFault E)) × StageTurn kind step stage list x × (told ≡ answers place x)
+ToldTurn {E = E} kind step answers place stage list told = (x : Answer (StageFault E)) × StageRun kind step stage list x × (told ≡ answers place x)
 
 module _ {V S C E : Type 0} (kind : V → Kind) (related : Related V S C E) where
   deeper : (d e : ℕ) → d ≤ e → (old : Work S (Nested V S C)) (m : Held V) (o : _) (new : Work S (Nested V S C)) (n : Held V) → WorkStep kind related d old m o new n → WorkStep kind related e old m o new n
@@ -313,22 +313,18 @@ module _ {V S C E : Type 0} (kind : V → Kind) (related : Related V S C E) wher
   group-some : (n : ℕ) (group : model.Group ResourceId) (list : List (Written V (Work S (Nested V S C)) E)) (a : Answer (StageFault E)) → GroupRun kind (OwnStep kind related) n group list a → (d : ℕ) × GroupRun kind (WorkStep kind related d) n group list a
   group-some n group list a run = UpToFault-some (EntryRun kind (OwnStep kind related)) (λ d. EntryRun kind (WorkStep kind related d)) (λ d e le. EntryRun-weaker kind (WorkStep kind related d) (WorkStep kind related e) (deeper d e le)) entry-some 0 group list a run
 
-  stage-some : (stage : model.Stage ResourceId) (list : List (Written V (Work S (Nested V S C)) E)) (a : Answer (StageFault E)) → StageRun kind (OwnStep kind related) stage list a → (d : ℕ) × StageRun kind (WorkStep kind related d) stage list a
+  pub stage-some : (stage : model.Stage ResourceId) (list : List (Written V (Work S (Nested V S C)) E)) (a : Answer (StageFault E)) → StageRun kind (OwnStep kind related) stage list a → (d : ℕ) × StageRun kind (WorkStep kind related d) stage list a
   stage-some stage list a run = Each-some (GroupRun kind (OwnStep kind related)) (λ d. GroupRun kind (WorkStep kind related d)) (λ d e le. GroupRun-weaker kind (WorkStep kind related d) (WorkStep kind related e) (deeper d e le)) group-some 0 stage list a run
-
-  pub turn-some : (stage : model.Stage ResourceId) (list : List (Written V (Work S (Nested V S C)) E)) (a : Answer (StageFault E)) → StageTurn kind (OwnStep kind related) stage list a → (d : ℕ) × StageTurn kind (WorkStep kind related d) stage list a
-  turn-some stage list a (inl run) = let at = stage-some stage list a run in (at.0, inl at.1)
-  turn-some stage list a (inr refused) = (0, inr refused)
 
   module _ {F : Type 0} (answers : ℕ → Answer (StageFault E) → Answer F) where
     told-some : (n : ℕ) (stage : model.Stage ResourceId) (list : List (Written V (Work S (Nested V S C)) E)) (told : Answer F) → ToldTurn kind (OwnStep kind related) answers n stage list told → (d : ℕ) × ToldTurn kind (WorkStep kind related d) answers n stage list told
-    told-some n stage list told (x, turn, is) = let at = turn-some stage list x turn in (at.0, (x, at.1, is))
+    told-some n stage list told (x, turn, is) = let at = stage-some stage list x turn in (at.0, (x, at.1, is))
 
     told-deeper : (d e : ℕ) → d ≤ e → (n : ℕ) (stage : model.Stage ResourceId) (list : List (Written V (Work S (Nested V S C)) E)) (told : Answer F) → ToldTurn kind (WorkStep kind related d) answers n stage list told → ToldTurn kind (WorkStep kind related e) answers n stage list told
-    told-deeper d e le n stage list told (x, turn, is) = (x, StageTurn-weaker kind (WorkStep kind related d) (WorkStep kind related e) (deeper d e le) stage list x turn, is)
+    told-deeper d e le n stage list told (x, turn, is) = (x, StageRun-weaker kind (WorkStep kind related d) (WorkStep kind related e) (deeper d e le) stage list x turn, is)
 
     -- A plan's run, whose batches are as deep as is noted of them, leaves what a dispatch promises.
-    pub own-plan-dispatched : ((place : ℕ) (x : Answer (StageFault E)) → Ok tt ≡ answers place x → x ≡ Ok tt) → (a b : Agent → Option (Work S (Nested V S C))) (m n : Held V) (plan new : model.Plan ResourceId) (answer : Answer F) → Ran (RunsUpToFault (ToldTurn kind (OwnStep kind related) answers) 0 plan) (configuration_of a m) answer (configuration_of b n)
+    pub own-plan-dispatched : TellsDone answers → (a b : Agent → Option (Work S (Nested V S C))) (m n : Held V) (plan new : model.Plan ResourceId) (answer : Answer F) → Ran (RunsUpToFault (ToldTurn kind (OwnStep kind related) answers) 0 plan) (configuration_of a m) answer (configuration_of b n)
         → PlanFitsThroughout (inside_each 3 work_occupants a) plan → All (AreApart model.group_access) plan → new ≡ plan → KeepsKinds kind m n → Dispatched kind related answers (record { plan = plan; works = a; values = m }) answer (record { plan = new; works = b; values = n })
     own-plan-dispatched tells a b m n plan new answer ran fits apart same kinds =
         let at = UpToFault-some (ToldTurn kind (OwnStep kind related) answers) (λ d. ToldTurn kind (WorkStep kind related d) answers) told-deeper told-some 0 plan ran.list answer ran.run in

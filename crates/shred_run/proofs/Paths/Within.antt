@@ -15,7 +15,7 @@ use Rattle.shred_run.specs.Steps.{Outcome}
 use Rattle.shred_run.specs.Controls.{Control}
 use Rattle.shred_run.specs.Depths.{Related}
 use Rattle.shred_run.specs.NestedRecords.{NestedRecord, IsNestedStep, Reply, bound, done, again}
-use Rattle.shred_run.specs.NestedRuns.{NestedBatchRun, NestedEntryRun, NestedGroupRun, NestedPlanRun, NestedRounds, NestedRun, NestedStageTurn, OccupantRun}
+use Rattle.shred_run.specs.NestedRuns.{NestedBatchRun, NestedEntryRun, NestedGroupRun, NestedPlanRun, NestedRounds, NestedRun, NestedStageRun, OccupantRun}
 use Rattle.shred_run.specs.Occupants.{AgentState, Occupant, Occupants, a_batch, a_system, inside_at, of_controller, of_system}
 use Rattle.shred_run.specs.WithinEntries.{IsNoMore, IsWithinEntries}
 use Rattle.shred_run.proofs.Paths.Opened.{EntryFits, Fits, GroupFits, OccupantFits, PlanFits, StageFits, plan_access, PlanFitsThroughout, With, Each-with, UpToFault-with, EachAt, RunsEach-each, RunsUpToFault-each}
@@ -53,32 +53,32 @@ module _ {V S C E : Type 0} where
     group_within all n group list a (fits, run) = RunsUpToFault-within (λ (e : model.PlanEntry ResourceId). e.access) (With (EntryFits Fits (inside_at all n)) (NestedEntryRun Own (inside_at all n))) (entry_within (inside_at all n)) 0 group list a
         (UpToFault-with (EntryFits Fits (inside_at all n)) (NestedEntryRun Own (inside_at all n)) 0 group list a fits run)
 
-    -- of a stage's turn
-    pub turn_within : (all : Occupants) (stage : model.Stage ResourceId) (list : List (NestedRecord V S C E)) (a : Answer (StageFault E)) → StageFits Fits all stage → NestedStageTurn true Own all stage list a → AllByRecursion (IsWithin (joined_access model.group_access stage)) list
-    turn_within all stage list a fits (inl run) = RunsEach-within model.group_access (With (GroupFits Fits all) (NestedGroupRun Own all)) (group_within all) 0 stage list a (Each-with (GroupFits Fits all) (NestedGroupRun Own all) 0 stage list a fits run)
-    turn_within all stage list a fits (inr refused) = AllByRecursion-same (IsWithin (joined_access model.group_access stage)) list [] refused.1 tt
+    -- of a stage's run
+    pub stage_within : (all : Occupants) (stage : model.Stage ResourceId) (list : List (NestedRecord V S C E)) (a : Answer (StageFault E)) → StageFits Fits all stage → NestedStageRun Own all stage list a → AllByRecursion (IsWithin (joined_access model.group_access stage)) list
+    stage_within all stage list a fits run = RunsEach-within model.group_access (With (GroupFits Fits all) (NestedGroupRun Own all)) (group_within all) 0 stage list a (Each-with (GroupFits Fits all) (NestedGroupRun Own all) 0 stage list a fits run)
 
     -- of a plan's run
-    pub plan_within : {F : Type 0} (answers : ℕ → Answer (StageFault E) → Answer F) (all : Occupants) (plan : model.Plan ResourceId) (list : List (NestedRecord V S C E)) (answer : Answer F) → PlanFits Fits all plan → NestedPlanRun true Own answers all plan list answer → AllByRecursion (IsWithin (plan_access plan)) list
+    pub plan_within : {F : Type 0} (answers : ℕ → Answer (StageFault E) → Answer F) (all : Occupants) (plan : model.Plan ResourceId) (list : List (NestedRecord V S C E)) (answer : Answer F) → PlanFits Fits all plan → NestedPlanRun Own answers all plan list answer → AllByRecursion (IsWithin (plan_access plan)) list
     plan_within {F} answers all plan list answer fits run = RunsUpToFault-within (joined_access model.group_access) (With (λ n stage. StageFits Fits (inside_at all n) stage) Turn)
-        (λ n stage part told turn. turn_within (inside_at all n) stage part turn.1.0 turn.0 turn.1.1) 0 plan list answer (UpToFault-with (λ n stage. StageFits Fits (inside_at all n) stage) Turn 0 plan list answer fits run) where
+        (λ n stage part told turn. stage_within (inside_at all n) stage part turn.1.0 turn.0 turn.1.1) 0 plan list answer (UpToFault-with (λ n stage. StageFits Fits (inside_at all n) stage) Turn 0 plan list answer fits run) where
           Turn : ℕ → model.Stage ResourceId → List (NestedRecord V S C E) → Answer F → Type 0
-          Turn n stage part told = (a : Answer (StageFault E)) × NestedStageTurn true Own (inside_at all n) stage part a × (told ≡ answers n a)
+          Turn n stage part told = (a : Answer (StageFault E)) × NestedStageRun Own (inside_at all n) stage part a × (told ≡ answers n a)
 
   -- What each record of a call of the controller has, and each record of an inner run, all records of a batch's run have.
-  module _ (kind : V → Kind) (asks : Control V C Bool E) (access : Access ResourceId) (Inner : List (NestedRecord V S C E) → Answer (StageFault E) → Type 0) (P : NestedRecord V S C E → Type 0)
-      (call : (A : Type 0) (control : Control V C A E) (reply : A → Reply) (answer : Result A (Fault E)) (r : NestedRecord V S C E) → IsNestedStep kind control of_controller reply access answer r → P r)
+  module _ (kind : V → Kind) (begins : Control V C ℕ E) (asks : Control V C Bool E) (access : Access ResourceId) (Inner : List (NestedRecord V S C E) → Answer (StageFault E) → Type 0) (P : NestedRecord V S C E → Type 0)
+      (began : (answer : Result ℕ (Fault E)) (r : NestedRecord V S C E) → IsNestedStep kind begins of_controller bound access answer r → P r)
+      (asked : (answer : Result Bool (Fault E)) (r : NestedRecord V S C E) → IsNestedStep kind asks of_controller again access answer r → P r)
       (within : (list : List (NestedRecord V S C E)) (a : Answer (StageFault E)) → Inner list a → AllByRecursion P list) where
     rounds-all : (left : ℕ) (list : List (NestedRecord V S C E)) (o : Outcome E) → NestedRounds kind asks access Inner left list o → AllByRecursion P list
     rounds-all zero list o (is, end) = AllByRecursion-same P list [] is tt
-    rounds-all (suc more) list o (r, Ok true, one, (round, Ok tt, run, (others, is, rest))) = AllByRecursion-same P list (r ∷ (round ++ others)) is (call Bool asks again (Ok true) r one, AllByRecursion-append P round others (within round (Ok tt) run) (rounds-all more others o rest))
-    rounds-all (suc more) list o (r, Ok true, one, (round, Err fault, run, (is, end))) = AllByRecursion-same P list (r ∷ round) is (call Bool asks again (Ok true) r one, within round (Err fault) run)
-    rounds-all (suc more) list o (r, Ok false, one, (is, end)) = AllByRecursion-same P list (r ∷ []) is (call Bool asks again (Ok false) r one, tt)
-    rounds-all (suc more) list o (r, Err fault, one, (is, end)) = AllByRecursion-same P list (r ∷ []) is (call Bool asks again (Err fault) r one, tt)
+    rounds-all (suc more) list o (r, Ok true, one, (round, Ok tt, run, (others, is, rest))) = AllByRecursion-same P list (r ∷ (round ++ others)) is (asked (Ok true) r one, AllByRecursion-append P round others (within round (Ok tt) run) (rounds-all more others o rest))
+    rounds-all (suc more) list o (r, Ok true, one, (round, Err fault, run, (is, end))) = AllByRecursion-same P list (r ∷ round) is (asked (Ok true) r one, within round (Err fault) run)
+    rounds-all (suc more) list o (r, Ok false, one, (is, end)) = AllByRecursion-same P list (r ∷ []) is (asked (Ok false) r one, tt)
+    rounds-all (suc more) list o (r, Err fault, one, (is, end)) = AllByRecursion-same P list (r ∷ []) is (asked (Err fault) r one, tt)
 
-    pub batch-all : (begins : Control V C ℕ E) (list : List (NestedRecord V S C E)) (o : Outcome E) → NestedBatchRun kind asks access Inner begins list o → AllByRecursion P list
-    batch-all begins list o (r, Ok most, one, (others, is, rest)) = AllByRecursion-same P list (r ∷ others) is (call ℕ begins bound (Ok most) r one, rounds-all most others o rest)
-    batch-all begins list o (r, Err fault, one, (is, end)) = AllByRecursion-same P list (r ∷ []) is (call ℕ begins bound (Err fault) r one, tt)
+    pub batch-all : (list : List (NestedRecord V S C E)) (o : Outcome E) → NestedBatchRun kind asks access Inner begins list o → AllByRecursion P list
+    batch-all list o (r, Ok most, one, (others, is, rest)) = AllByRecursion-same P list (r ∷ others) is (began (Ok most) r one, rounds-all most others o rest)
+    batch-all list o (r, Err fault, one, (is, end)) = AllByRecursion-same P list (r ∷ []) is (began (Err fault) r one, tt)
 
 module _ {V S C E : Type 0} (kind : V → Kind) (related : Related V S C E) where
   occupant_within : (InnerFits : model.Plan ResourceId → Type 0) (Batches : Access ResourceId → model.Plan ResourceId → List (NestedRecord V S C E) → Outcome E → Type 0) (access : Access ResourceId)
@@ -90,15 +90,15 @@ module _ {V S C E : Type 0} (kind : V → Kind) (related : Related V S C E) wher
   occupant_within InnerFits Batches access batch None list o fits run = absurd run
 
   -- the records of a run of what fits an access keep within it
-  pub nested_within : (depth : ℕ) (occupants : Occupants) (access : Access ResourceId) (list : List (NestedRecord V S C E)) (o : Outcome E) → Fits depth occupants access → NestedRun true kind related depth occupants access list o → AllByRecursion (IsWithin access) list
+  pub nested_within : (depth : ℕ) (occupants : Occupants) (access : Access ResourceId) (list : List (NestedRecord V S C E)) (o : Outcome E) → Fits depth occupants access → NestedRun kind related depth occupants access list o → AllByRecursion (IsWithin access) list
   unfolding NestedRun Fits
   nested_within zero occupants access list o fits run = occupant_within (λ plan. Unit {0}) (λ control plan part x. ⊥) access (λ control plan part x fit none. absurd none) (occupants []) list o fits run
   nested_within (suc less) occupants access list o fits run = occupant_within (PlanFits (Fits less) occupants) (λ control plan. NestedBatchRun kind related.asks control (Inner plan) related.begins) access
-      (λ control plan part x fit ran. batch-all kind related.asks control (Inner plan) (IsWithin access) (λ A relation reply answer r one. step-within kind relation of_controller reply access control answer r fit.0 one)
-      (λ round a inner. wider (plan_access plan) access fit.1 round (plan_within (NestedRun true kind related less) (Fits less) (nested_within less) (λ place answer. answer) occupants plan round a fit.3 inner)) related.begins part x ran)
+      (λ control plan part x fit ran. batch-all kind related.begins related.asks control (Inner plan) (IsWithin access) (λ answer r one. step-within kind related.begins of_controller bound access control answer r fit.0 one) (λ answer r one. step-within kind related.asks of_controller again access control answer r fit.0 one)
+      (λ round a inner. wider (plan_access plan) access fit.1 round (plan_within (NestedRun kind related less) (Fits less) (nested_within less) (λ place answer. answer) occupants plan round a fit.3 inner)) part x ran)
       (occupants []) list o fits run where
         Inner : model.Plan ResourceId → List (NestedRecord V S C E) → Answer (StageFault E) → Type 0
-        Inner = NestedPlanRun true (NestedRun true kind related less) (λ place answer. answer) occupants
+        Inner = NestedPlanRun (NestedRun kind related less) (λ place answer. answer) occupants
 
 -- records within an access change only written values
 pub within-framed : {I V S O : Type 0} (access : Access I) (list : List (Record Agent I V S O)) → AllByRecursion (IsWithin access) list → AllFramed list
@@ -199,8 +199,8 @@ module _ {V S C E : Type 0} (Own : Occupants → Access ResourceId → List (Nes
         Of : ℕ → model.PlanEntry ResourceId → Type 0
         Of m entry = EntryFits Fits (inside_at all n) m entry × IsAt nobody group m entry
 
-  turn-inside : (all : Occupants) (stage : model.Stage ResourceId) (list : List (NestedRecord V S C E)) (a : Answer (StageFault E)) → StageFits Fits all stage → NestedStageTurn true Own all stage list a → AllByRecursion (λ r. InStage Inside all stage r.agent r.access) list
-  turn-inside all stage list a fits (inl run) =
+  stage-inside : (all : Occupants) (stage : model.Stage ResourceId) (list : List (NestedRecord V S C E)) (a : Answer (StageFault E)) → StageFits Fits all stage → NestedStageRun Own all stage list a → AllByRecursion (λ r. InStage Inside all stage r.agent r.access) list
+  stage-inside all stage list a fits run =
       RunsEach-each (With (λ g group. GroupFits Fits all g group × IsAt [] stage g group) (NestedGroupRun Own all)) (λ r. InStage Inside all stage r.agent r.access)
       (λ g group part b turn.
       let both = AllByRecursion-both _ _ part (group_within Own Fits own-within all g group part b (turn.0.0, turn.1)) (group-inside all g group part b (turn.0.0, turn.1)) in
@@ -210,21 +210,20 @@ module _ {V S C E : Type 0} (Own : Occupants → Access ResourceId → List (Nes
       subst (λ (x : model.Group ResourceId). IsNoMore (model.group_access x) r.access × InGroup Inside (inside_at all g) x r.agent r.access) (sym turn.0.1.1) (record { declared = h.0.declared; written = h.0.written }, h.1) in
       (turn.0.1.0, at.0, at.1)) part both)
       0 stage list a (Each-with (λ g group. GroupFits Fits all g group × IsAt [] stage g group) (NestedGroupRun Own all) 0 stage list a (EachAt-both (GroupFits Fits all) (IsAt [] stage) 0 stage fits (each-at [] stage)) run)
-  turn-inside all stage list a fits (inr refused) = AllByRecursion-same (λ r. InStage Inside all stage r.agent r.access) list [] refused.1 tt
 
-  plan-inside : {F : Type 0} (answers : ℕ → Answer (StageFault E) → Answer F) (all : Occupants) (plan : model.Plan ResourceId) (list : List (NestedRecord V S C E)) (answer : Answer F) → PlanFits Fits all plan → NestedPlanRun true Own answers all plan list answer
+  plan-inside : {F : Type 0} (answers : ℕ → Answer (StageFault E) → Answer F) (all : Occupants) (plan : model.Plan ResourceId) (list : List (NestedRecord V S C E)) (answer : Answer F) → PlanFits Fits all plan → NestedPlanRun Own answers all plan list answer
       → AllByRecursion (λ r. InPlan Inside all plan r.agent r.access) list
   plan-inside {F} answers all plan list answer fits run =
       RunsUpToFault-each (With Of Turn) (λ r. InPlan Inside all plan r.agent r.access)
       (λ s stage part told turn. AllByRecursion-weaker (λ r. InStage Inside (inside_at all s) stage r.agent r.access) (λ r. InPlan Inside all plan (s ∷ r.agent) r.access)
       (λ r h. (turn.0.1.0, subst (λ (x : model.Stage ResourceId). InStage Inside (inside_at all s) x r.agent r.access) (sym turn.0.1.1) h)) part
-      (turn-inside (inside_at all s) stage part turn.1.0 turn.0.0 turn.1.1))
+      (stage-inside (inside_at all s) stage part turn.1.0 turn.0.0 turn.1.1))
       0 plan list answer (UpToFault-with Of Turn 0 plan list answer (EachAt-both (λ s stage. StageFits Fits (inside_at all s) stage) (IsAt [] plan) 0 plan fits (each-at [] plan)) run) where
         Of : ℕ → model.Stage ResourceId → Type 0
         Of s stage = StageFits Fits (inside_at all s) stage × IsAt [] plan s stage
 
         Turn : ℕ → model.Stage ResourceId → List (NestedRecord V S C E) → Answer F → Type 0
-        Turn s stage part told = (a : Answer (StageFault E)) × NestedStageTurn true Own (inside_at all s) stage part a × (told ≡ answers s a)
+        Turn s stage part told = (a : Answer (StageFault E)) × NestedStageRun Own (inside_at all s) stage part a × (told ≡ answers s a)
 
 module _ {V S C E : Type 0} (kind : V → Kind) (related : Related V S C E) where
   occupant-inside : (Inner : model.Plan ResourceId → Agent → Access ResourceId → Type 0) (InnerFits : model.Plan ResourceId → Type 0) (Batches : Access ResourceId → model.Plan ResourceId → List (NestedRecord V S C E) → Outcome E → Type 0) (access : Access ResourceId)
@@ -239,28 +238,31 @@ module _ {V S C E : Type 0} (kind : V → Kind) (related : Related V S C E) wher
       → ((list : List (NestedRecord V S C E)) (a : Answer (StageFault E)) → Inner list a → AllByRecursion (λ r. In plan r.agent r.access) list)
       → (list : List (NestedRecord V S C E)) (o : Outcome E) → NestedBatchRun kind related.asks control Inner related.begins list o → AllByRecursion (λ r. InOccupant In (Some (a_batch control plan)) r.agent r.access) list
   batch-inside Inner control plan In apart inner list o run =
-      batch-all kind related.asks control Inner (λ r. InOccupant In (Some (a_batch control plan)) r.agent r.access)
-      (λ A relation reply answer r one. subst (λ (path : Agent). InOccupant In (Some (a_batch control plan)) path r.access) (sym one.agent) tt)
+      batch-all kind related.begins related.asks control Inner (λ r. InOccupant In (Some (a_batch control plan)) r.agent r.access)
+      (λ answer r one. itself r one.agent) (λ answer r one. itself r one.agent)
       (λ part a round. AllByRecursion-weaker (λ r. In plan r.agent r.access) (λ r. InOccupant In (Some (a_batch control plan)) r.agent r.access) (λ r h. deeper r.agent r.access h) part (inner part a round))
-      related.begins list o run where
+      list o run where
+        itself : (r : NestedRecord V S C E) → r.agent ≡ [] → InOccupant In (Some (a_batch control plan)) r.agent r.access
+        itself r at = subst (λ (path : Agent). InOccupant In (Some (a_batch control plan)) path r.access) (sym at) tt
+
         deeper : (path : Agent) (x : Access ResourceId) → In plan path x → InOccupant In (Some (a_batch control plan)) path x
         deeper [] x h = tt
         deeper (k ∷ path) x h = (apart, h)
 
-  pub nested-inside : (depth : ℕ) (all : Occupants) (access : Access ResourceId) (list : List (NestedRecord V S C E)) (o : Outcome E) → Fits depth all access → NestedRun true kind related depth all access list o → AllByRecursion (λ r. Inside depth all r.agent r.access) list
+  pub nested-inside : (depth : ℕ) (all : Occupants) (access : Access ResourceId) (list : List (NestedRecord V S C E)) (o : Outcome E) → Fits depth all access → NestedRun kind related depth all access list o → AllByRecursion (λ r. Inside depth all r.agent r.access) list
   unfolding NestedRun Fits Inside
   nested-inside zero all access list o fits run = occupant-inside (λ plan inner x. ⊥) (λ plan. Unit {0}) (λ control plan part x. ⊥) access (λ control plan part x fit none. absurd none) (all []) list o fits run
   nested-inside (suc less) all access list o fits run = occupant-inside (InPlan (Inside less) all) (PlanFits (Fits less) all) (λ control plan. NestedBatchRun kind related.asks control (Inner plan) related.begins) access
       (λ control plan part x fit ran. batch-inside (Inner plan) control plan (InPlan (Inside less) all) fit.2
-      (λ round a inner. plan-inside (NestedRun true kind related less) (Fits less) (nested_within kind related less) (Inside less) (nested-inside less) (λ place answer. answer) all plan round a fit.3 inner) part x ran)
+      (λ round a inner. plan-inside (NestedRun kind related less) (Fits less) (nested_within kind related less) (Inside less) (nested-inside less) (λ place answer. answer) all plan round a fit.3 inner) part x ran)
       (all []) list o fits run where
         Inner : model.Plan ResourceId → List (NestedRecord V S C E) → Answer (StageFault E) → Type 0
-        Inner = NestedPlanRun true (NestedRun true kind related less) (λ place answer. answer) all
+        Inner = NestedPlanRun (NestedRun kind related less) (λ place answer. answer) all
 
   -- a plan's run is inside it, of what fits its entries
-  pub run-inside : (depth : ℕ) {F : Type 0} (answers : ℕ → Answer (StageFault E) → Answer F) (all : Occupants) (plan : model.Plan ResourceId) (list : List (NestedRecord V S C E)) (answer : Answer F) → PlanFits (Fits depth) all plan → NestedPlanRun true (NestedRun true kind related depth) answers all plan list answer
+  pub run-inside : (depth : ℕ) {F : Type 0} (answers : ℕ → Answer (StageFault E) → Answer F) (all : Occupants) (plan : model.Plan ResourceId) (list : List (NestedRecord V S C E)) (answer : Answer F) → PlanFits (Fits depth) all plan → NestedPlanRun (NestedRun kind related depth) answers all plan list answer
       → AllByRecursion (λ r. InPlan (Inside depth) all plan r.agent r.access) list
-  run-inside depth answers all plan list answer fits run = plan-inside (NestedRun true kind related depth) (Fits depth) (nested_within kind related depth) (Inside depth) (nested-inside depth) answers all plan list answer fits run
+  run-inside depth answers all plan list answer fits run = plan-inside (NestedRun kind related depth) (Fits depth) (nested_within kind related depth) (Inside depth) (nested-inside depth) answers all plan list answer fits run
 
   -- Each record of a plan's run, of what fits its entries, declares no id, and writes none, that an entry that its agent is inside of does not.
   pub within-entries : {F : Type 0} (answers : ℕ → Answer (StageFault E) → Answer F) (plan : model.Plan ResourceId) (occupants : Occupants) (list : List (NestedRecord V S C E)) (answer : Answer F) → PlanFitsThroughout occupants plan → IsPlanRun kind related answers plan occupants list answer

@@ -21,10 +21,10 @@ use Rattle.shred_model.proofs.Records.Within.{IsWithin}
 use Rattle.shred_table.specs.declared.id.Kind.{Kind}
 use Rattle.shred_table.specs.declared.id.ResourceId.{ResourceId}
 use Rattle.shred_run.specs.declared.entry.StageFault.{StageFault}
-use Rattle.shred_run.specs.Entries.{EntryRun, GroupRun, StageTurn}
+use Rattle.shred_run.specs.Entries.{EntryRun, GroupRun, StageRun}
 use Rattle.shred_run.specs.Steps.{Outcome, Step, Written, IsStep, declared_of}
 use Rattle.shred_run.specs.NestedRecords.{NestedRecord, IsNestedStep, Reply, replied, bound, again, done}
-use Rattle.shred_run.specs.NestedRuns.{NestedEntryRun, NestedGroupRun, NestedStageTurn, NestedPlanRun, NestedRounds, NestedBatchRun, NestedRun, OccupantRun}
+use Rattle.shred_run.specs.NestedRuns.{NestedEntryRun, NestedGroupRun, NestedStageRun, NestedPlanRun, NestedRounds, NestedBatchRun, NestedRun, OccupantRun}
 use Rattle.shred_run.specs.AdditionOrder.{under_place}
 use Rattle.shred_run.proofs.Paths.Opened.{EntryFits, GroupFits, PlanFits, StageFits, AreOpened, AreOpened-none, With, Each-with, UpToFault-with, Opening, Stays, StandsAt, RunsUpToFault-each, RunsEach-each, UpToFault-opened, Each-opened, stands, Fits, replays-opened}
 use Rattle.shred_world.specs.Worked.{Held}
@@ -79,16 +79,15 @@ module _ {V X E : Type 0} (kind : V → Kind) (step : Step V X E) (occupants : X
   group_stays : (n : ℕ) (group : model.Group ResourceId) (list : List (Written V X E)) (a : Answer (StageFault E)) → GroupRun kind step n group list a → AllByRecursion (λ r. Stays occupants 2 (under n r)) list
   group_stays n group list a run = deeper 1 n list (RunsUpToFault-each (EntryRun kind step) (Stays occupants 1) entry_stays 0 group list a run)
 
-  -- each record of a stage's turn is of an agent two places deep, and keeps what stands there
-  pub turn_stays : (stage : model.Stage ResourceId) (list : List (Written V X E)) (a : Answer (StageFault E)) → StageTurn kind step stage list a → AllByRecursion (Stays occupants 2) list
-  turn_stays stage list a (inl run) = RunsEach-each (GroupRun kind step) (Stays occupants 2) group_stays 0 stage list a run
-  turn_stays stage list a (inr refused) = AllByRecursion-same (Stays occupants 2) list [] refused.0 tt
+  -- each record of a stage's run is of an agent two places deep, and keeps what stands there
+  pub stage_stays : (stage : model.Stage ResourceId) (list : List (Written V X E)) (a : Answer (StageFault E)) → StageRun kind step stage list a → AllByRecursion (Stays occupants 2) list
+  stage_stays stage list a run = RunsEach-each (GroupRun kind step) (Stays occupants 2) group_stays 0 stage list a run
 
   module _ {F : Type 0} (Run : ℕ → model.Stage ResourceId → List (Written V X E) → Answer F → Type 0) (answers : ℕ → Answer (StageFault E) → Answer F)
-      (reads : (n : ℕ) (stage : model.Stage ResourceId) (list : List (Written V X E)) (answer : Answer F) → Run n stage list answer → (a : Answer (StageFault E)) × StageTurn kind step stage list a × (answer ≡ answers n a)) where
+      (reads : (n : ℕ) (stage : model.Stage ResourceId) (list : List (Written V X E)) (answer : Answer F) → Run n stage list answer → (a : Answer (StageFault E)) × StageRun kind step stage list a × (answer ≡ answers n a)) where
     -- each record of a plan's run is of an agent three places deep, and keeps what stands there
     pub plan_stays : (plan : model.Plan ResourceId) (list : List (Written V X E)) (answer : Answer F) → RunsUpToFault Run 0 plan list answer → AllByRecursion (Stays occupants 3) list
-    plan_stays plan list answer run = RunsUpToFault-each Run (Stays occupants 3) (λ n stage part told turn. let read = reads n stage part told turn in deeper 2 n part (turn_stays stage part read.0 read.1)) 0 plan list answer run
+    plan_stays plan list answer run = RunsUpToFault-each Run (Stays occupants 3) (λ n stage part told turn. let read = reads n stage part told turn in deeper 2 n part (stage_stays stage part read.0 read.1)) 0 plan list answer run
 
 module _ {V X E S C : Type 0} (states : X → Agent → Option (AgentState S C)) (Own : Occupants → Access ResourceId → List (NestedRecord V S C E) → Outcome E → Type 0) where
   -- a list of records is a run of what stands in the entry, and leads from and to the states inside that, and the values that the record saw and left
@@ -116,23 +115,21 @@ module _ {V X E S C : Type 0} (states : X → Agent → Option (AgentState S C))
     group_opened all n group list a stand (fits, run) = UpToFault-opened states (With (EntryFits Fits (inside_at all n)) (EntryRun kind step)) (NestedEntryRun Own (inside_at all n)) occupants (inside_at all n) (entry_opened (inside_at all n)) 0 group list a stand
         (UpToFault-with (EntryFits Fits (inside_at all n)) (EntryRun kind step) 0 group list a fits run)
 
-    -- a stage's turn is opened, where each record is of what stands at its place
-    pub turn_opened : (all : Occupants) (stage : model.Stage ResourceId) (list : List (Written V X E)) (a : Answer (StageFault E)) → StageFits Fits all stage → AllByRecursion (StandsAt occupants all) list → StageTurn kind step stage list a
-        → Opening states (NestedStageTurn true Own all stage) list a
-    turn_opened all stage list a fits stand (inl run) =
-        let o = Each-opened states (With (GroupFits Fits all) (GroupRun kind step)) (NestedGroupRun Own all) occupants all (group_opened all) 0 stage list a stand (Each-with (GroupFits Fits all) (GroupRun kind step) 0 stage list a fits run) in
-        record { opened = o.opened; run = inl o.run; opens = o.opens }
-    turn_opened all stage list a fits stand (inr refused) = record { opened = []; run = inr (refl, refl, refused.1); opens = AreOpened-none states list [] refused.0 refl }
+    -- a stage's run is opened, where each record is of what stands at its place
+    pub stage_opened : (all : Occupants) (stage : model.Stage ResourceId) (list : List (Written V X E)) (a : Answer (StageFault E)) → StageFits Fits all stage → AllByRecursion (StandsAt occupants all) list → StageRun kind step stage list a
+        → Opening states (NestedStageRun Own all stage) list a
+    stage_opened all stage list a fits stand run =
+        Each-opened states (With (GroupFits Fits all) (GroupRun kind step)) (NestedGroupRun Own all) occupants all (group_opened all) 0 stage list a stand (Each-with (GroupFits Fits all) (GroupRun kind step) 0 stage list a fits run)
 
     module _ {F : Type 0} (Run : ℕ → model.Stage ResourceId → List (Written V X E) → Answer F → Type 0) (answers : ℕ → Answer (StageFault E) → Answer F)
-        (reads : (n : ℕ) (stage : model.Stage ResourceId) (list : List (Written V X E)) (answer : Answer F) → Run n stage list answer → (a : Answer (StageFault E)) × StageTurn kind step stage list a × (answer ≡ answers n a)) where
+        (reads : (n : ℕ) (stage : model.Stage ResourceId) (list : List (Written V X E)) (answer : Answer F) → Run n stage list answer → (a : Answer (StageFault E)) × StageRun kind step stage list a × (answer ≡ answers n a)) where
       -- and so is a plan's run
       pub plan_opened : (all : Occupants) (plan : model.Plan ResourceId) (list : List (Written V X E)) (answer : Answer F) → PlanFits Fits all plan → AllByRecursion (StandsAt occupants all) list → RunsUpToFault Run 0 plan list answer
-          → Opening states (NestedPlanRun true Own answers all plan) list answer
-      plan_opened all plan list answer fits stand run = UpToFault-opened states (With (λ n stage. StageFits Fits (inside_at all n) stage) Run) (λ n stage part told. (a : Answer (StageFault E)) × NestedStageTurn true Own (inside_at all n) stage part a × (told ≡ answers n a)) occupants all
+          → Opening states (NestedPlanRun Own answers all plan) list answer
+      plan_opened all plan list answer fits stand run = UpToFault-opened states (With (λ n stage. StageFits Fits (inside_at all n) stage) Run) (λ n stage part told. (a : Answer (StageFault E)) × NestedStageRun Own (inside_at all n) stage part a × (told ≡ answers n a)) occupants all
           (λ n stage part told standing turn.
           let read = reads n stage part told turn.1 in
-          let o = turn_opened (inside_at all n) stage part read.0 turn.0 standing read.1 in
+          let o = stage_opened (inside_at all n) stage part read.0 turn.0 standing read.1 in
           record { opened = o.opened; run = (read.0, o.run, read.2); opens = o.opens })
           0 plan list answer stand (UpToFault-with (λ n stage. StageFits Fits (inside_at all n) stage) Run 0 plan list answer fits run)
 
@@ -145,7 +142,7 @@ module _ {V S C E : Type 0} (kind : V → Kind) (related : Related V S C E) wher
   pub inner_stays : (less : ℕ) → Keeps less → (tiers : List (Tier V (Work S (Nested V S C)))) (m : Held V) (a : Answer (StageFault E)) (news : List (Tier V (Work S (Nested V S C)))) (n : Held V)
       → InnerRun kind (WorkStep kind related less) tiers m a news n → inner_occupants news ≡ inner_occupants tiers
   inner_stays less keeps tiers m a news n run = (stands work_occupants 3 run.ran.list _ _
-      (plan_stays kind (WorkStep kind related less) work_occupants (λ access r one. keeps r.before r.after r.seen r.outcome r.left one.lies) (λ place. StageTurn kind (WorkStep kind related less)) (λ place answer. answer) (λ place stage list answer turn. (answer, turn, refl)) (tiers_plan tiers) run.ran.list a run.ran.run)
+      (plan_stays kind (WorkStep kind related less) work_occupants (λ access r one. keeps r.before r.after r.seen r.outcome r.left one.lies) (λ place. StageRun kind (WorkStep kind related less)) (λ place answer. answer) (λ place stage list answer turn. (answer, turn, refl)) (tiers_plan tiers) run.ran.list a run.ran.run)
       run.ran.replays).1
 
   pub stays : (depth : ℕ) → Keeps depth
@@ -288,7 +285,7 @@ module _ {V S C E : Type 0} (kind : V → Kind) (related : Related V S C E) wher
   -- each step at this depth, of what fits its access, is opened into a run of what stands there
   abbrev pub Expands : ℕ → Type 0
   Expands depth = (access : Access ResourceId) (r : Written V (Work S (Nested V S C)) E) → IsStep kind (WorkStep kind related depth) access r → Fits depth (work_occupants r.before) access
-      → IsExpanded work_states (NestedRun true kind related depth) (work_occupants r.before) access r
+      → IsExpanded work_states (NestedRun kind related depth) (work_occupants r.before) access r
 
   module _ (depth : ℕ) where
     keeps_inside : (access : Access ResourceId) (r : Written V (Work S (Nested V S C)) E) → IsStep kind (WorkStep kind related depth) access r → work_occupants r.after ≡ work_occupants r.before
@@ -307,7 +304,7 @@ module _ {V S C E : Type 0} (kind : V → Kind) (related : Related V S C E) wher
 
       module _ {F : Type 0} (Run : ℕ → model.Stage ResourceId → List (Written V (Work S (Nested V S C)) E) → Answer F → Type 0) (answers : ℕ → Answer (StageFault E) → Answer F)
           (reads : (k : ℕ) (stage : model.Stage ResourceId) (list : List (Written V (Work S (Nested V S C)) E)) (answer : Answer F) → Run k stage list answer
-          → (x : Answer (StageFault E)) × StageTurn kind (WorkStep kind related depth) stage list x × (answer ≡ answers k x))
+          → (x : Answer (StageFault E)) × StageRun kind (WorkStep kind related depth) stage list x × (answer ≡ answers k x))
           (plan : model.Plan ResourceId) (answer : Answer F) (ran : Ran (RunsUpToFault Run 0 plan) (configuration_of a m) answer (configuration_of b n)) where
         plan_kept : AllByRecursion (Stays work_occupants 3) ran.list
         plan_kept = plan_stays kind (WorkStep kind related depth) work_occupants keeps_inside Run answers reads plan ran.list answer ran.run
@@ -318,9 +315,9 @@ module _ {V S C E : Type 0} (kind : V → Kind) (related : Related V S C E) wher
 
         -- it is opened into a run of all agents
         pub plan-nested : Expands depth → PlanFits (Fits depth) (inside_each 3 work_occupants a) plan
-            → Ran (NestedPlanRun true (NestedRun true kind related depth) answers (inside_each 3 work_occupants a) plan) (configuration_of (inside_each 3 work_states a) m) answer (configuration_of (inside_each 3 work_states b) n)
-        plan-nested expands fits = opened-ran 2 (RunsUpToFault Run 0 plan) (NestedPlanRun true (NestedRun true kind related depth) answers (inside_each 3 work_occupants a) plan) answer ran plan_kept
-            (λ stand. plan_opened work_states (NestedRun true kind related depth) kind (WorkStep kind related depth) work_occupants (Fits depth) (nested_within kind related depth) expands Run answers reads (inside_each 3 work_occupants a) plan ran.list answer fits stand ran.run)
+            → Ran (NestedPlanRun (NestedRun kind related depth) answers (inside_each 3 work_occupants a) plan) (configuration_of (inside_each 3 work_states a) m) answer (configuration_of (inside_each 3 work_states b) n)
+        plan-nested expands fits = opened-ran 2 (RunsUpToFault Run 0 plan) (NestedPlanRun (NestedRun kind related depth) answers (inside_each 3 work_occupants a) plan) answer ran plan_kept
+            (λ stand. plan_opened work_states (NestedRun kind related depth) kind (WorkStep kind related depth) work_occupants (Fits depth) (nested_within kind related depth) expands Run answers reads (inside_each 3 work_occupants a) plan ran.list answer fits stand ran.run)
 
   module _ (less : ℕ) (expands : Expands less) (occupants : Occupants) (plan : model.Plan ResourceId) (fits : PlanFits (Fits less) occupants plan) where
     -- what stands in the inner plan, and the inner plan itself, are these
@@ -329,14 +326,14 @@ module _ {V S C E : Type 0} (kind : V → Kind) (related : Related V S C E) wher
 
     -- a run of an inner plan is opened, beside what its batch's controller has for its state
     inner-opened : (p : List (Tier V (Work S (Nested V S C)))) (m : Held V) (a : Answer (StageFault E)) (r : List (Tier V (Work S (Nested V S C)))) (l : Held V) → Kept p → InnerRun kind (WorkStep kind related less) p m a r l
-        → Kept r × ((own : AgentState S C) → Ran (NestedPlanRun true (NestedRun true kind related less) (λ place answer. answer) occupants plan) (configuration_of (with_own own (inner_states p)) m) a (configuration_of (with_own own (inner_states r)) l))
+        → Kept r × ((own : AgentState S C) → Ran (NestedPlanRun (NestedRun kind related less) (λ place answer. answer) occupants plan) (configuration_of (with_own own (inner_states p)) m) a (configuration_of (with_own own (inner_states r)) l))
     inner-opened p m a r l kept run =
         let step = WorkStep kind related less in
         let same = inner_stays kind related less (stays kind related less) p m a r l run in
-        let deep = plan-nested less (listed_states tier_states p) (listed_states tier_states r) m l (λ place. StageTurn kind step) (λ place answer. answer) (λ place stage list answer turn. (answer, turn, refl)) (tiers_plan p) a run.ran expands
+        let deep = plan-nested less (listed_states tier_states p) (listed_states tier_states r) m l (λ place. StageRun kind step) (λ place answer. answer) (λ place stage list answer turn. (answer, turn, refl)) (tiers_plan p) a run.ran expands
         (subst₂ (PlanFits (Fits less)) (sym kept.0) (sym kept.1) fits) in
-        let here : NestedPlanRun true (NestedRun true kind related less) (λ place answer. answer) occupants plan deep.list a =
-        subst₂ (λ (o : Occupants) (q : model.Plan ResourceId). NestedPlanRun true (NestedRun true kind related less) (λ place answer. answer) o q deep.list a) kept.0 kept.1 deep.run in
+        let here : NestedPlanRun (NestedRun kind related less) (λ place answer. answer) occupants plan deep.list a =
+        subst₂ (λ (o : Occupants) (q : model.Plan ResourceId). NestedPlanRun (NestedRun kind related less) (λ place answer. answer) o q deep.list a) kept.0 kept.1 deep.run in
         let inner = RunsUpToFault-each _ (λ (q : NestedRecord V S C E). q.agent ≢ []) (λ n stage list answer turn. inner_agents n list) 0 plan deep.list a here in (
           (same ∙ kept.0, run.same_plan ∙ kept.1),
           λ own. record { list = deep.list; run = here; replays = replays-beside own deep.list (configuration_of (inner_states p) m) (configuration_of (inner_states r) l) inner deep.replays },
@@ -346,7 +343,7 @@ module _ {V S C E : Type 0} (kind : V → Kind) (related : Related V S C E) wher
   abbrev pub ExpandsOver : ℕ → Type 0
   ExpandsOver depth = (access : Access ResourceId) (work left : Work S (Nested V S C)) (m : Held V) (o : Outcome E) (n : Held V) → WorkStep kind related depth work m o left n
       → ((id : ResourceId) → (Declares access id → ⊥) → m id ≡ None) → ((id : ResourceId) → option_map kind (n id) ≡ option_map kind (m id)) → ((id : ResourceId) → (Contains access.writes id → ⊥) → n id ≡ m id)
-      → Fits depth (work_occupants work) access → Ran (NestedRun true kind related depth (work_occupants work) access) (configuration_of (work_states work) m) o (configuration_of (work_states left) n)
+      → Fits depth (work_occupants work) access → Ran (NestedRun kind related depth (work_occupants work) access) (configuration_of (work_states work) m) o (configuration_of (work_states left) n)
 
   as_record : (depth : ℕ) → ExpandsOver depth → Expands depth
   as_record depth over access r one fits =
@@ -366,7 +363,7 @@ module _ {V S C E : Type 0} (kind : V → Kind) (related : Related V S C E) wher
   unfolding WorkStep NestedRun Fits by_path
   expand_over zero access (System s) (System t) m o n lies sees kinds frame fits = system-opened (λ control plan part outcome. ⊥) access s t m o n lies sees kinds frame
   expand_over (suc less) access (System s) (System t) m o n lies sees kinds frame fits =
-      system-opened (λ control plan. NestedBatchRun kind related.asks control (NestedPlanRun true (NestedRun true kind related less) (λ place answer. answer) (work_occupants {V = V} {S = S} {C = C} (System s)) plan) related.begins) access s t m o n lies sees kinds frame
+      system-opened (λ control plan. NestedBatchRun kind related.asks control (NestedPlanRun (NestedRun kind related less) (λ place answer. answer) (work_occupants {V = V} {S = S} {C = C} (System s)) plan) related.begins) access s t m o n lies sees kinds frame
   expand_over zero access (System s) (Batch t) m o n lies sees kinds frame fits = absurd lies
   expand_over (suc less) access (System s) (Batch t) m o n lies sees kinds frame fits = absurd lies
   expand_over zero access (Batch s) (System t) m o n lies sees kinds frame fits = absurd lies
@@ -381,13 +378,13 @@ module _ {V S C E : Type 0} (kind : V → Kind) (related : Related V S C E) wher
       let found = by_path-batch (λ s. a_system) (λ b. a_batch (control_access b.control) (tiers_plan b.tiers.items)) nested in
       let fit : Fits (suc less) inside access = subst (λ (all : Occupants). Fits (suc less) all access) found fits in
       let states : (one : Nested V S C) → work_states (Batch one) ≡ with_own (of_controller (batch_of one).control.controller) (inner_states (batch_of one).tiers.items) = by_path-batch of_system (λ b. of_controller b.control.controller) in
-      let ran : Ran (NestedRun true kind related (suc less) inside access) (configuration_of (with_own (of_controller old.control.controller) (inner_states old.tiers.items)) m) o (configuration_of (with_own (of_controller new.control.controller) (inner_states new.tiers.items)) n) =
-      batch-opened kind related.asks (control_access old.control) (InnerRun kind (WorkStep kind related less)) inner_states (NestedPlanRun true (NestedRun true kind related less) (λ place answer. answer) occupants plan)
+      let ran : Ran (NestedRun kind related (suc less) inside access) (configuration_of (with_own (of_controller old.control.controller) (inner_states old.tiers.items)) m) o (configuration_of (with_own (of_controller new.control.controller) (inner_states new.tiers.items)) n) =
+      batch-opened kind related.asks (control_access old.control) (InnerRun kind (WorkStep kind related less)) inner_states (NestedPlanRun (NestedRun kind related less) (λ place answer. answer) occupants plan)
       (Kept less (as_record less (expand_over less)) occupants plan fit.3) (inner-opened less (as_record less (expand_over less)) occupants plan fit.3)
       related.begins old.control.controller old.tiers.items m o new.control.controller new.tiers.items n (refl, refl) lies.run in
-      let there : Ran (NestedRun true kind related (suc less) (work_occupants (Batch nested)) access) (configuration_of (with_own (of_controller old.control.controller) (inner_states old.tiers.items)) m) o (configuration_of (with_own (of_controller new.control.controller) (inner_states new.tiers.items)) n) =
-      subst (λ (all : Occupants). Ran (NestedRun true kind related (suc less) all access) (configuration_of (with_own (of_controller old.control.controller) (inner_states old.tiers.items)) m) o (configuration_of (with_own (of_controller new.control.controller) (inner_states new.tiers.items)) n)) (sym found) ran in
-      subst₂ (λ (first last : Agent → Option (AgentState S C)). Ran (NestedRun true kind related (suc less) (work_occupants (Batch nested)) access) (configuration_of first m) o (configuration_of last n)) (sym (states nested)) (sym (states left)) there
+      let there : Ran (NestedRun kind related (suc less) (work_occupants (Batch nested)) access) (configuration_of (with_own (of_controller old.control.controller) (inner_states old.tiers.items)) m) o (configuration_of (with_own (of_controller new.control.controller) (inner_states new.tiers.items)) n) =
+      subst (λ (all : Occupants). Ran (NestedRun kind related (suc less) all access) (configuration_of (with_own (of_controller old.control.controller) (inner_states old.tiers.items)) m) o (configuration_of (with_own (of_controller new.control.controller) (inner_states new.tiers.items)) n)) (sym found) ran in
+      subst₂ (λ (first last : Agent → Option (AgentState S C)). Ran (NestedRun kind related (suc less) (work_occupants (Batch nested)) access) (configuration_of first m) o (configuration_of last n)) (sym (states nested)) (sym (states left)) there
 
   -- each step, at each depth, of what fits its access, is opened into a run of what stands there
   pub expand : (depth : ℕ) → Expands depth

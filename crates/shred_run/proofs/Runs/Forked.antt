@@ -10,7 +10,7 @@ use Rattle.shred_table.specs.declared.id.Kind.{Kind}
 use Rattle.shred_table.specs.declared.id.ResourceId.{ResourceId}
 use Rattle.shred_run.specs.declared.entry.StageFault.{StageFault}
 use Rattle.shred_run.specs.Steps.{Step, Written}
-use Rattle.shred_run.specs.Entries.{EntryRun, GroupRun, StageRun, group_states, StageTurn}
+use Rattle.shred_run.specs.Entries.{EntryRun, GroupRun, StageRun, group_states, StageRun}
 use Rattle.std.proofs.lemmas.List.Elements.{All-nil, All-cons, All-head, All-tail, Contains-get_or, All-contains}
 use Rattle.shred_model.specs.Beside.{AllWent, AreApart, PartsShow, PartsPut, SomeWrites}
 use Rattle.std.specs.Prelude.{is_some, ◌==◌, ⊤}
@@ -382,7 +382,7 @@ module _ {V S E : Type 0} (kind : V → Kind) (step : Step V S E) (own : S → L
       -- the groups took their turn, from the moving out of what they write to where all is back
       pub turn-taken : TookTurn kind step own start (lent_held kind before) a done (lent_held kind end)
       turn-taken = record {
-        ran = Ran-as (StageRun kind step (groups_plan start)) _ a _ (StageTurn kind step (groups_plan start)) a (λ list is. inl is) forked-all;
+        ran = forked-all;
         plan = zip-map IsLeftEmpty group_plan group_plan (λ z w s. same-plan z w s.0) ran done spare ∙ zip-map Ended group_plan group_plan (λ x z e. e.3.plan ∙ same-plan x e.0 e.1.0) start ran ended;
         own_lists = zip-all IsLeftEmpty (IsGroupOf own) (IsGroupOf own) (own-left own) ran done spare (zip-all Ended KeepsRoom (IsGroupOf own) (λ x z e keeps. e.3.own_lists) start ran ended room);
         ids = zip-map IsLeftEmpty group_numbers group_numbers (λ z w s. ap (λ ids. numbers_of ids.items) s.0.ids) ran done spare
@@ -401,10 +401,9 @@ module _ {V S E : Type 0} (kind : V → Kind) (step : Step V S E) (x y : Group V
   first (Ok done) = refl
   first (Err fault) = refl
 
-  pub stage-of_one : Ran (StageTurn kind step (groups_plan (x ∷ []))) (configuration_of (listed_states group_states (x ∷ [])) before) a (configuration_of (listed_states group_states (y ∷ [])) after)
+  pub stage-of_one : Ran (StageRun kind step (groups_plan (x ∷ []))) (configuration_of (listed_states group_states (x ∷ [])) before) a (configuration_of (listed_states group_states (y ∷ [])) after)
   stage-of_one =
       let Run = λ (p : model.Group ResourceId) (list : List (Written V S E)) (b : Answer (StageFault E)). GroupRun kind step 0 p list b in
       let leaves = beside_as_one_thread tell_ids Run group_plan group_states (λ (values : ResourceId → Option V). values) group_access (group-within kind step) (x ∷ []) (before ∷ []) a (y ∷ []) (after ∷ []) before after
       (a, Ok tt, ran, plan, refl, first a) (λ i j d lt below. absurd (omega (arith, lt, below))) ((λ i d. refl), tt) ((λ i w. refl), tt) (λ i none. frame i (λ w. none (0, group_plan x, omega arith, refl, w))) in
-      Ran-as (StageRun kind step (groups_plan (x ∷ []))) _ a _ (StageTurn kind step (groups_plan (x ∷ []))) a (λ list is. inl is)
-      (Ran-of_one_thread (λ list b. StageRun kind step (groups_plan (x ∷ [])) list b) (configuration_of (listed_states group_states (x ∷ [])) before) a (configuration_of (listed_states group_states (y ∷ [])) after) leaves)
+      Ran-of_one_thread (λ list b. StageRun kind step (groups_plan (x ∷ [])) list b) (configuration_of (listed_states group_states (x ∷ [])) before) a (configuration_of (listed_states group_states (y ∷ [])) after) leaves

@@ -14,12 +14,13 @@ use Rattle.shred_world.specs.Worked.{Held}
 use Rattle.shred_run.specs.Alone.{KeepsKinds}
 use Rattle.shred_run.specs.Depths.{Declared, Related}
 use Rattle.shred_run.specs.Dispatched.{Dispatched}
-use Rattle.shred_run.specs.Entries.{StageTurn}
+use Rattle.shred_run.specs.Entries.{StageRun}
 use Rattle.shred_run.specs.OwnDepth.{OwnStep, OwnsItself}
 use Rattle.shred_run.specs.OwnLists.{IsGroupOf}
 use Rattle.shred_run.specs.declared.entry.StageFault.{StageFault}
 use Rattle.shred_run.specs.declared.entry.StageFault.TheVariants.{System, Memory}
 use Rattle.shred_run.proofs.Paths.OwnDepth.{ToldTurn, own-plan-dispatched, own-plan-fits}
+use Rattle.shred_run.proofs.Paths.ToldFaults.{TellsDone}
 use Rattle.shred_stage.specs.Plans.{plan_states, stage_states}
 use Rattle.shred_stage.specs.Situations.{StageTook, dispatch_answer, stage_answer, stages_with}
 use Rattle.shred_stage.specs.StagePlan.{plan_of, stage_plan}
@@ -27,20 +28,18 @@ use Rattle.shred_stage.specs.declared.dispatch.stage.Stage.{Stage}
 
 -- a stage's turn, told as the plan tells it
 pub turn-told : {V S C E F : Type 0} (kind : V → Kind) (related : Related V S C E) (answers : ℕ → Answer (StageFault E) → Answer F) (place : ℕ) (stage : model.Stage ResourceId) (x y : _) (a : Answer (StageFault E)) (b : Answer F) → b ≡ answers place a
-    → Ran (StageTurn kind (OwnStep kind related) stage) x a y → Ran (ToldTurn kind (OwnStep kind related) answers place stage) x b y
-turn-told kind related answers place stage x y a b is ran = Ran-as (StageTurn kind (OwnStep kind related) stage) x a y (ToldTurn kind (OwnStep kind related) answers place stage) b (λ list run. (a, run, is)) ran
-
--- only what is Done is told as Done
-abbrev pub TellsDone : {E F : Type 0} → (ℕ → Answer (StageFault E) → Answer F) → Type 0
-TellsDone {E} answers = (place : ℕ) (answer : Answer (StageFault E)) → Ok tt ≡ answers place answer → answer ≡ Ok tt
+    → Ran (StageRun kind (OwnStep kind related) stage) x a y → Ran (ToldTurn kind (OwnStep kind related) answers place stage) x b y
+turn-told kind related answers place stage x y a b is ran = Ran-as (StageRun kind (OwnStep kind related) stage) x a y (ToldTurn kind (OwnStep kind related) answers place stage) b (λ list run. (a, run, is)) ran
 
 pub dispatch-tells : {E : Type 0} → TellsDone (dispatch_answer {E = E})
-dispatch-tells place (Ok done) is = refl
-dispatch-tells place (Err (System id fault)) is = absurd (cc)
-dispatch-tells place (Err Memory) is = absurd (cc)
+dispatch-tells {E} = ((λ place. refl), only) where
+  only : (place : ℕ) (answer : Answer (StageFault E)) → Ok tt ≡ dispatch_answer place answer → answer ≡ Ok tt
+  only place (Ok done) is = refl
+  only place (Err (System id fault)) is = absurd (cc)
+  only place (Err Memory) is = absurd (cc)
 
 pub stage-tells : {E : Type 0} → TellsDone (stage_answer {E = E})
-stage-tells place answer is = sym is
+stage-tells = ((λ place. refl), (λ place answer is. sym is))
 
 module _ {V S C N A M B E : Type 0} {vd : _} {sd : _} {ad : _} {cd : _} {bd : _} (kind : V → Kind) (related : Related V S C E) (declared : Declared S C)
     (own : (stage : Stage V S C N A M B vd sd ad cd bd) → All (IsGroupOf (OwnsItself declared)) stage.groups.items) (apart : (stage : Stage V S C N A M B vd sd ad cd bd) → AreApart model.group_access (stage_plan stage)) where

@@ -80,7 +80,7 @@ pub enum StageFault<E> {
     /// The entry of this id ended with a fault, the first in plan order.
     #[error("{id}: {fault}")]
     System { id: SystemId, fault: Fault<E> },
-    /// The stage was refused for memory before it began.
+    /// The stage was refused for memory before it began. No run answers it.
     #[error("out of memory")]
     Memory,
 }

@@ -1,53 +1,51 @@
 -- What a dispatch of a store's rules leaves.
-use Rattle.std.proofs.Common.{◌≡◌, ℕ, ℤ, suc, ◌+◌, ◌<◌, ◌==◌, Bool, true, false, cond, List, [], ◌∷◌, length, Option, Some, None, Ok, Err, Result, slice_get, refl, sym, ◌∙◌, ap, subst, arith}
+use Rattle.std.proofs.Common.{◌≡◌, ℕ, ℤ, suc, ◌+◌, ◌<◌, ◌==◌, Bool, true, false, cond, List, [], ◌∷◌, length, Option, Some, None, Ok, Err, Result, slice_get, refl, sym, ◌∙◌, ap, subst, subst₂, arith, ◌⊎◌, inl, inr}
 use Rattle.std.proofs.lemmas.Bool.Decides.{nat_tests}
 use Rattle.std.proofs.lemmas.Option.{slice_get_within}
-use Rattle.std.proofs.Math.Logic.{∥∥₁_elim}
+use Rattle.std.proofs.Math.Logic.{∥∥₁_elim, ∥∥₁_map}
 use Rattle.std.proofs.Props.{props}
+use Rattle.std.proofs.lemmas.List.Elements.{All-contains, All-from_recursion}
 use Rattle.std.specs.Prelude.{OnOk, is_some}
 use Rattle.std.specs.List.{AllByRecursion}
 use Rattle.std.specs.Option.{option_map}
 use Rattle.shred_model.specs.Access.{Access}
-use Rattle.shred_model.specs.Plan as model
 use Rattle.shred_model.specs.Plan.{PlanEntry, Plan, entry_at}
-use Rattle.shred_model.specs.Record.{Agent, under}
-use Rattle.shred_model.specs.Runs.{Answer, RunsUpToFault}
+use Rattle.shred_model.specs.Record.{Agent}
+use Rattle.shred_model.specs.Runs.{Answer}
 use Rattle.shred_model.proofs.Records.Framed.{AllByRecursion-weaker}
 use Rattle.shred_table.specs.declared.id.ResourceId.{ResourceId}
 use Rattle.shred_table.specs.declared.only.Only.{Only}
 use Rattle.shred_world.specs.Worked.{Held}
 use Rattle.shred_run.specs.AdditionOrder.{KeepsAddition, PlacedEntry}
+use Rattle.shred_run.specs.AgentSteps.{IsAgentStep, TellsFault, TookStep}
 use Rattle.shred_run.specs.Dispatched.{configuration_in, occupants_of}
-use Rattle.shred_run.specs.NestedRecords.{NestedRecord, IsNestedStep, again, bound, done}
-use Rattle.shred_run.specs.NestedRuns.{NestedRun, NestedStageTurn}
-use Rattle.shred_run.specs.Occupants.{a_system, inside_at, of_controller, of_system}
+use Rattle.shred_run.specs.NestedRecords.{IsNestedStep, again, bound, done}
+use Rattle.shred_run.specs.Occupants.{Occupant, a_batch, a_system, of_controller, of_system}
 use Rattle.shred_run.specs.Steps.{Outcome}
-use Rattle.shred_run.specs.declared.entry.StageFault.{StageFault}
-use Rattle.shred_run.specs.declared.entry.StageFault.TheVariants as stage_fault
+use Rattle.shred_run.specs.WithinEntries.{IsWithinEntries}
 use Rattle.shred_run.specs.declared.no_batch.NoBatch.{NoBatch}
 use Rattle.shred_run.specs.declared.system.Fault.{Fault}
+use Rattle.shred_run.specs.declared.system.Fault.TheVariants.{OutOfMemory, Refused}
 use Rattle.shred_stage.specs.Situations.{dispatch_answer}
 use Rattle.shred_stage.specs.declared.dispatch.dispatch_error.DispatchError.{DispatchError}
+use Rattle.shred_stage.specs.declared.dispatch.dispatch_error.DispatchError.TheVariants as dispatch
 use Rattle.shred.specs.declared.plain.Plain.{Plain}
 use Rattle.shredstore.specs.declared.error.TickError.{TickError}
+use Rattle.shredstore.specs.declared.error.TickError.TheVariants as tick
 use Rattle.shredstore.specs.declared.rule.Overflow.{Overflow}
 use Rattle.shredstore.specs.declared.rule.StoreRule.{StoreRule}
 use Rattle.shredstore.specs.declared.rule.StoreRule.TheVariants.{Add, Set}
 use Rattle.shredstore.specs.Facts.{OnlyLive, Values}
 use Rattle.shredstore.specs.Plans.{RulesOver, RunsRules, rule_relations}
 use Rattle.shredstore.specs.Rows.{Pairs, with_constant, with_sum}
-use Rattle.shredstore.specs.RuleSteps.{RuleStep}
-use Rattle.shredstore.specs.Rules.{applied, applied_all, with_table}
+use Rattle.shredstore.specs.RuleSteps.{IsRuleFault, RuleStep}
+use Rattle.shredstore.specs.Rules.{IsFirstOverflow, applied, applied_all, with_table}
 use Rattle.shredstore.specs.Tables.{kind_of, table_id, value_in, values_in}
-use Rattle.shredstore.specs.Ticks.{IsDispatch, IsOfStages, Tells}
-use Rattle.shredstore.proofs.EachStep.{each_record}
-use Rattle.shredstore.proofs.KeptStates.{Keeps, KeepsRows, replay-keeps}
+use Rattle.shredstore.specs.Ticks.{IsDispatch, IsOfSystems, IsOverflowOf, IsTick, RuleRecord, Tells}
+use Rattle.shredstore.proofs.KeptStates.{Keeps, KeepsRows, replay-found, replay-keeps}
 use Rattle.shredstore.proofs.PlanOrder.{order-at, order-counts}
 use Rattle.shredstore.proofs.RuleRuns.{HasItsRule, entries-run, in-order}
 use Rattle.shredstore.proofs.Ticked.{runs-apply}
-
-abbrev RuleRecord : Type 0
-RuleRecord = NestedRecord (Only Pairs) (Plain StoreRule) (NoBatch Overflow) Overflow
 
 -- a sum is where the first value is, and so is a constant
 sum-some : (value more : Option ℤ) → is_some (with_sum value more) ≡ is_some value
@@ -91,8 +89,11 @@ of-begin access answer r step = of-call step.lies.0 step.lies.1 r step.lies.2 st
 of-ask : (access : Access ResourceId) (answer : Result Bool (Fault Overflow)) (r : RuleRecord) → IsNestedStep kind_of rule_relations.asks of_controller again access answer r → Keeps r
 of-ask access answer r step = of-call step.lies.0 step.lies.1 r step.lies.2 step.lies.3 step.lies.4.0.state step.lies.4.0.values
 
-moved : (n : ℕ) (r : RuleRecord) → Keeps r → Keeps (under n r)
-moved n r keeps = record { state = keeps.state; rows = keeps.rows }
+of-agent : (occupant : Option Occupant) (r : RuleRecord) → TookStep kind_of rule_relations occupant r → Keeps r
+of-agent (Some a_system) r (outcome, step) = of-step r.access outcome r step
+of-agent (Some (a_batch control plan)) r (inl (answer, step)) = of-begin control answer r step
+of-agent (Some (a_batch control plan)) r (inr (answer, step)) = of-ask control answer r step
+of-agent None r none = absurd none
 
 some-kept : {V K : Type 0} (f : V → K) (a b : Option V) → option_map f a ≡ option_map f b → is_some a ≡ is_some b
 some-kept f (Some a) (Some b) e = refl
@@ -101,10 +102,11 @@ some-kept f (Some a) None e = absurd (cc)
 some-kept f None (Some b) e = absurd (cc)
 
 module _ (before : RulesOver) (answer : Answer (DispatchError Overflow)) (after : RulesOver) (ran : IsDispatch before answer after) where
+  all-keep : AllByRecursion Keeps ran.list
+  all-keep = AllByRecursion-weaker (IsAgentStep kind_of rule_relations (occupants_of before)) Keeps (λ r took. let own = of-agent (occupants_of before r.agent) (record r { agent = [] }) took in record { state = own.state; rows = own.rows }) ran.list ran.steps
+
   kept : ((path : Agent) → (configuration_in after).states path ≡ (configuration_in before).states path) × KeepsRows before.values after.values
-  kept =
-      let (depth, run) = ran.run in
-      replay-keeps ran.list (configuration_in before) (configuration_in after) (each_record kind_of rule_relations Keeps moved of-step of-begin of-ask depth dispatch_answer (occupants_of before) before.plan ran.list answer run) ran.replays
+  kept = replay-keeps ran.list (configuration_in before) (configuration_in after) all-keep ran.replays
 
   -- the same tables are held
   pub tables-kept : (id : ResourceId) → is_some (after.values id) ≡ is_some (before.values id)
@@ -127,23 +129,58 @@ module _ (before : RulesOver) (answer : Answer (DispatchError Overflow)) (after 
             (rule, told, lists, ran.occupants place ∙ there, kept.0 place ∙ state);
       }
 
--- the answer is told of stages alone
-stage-told : (place : ℕ) (a : Answer (StageFault Overflow)) (told : Answer (DispatchError Overflow)) → told ≡ dispatch_answer place a → IsOfStages told
-stage-told place (Ok ended) told is = subst IsOfStages (sym is) tt
-stage-told place (Err (stage_fault.System id fault)) told is = subst IsOfStages (sym is) tt
-stage-told place (Err stage_fault.Memory) told is = subst IsOfStages (sym is) tt
+-- the answer is told of systems alone
+pub of-systems : (before : RulesOver) (answer : Answer (DispatchError Overflow)) (after : RulesOver) → IsDispatch before answer after → IsOfSystems answer
+of-systems before answer after ran = elim ran.told [ | inl over ↦ subst IsOfSystems (sym over) tt | inr t ↦ subst IsOfSystems (sym t.told) tt ]
 
-module _ (Turn : ℕ → model.Stage ResourceId → List RuleRecord → Answer (DispatchError Overflow) → Type 0) (told : (n : ℕ) (stage : model.Stage ResourceId) (part : List RuleRecord) (a : Answer (DispatchError Overflow)) → Turn n stage part a → IsOfStages a) where
-  plan-told : (n : ℕ) (plan : model.Plan ResourceId) (list : List RuleRecord) (answer : Answer (DispatchError Overflow)) → RunsUpToFault Turn n plan list answer → IsOfStages answer
-  plan-told n [] list answer run = subst IsOfStages (sym run.1) tt
-  plan-told n (stage ∷ plan) list answer (first, Ok ended, one, (others, is, more)) = plan-told (suc n) plan others answer more
-  plan-told n (stage ∷ plan) list answer (first, Err fault, one, (is, end)) = subst IsOfStages (sym end) (told n stage first (Err fault) one)
+-- the rule that a dispatch tells of as overflowing took a step with this fault
+module _ (rules : List StoreRule) (before after : RulesOver) (runs : RunsRules rules before) (answer : Answer (DispatchError Overflow)) (ran : IsDispatch before answer after) where
+  -- where a system stands, nothing stands inside it
+  itself : (place path : Agent) (Inner : Plan ResourceId → Type 0) → occupants_of before place ≡ Some a_system → (path ≡ []) ⊎ ((control : Access ResourceId) × (plan : Plan ResourceId) × (occupants_of before place ≡ Some (a_batch control plan)) × Inner plan) → path ≡ []
+  itself place path Inner stands (inl own) = own
+  itself place path Inner stands (inr (control, plan, batch, deeper)) = absurd (let no = sym stands ∙ batch in cc)
 
-pub of-stages : (before : RulesOver) (answer : Answer (DispatchError Overflow)) (after : RulesOver) → IsDispatch before answer after → IsOfStages answer
-of-stages before answer after ran =
-    let (depth, run) = ran.run in
-    plan-told (λ place stage part told. (a : Answer (StageFault Overflow)) × NestedStageTurn true (NestedRun true kind_of rule_relations depth) (inside_at (occupants_of before) place) stage part a × (told ≡ dispatch_answer place a))
-    (λ n stage part a turn. stage-told n turn.0 a turn.2) 0 before.plan ran.list answer run
+  its-fault : (own : StoreRule) (r : RuleRecord) (overflow : Overflow) → r.before ≡ of_system (record { 0 = own }) → r.outcome ≡ Err (Refused overflow) → TookStep kind_of rule_relations (Some a_system) r → IsFirstOverflow own (values_in r.seen) overflow.entity
+  its-fault own r overflow is ended (Ok ended_fine, step) = absurd (let no = sym step.outcome ∙ ended in cc)
+  its-fault own r overflow is ended (Err fault, step) =
+      let (old, new, was, after, lies) = step.lies in
+      let same : old.0 ≡ own = cc in
+      let told : fault ≡ Refused overflow = cc in
+      subst (λ (rule : StoreRule). IsFirstOverflow rule (values_in r.seen) overflow.entity) same (subst (λ (f : Fault Overflow). IsRuleFault old.0 (values_in r.seen) f) told lies.0.1.0)
+
+  overflow-of : (t : TellsFault dispatch_answer before.plan ran.list answer) (overflow : Overflow) → t.fault ≡ Refused overflow → IsOverflowOf rules ran.list t.entry.id overflow.entity
+  overflow-of t overflow is =
+      let place = t.stage ∷ (t.group ∷ (t.place ∷ [])) in
+      let (own, told, lists, system, state) = runs.stands place t.entry t.stands in
+      let inside = subst (λ (a : Agent). IsWithinEntries (occupants_of before) before.plan a t.r.access) t.inside (among-has (λ r. IsWithinEntries (occupants_of before) before.plan r.agent r.access) ran.within) in
+      let at : t.r.agent ≡ place = t.inside ∙ ap (λ (path : Agent). t.stage ∷ (t.group ∷ (t.place ∷ path))) (itself place t.path (λ plan. IsWithinEntries (λ deeper. occupants_of before (t.stage ∷ (t.group ∷ (t.place ∷ deeper)))) plan t.path t.r.access) system inside.3) in
+      let found = among-has (λ r. (configuration_in before).states r.agent ≡ Some r.before) (replay-found ran.list (configuration_in before) (configuration_in after) (all-keep before answer after ran) ran.replays) in
+      let e : Some t.r.before ≡ Some (of_system (record { 0 = own })) = sym found ∙ ap (configuration_in before).states at ∙ state in
+      let its : t.r.before ≡ of_system (record { 0 = own }) = cc in
+      let took = among-has (IsAgentStep kind_of rule_relations (occupants_of before)) ran.steps in
+      let step = subst (λ (o : Option Occupant). TookStep kind_of rule_relations o (record t.r { agent = [] })) (ap (occupants_of before) at ∙ system) took in
+      record { below = slice_get_within rules t.entry.id own told; own = own; at = told; r = t.r; among = t.among; its = its; first = its-fault own (record t.r { agent = [] }) overflow its (t.ended ∙ ap Err is) step }
+    where
+      among-has : (P : RuleRecord → Type 0) → AllByRecursion P ran.list → P t.r
+      among-has P all = All-contains P ran.list t.r (All-from_recursion P ran.list all) t.among
+
+  pub overflow-told : (result : Answer TickError) → Tells answer result → (place entity : ℕ) → result ≡ Err (tick.Overflow place entity) → IsOverflowOf rules ran.list place entity
+  overflow-told result tells place entity is = of-answer ran.told where
+    of-answer : (answer ≡ Ok tt) ⊎ TellsFault dispatch_answer before.plan ran.list answer → IsOverflowOf rules ran.list place entity
+    of-answer (inl over) = absurd (let e = subst (λ (a : Answer (DispatchError Overflow)). Tells a result) over tells in let no = sym e ∙ is in cc)
+    of-answer (inr t) = of-fault t.fault refl where
+      of-fault : (fault : Fault Overflow) → t.fault ≡ fault → IsOverflowOf rules ran.list place entity
+      of-fault (Refused overflow) same =
+          let told = subst₂ Tells (t.told ∙ ap (λ (f : Fault Overflow). Err (dispatch.System (record { 0 = t.entry.id }) f)) same) is tells in
+          let id : t.entry.id ≡ place = cc in
+          let its : overflow.entity ≡ entity = cc in
+          subst₂ (IsOverflowOf rules ran.list) id its (overflow-of t overflow same)
+      of-fault OutOfMemory same = absurd (let told = subst₂ Tells (t.told ∙ ap (λ (f : Fault Overflow). Err (dispatch.System (record { 0 = t.entry.id }) f)) same) is tells in let no = told in cc)
+
+-- what a tick tells
+pub tick-told : (rules : List StoreRule) (before after : RulesOver) → ∥ RunsRules rules before ∥₁ → (answer : Answer (DispatchError Overflow)) (result : Answer TickError) → IsDispatch before answer after → Tells answer result → IsTick rules before result after
+tick-told rules before after runs answer result ran tells =
+    record { answer = answer; dispatch = ran; tells = tells; overflow = λ place entity is. ∥∥₁_map runs (λ r. overflow-told rules before after r answer ran result tells place entity is) }
 
 applies : (old new : Plain StoreRule) (seen left : Held (Only Pairs)) → rule_relations.steps old seen (Ok tt) new left → (new ≡ old) × ((entity table : ℕ) → values_in left entity table ≡ applied old.0 (values_in seen) entity table)
 applies old new seen left lies = (ap (λ (s : StoreRule). record { 0 = s }) lies.0.0, lies.0.1.1)

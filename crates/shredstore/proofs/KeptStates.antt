@@ -4,6 +4,7 @@ use Rattle.std.specs.List.{AllByRecursion}
 use Rattle.std.specs.Prelude.{is_some}
 use Rattle.shred_model.specs.Record.{Agent, Record}
 use Rattle.shred_model.specs.Replay.{Configuration, Goes, Replays}
+use Rattle.shred_model.proofs.Records.Framed.{AllByRecursion-weaker}
 use Rattle.shred_model.proofs.Records.Membership.{is_declared}
 use Rattle.shred_model.proofs.Records.Telling.{tell_agents}
 use Rattle.shred_table.specs.declared.id.ResourceId.{ResourceId}
@@ -45,3 +46,10 @@ module _ {S O : Type 0} where
       let first = goes-keeps r x mid keeps.0 goes in
       let others = replay-keeps list mid y keeps.1 rest in
       (λ path. others.0 path ∙ first.0 path, λ entity table. others.1 entity table ∙ first.1 entity table)
+
+  -- each of them finds the state that its agent had at first
+  pub replay-found : (list : List (Record Agent ResourceId (Only Pairs) S O)) (x y : Configuration Agent ResourceId (Only Pairs) S) → AllByRecursion Keeps list → Replays x list y → AllByRecursion (λ r. x.states r.agent ≡ Some r.before) list
+  replay-found [] x y keeps runs = tt
+  replay-found (r ∷ list) x y keeps (mid, goes, rest) =
+      let first = goes-keeps r x mid keeps.0 goes in
+      (goes.finds_state, AllByRecursion-weaker (λ q. mid.states q.agent ≡ Some q.before) (λ q. x.states q.agent ≡ Some q.before) (λ q found. sym (first.0 q.agent) ∙ found) list (replay-found list mid y keeps.1 rest))

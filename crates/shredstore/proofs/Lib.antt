@@ -5,7 +5,6 @@ mod RemadeTables
 mod Outcomes
 mod Shown
 mod SetValues
-pub mod EachStep
 pub mod KeptStates
 pub mod Ticked
 pub mod Counted

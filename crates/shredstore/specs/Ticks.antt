@@ -1,7 +1,10 @@
 -- How a tick ends.
-use Rattle.std.specs.Prelude.{◌≡◌, Ok, Err}
+use Rattle.std.specs.Prelude.{◌≡◌, ◌<◌, ℕ, List, length, slice_get, Contains, Some, Ok, Err}
 use Rattle.shred_model.specs.Runs.{Answer}
 use Rattle.shred_run.specs.Dispatched.{Dispatched}
+use Rattle.shred_run.specs.NestedRecords.{NestedRecord}
+use Rattle.shred_run.specs.Occupants.{of_system}
+use Rattle.shred_run.specs.declared.no_batch.NoBatch.{NoBatch}
 use Rattle.shred_run.specs.declared.system.Fault.TheVariants.{OutOfMemory, Refused}
 use Rattle.shred_stage.specs.Situations.{dispatch_answer}
 use Rattle.shred_stage.specs.declared.dispatch.dispatch_error.DispatchError.{DispatchError}
@@ -10,14 +13,18 @@ use Rattle.shredstore.specs.declared.error.TickError.{TickError}
 use Rattle.shredstore.specs.declared.error.TickError.TheVariants.{Memory, Overflow, RuleMemory}
 use Rattle.shredstore.specs.declared.rule.Overflow as rule
 use Rattle.shredstore.specs.Plans.{RulesOver, rule_relations}
-use Rattle.shredstore.specs.Tables.{kind_of}
+use Rattle.shredstore.specs.Rows.{Pairs}
+use Rattle.shredstore.specs.Rules.{IsFirstOverflow}
+use Rattle.shredstore.specs.Tables.{kind_of, values_in}
+use Rattle.shredstore.specs.declared.rule.StoreRule.{StoreRule}
+use Rattle.shred.specs.declared.plain.Plain.{Plain}
+use Rattle.shred_table.specs.declared.only.Only.{Only}
 
--- an answer that is told of stages alone, and of no thread-local system
-abbrev pub IsOfStages : Answer (DispatchError rule.Overflow) → Type 0
-IsOfStages (Ok done) = Unit {0}
-IsOfStages (Err (System id fault)) = Unit {0}
-IsOfStages (Err (ThreadLocal index fault)) = ⊥
-IsOfStages (Err (StageMemory stage)) = Unit {0}
+-- an answer that is told of systems alone, and of no stage or thread-local system
+abbrev pub IsOfSystems : Answer (DispatchError rule.Overflow) → Type 0
+IsOfSystems (Ok done) = Unit {0}
+IsOfSystems (Err (System id fault)) = Unit {0}
+IsOfSystems (Err refused) = ⊥
 
 -- the plan of the rules was dispatched, with this answer
 abbrev pub IsDispatch : RulesOver → Answer (DispatchError rule.Overflow) → RulesOver → Type 0
@@ -36,6 +43,23 @@ Tells (Ok done) result = result ≡ Ok tt
 Tells (Err refused) (Ok done) = ⊥
 Tells (Err refused) (Err error) = TellsError refused error
 
--- the plan of the rules was dispatched, and this was told of its answer
-abbrev pub IsTick : RulesOver → Answer TickError → RulesOver → Type 0
-IsTick before result after = (answer : Answer (DispatchError rule.Overflow)) × IsDispatch before answer after × Tells answer result
+-- a step of a rule
+abbrev pub RuleRecord : Type 0
+RuleRecord = NestedRecord (Only Pairs) (Plain StoreRule) (NoBatch rule.Overflow) rule.Overflow
+
+-- The rule at this place took one of the steps. Of the values that it saw there, the entity is the least whose sum does not fit.
+pub record IsOverflowOf (rules : List StoreRule) (list : List RuleRecord) (place entity : ℕ) : Type 0 where
+  pub below : place < length rules
+  pub own : StoreRule
+  pub at : slice_get rules place ≡ Some own
+  pub r : RuleRecord
+  pub among : Contains list r
+  pub its : r.before ≡ of_system (record { 0 = own })
+  pub first : IsFirstOverflow own (values_in r.seen) entity
+
+-- The plan of the rules was dispatched, and this was told of its answer; an `Overflow` is one of the rule that it names.
+pub record IsTick (rules : List StoreRule) (before : RulesOver) (result : Answer TickError) (after : RulesOver) : Type 0 where
+  pub answer : Answer (DispatchError rule.Overflow)
+  pub dispatch : IsDispatch before answer after
+  pub tells : Tells answer result
+  pub overflow : (place entity : ℕ) → result ≡ Err (Overflow place entity) → ∥ IsOverflowOf rules dispatch.list place entity ∥₁

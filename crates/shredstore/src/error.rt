@@ -23,7 +23,7 @@ pub enum TickError {
     /// nothing.
     #[error("rule {rule}: the sum of entity {entity} does not fit")]
     Overflow { rule: usize, entity: u64 },
-    /// The stage of this number was refused for memory; those before it are done, and it was not begun.
+    /// The stage of this number was refused for memory; those before it are done, and it was not begun. No tick answers it.
     #[error("stage {stage}: out of memory")]
     Memory { stage: usize },
     /// The rule at this place was refused for memory, and changed nothing.

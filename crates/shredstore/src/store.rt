@@ -6,7 +6,7 @@ ghost use Rattle.shredstore.specs.EntityFacts.{contents_in};
 ghost use Rattle.shredstore.specs.Plans.{RunsOverAny};
 ghost use Rattle.shredstore.specs.Rules.{first_missing, missing};
 ghost use Rattle.shredstore.specs.Tables.{kind_of};
-ghost use Rattle.shredstore.specs.Ticks.{IsDispatch, IsOfStages, Tells};
+ghost use Rattle.shredstore.specs.Ticks.{IsDispatch, IsOfSystems, Tells};
 
 use crate::entities::Entities;
 use crate::entity::Entity;
@@ -59,7 +59,7 @@ fn missing(tables: u64, rule: StoreRule) -> Option<u64>
 
 // What a tick tells of a dispatch.
 fn told(answer: Result<(), DispatchError<Overflow>>) -> Result<(), TickError>
-    requires { IsOfStages answer }
+    requires { IsOfSystems answer }
     ensures { Tells answer result }
 {
     match answer {
@@ -190,7 +190,7 @@ impl Store {
     /// threads. A refused rule ends the tick; what the rules that ran have done stays.
     pub fn tick<R: Threads + Sync>(&mut self, rt: &R) -> Result<(), TickError>
         ensures applied { OnOk result ((entity table : ℕ) → (contents_of self.new).facts.value entity table ≡ applied_all (rules_of self.old) (contents_of self.old).facts.value entity table) }
-        ensures dispatched { IsTick (situation_of self.old) result (situation_of self.new) }
+        ensures dispatched { IsTick (rules_of self.old) (situation_of self.old) result (situation_of self.new) }
         ensures kept { KeepsEntities (contents_of self.old) (contents_of self.new) }
         ensures rules { rules_of self.new ≡ rules_of self.old }
     {
@@ -200,7 +200,7 @@ impl Store {
     /// `tick`, on the caller's thread.
     pub fn tick_seq(&mut self) -> Result<(), TickError>
         ensures applied { OnOk result ((entity table : ℕ) → (contents_of self.new).facts.value entity table ≡ applied_all (rules_of self.old) (contents_of self.old).facts.value entity table) }
-        ensures dispatched { IsTick (situation_of self.old) result (situation_of self.new) }
+        ensures dispatched { IsTick (rules_of self.old) (situation_of self.old) result (situation_of self.new) }
         ensures kept { KeepsEntities (contents_of self.old) (contents_of self.new) }
         ensures rules { rules_of self.new ≡ rules_of self.old }
     {

@@ -348,6 +348,7 @@ impl<
         ensures allowed { OnOk result (MayAdd (built self.old).known (built self.old).next name.now (texts_of dependencies.now)) }
         ensures no_local { OnOk result ((built inner).locals ≡ []) }
         ensures added { OnOk result (IsBatchAddition (built self.old) (built self.new) name.now (texts_of dependencies.now) (record { reads = C.reads controller; writes = C.writes controller }) (C.time controller) controller (built inner)) }
+        ensures inner_addition { KeepsAdditionIfOrdered (built inner) }
         ensures refused { IfErr result (IsBatchRefusal (built inner).locals (built self.old).known (built self.old).next name.now (texts_of dependencies.now)) }
         ensures unchanged { OnErr result (IsSameBuilt (built self.old) (built self.new)) }
     {
@@ -385,6 +386,7 @@ impl<
         ensures allowed { OnOk result (MayAdd (built self).known (built self).next name.now (texts_of dependencies.now)) }
         ensures no_local { OnOk result ((built inner).locals ≡ []) }
         ensures added { IfOk result (λ after. IsBatchAddition (built self) (built after) name.now (texts_of dependencies.now) (record { reads = C.reads controller; writes = C.writes controller }) (C.time controller) controller (built inner)) }
+        ensures inner_addition { KeepsAdditionIfOrdered (built inner) }
         ensures refused { IfErr result (IsBatchRefusal (built inner).locals (built self).known (built self).next name.now (texts_of dependencies.now)) }
     {
         let mut builder = self;

@@ -69,3 +69,11 @@ module _ {V S C E : Type 0} (kind : V → Kind) (related : Related V S C E) wher
   -- so of a whole plan
   pub agent-steps : {F : Type 0} (depth : ℕ) (answers : ℕ → Answer (StageFault E) → Answer F) (all : Occupants) (plan : model.Plan ResourceId) → AllSteps all (NestedPlanRun (NestedRun kind related depth) answers all plan)
   agent-steps depth answers all plan = plan-steps (NestedRun kind related depth) (nested-steps depth) answers all plan
+
+  -- where a system stands, a run is one step of it
+  pub system-step : (depth : ℕ) (all : Occupants) (access : Access ResourceId) (list : List (NestedRecord V S C E)) (outcome : Outcome E) → all [] ≡ Some a_system → NestedRun kind related depth all access list outcome
+      → (r : NestedRecord V S C E) × (list ≡ r ∷ []) × IsNestedStep kind related.steps of_system (λ ended. done) access outcome r
+  unfolding NestedRun
+  system-step zero all access list outcome stands run = subst (λ (o : Option Occupant). OccupantRun kind related (λ control plan part end. ⊥) o access list outcome) stands run
+  system-step (suc less) all access list outcome stands run =
+      subst (λ (o : Option Occupant). OccupantRun kind related (λ control plan. NestedBatchRun kind related.asks control (NestedPlanRun (NestedRun kind related less) (λ place answer. answer) all plan) related.begins) o access list outcome) stands run

@@ -14,7 +14,7 @@ pub enum DispatchError<E> {
     /// The thread-local system at this place ended with a fault.
     #[error("thread-local system {index}: {fault}")]
     ThreadLocal { index: usize, fault: Fault<E> },
-    /// The stage of this number was refused for memory; those before it are done, and it was not begun.
+    /// The stage of this number was refused for memory; those before it are done, and it was not begun. No dispatch answers it.
     #[error("stage {stage}: out of memory")]
     StageMemory { stage: usize },
 }

@@ -279,8 +279,7 @@ impl<
     }
 
     /// Runs every group, one after the other, each up to the first entry that is not Done, on the caller's thread, and so the
-    /// groups of inner plans. The answer is that of the first group, in order, that is not Done. Where it is `Memory`, the
-    /// stage was refused for memory, and nothing has run; no stage of today asks for any.
+    /// groups of inner plans. The answer is that of the first group, in order, that is not Done; it is never `Memory`.
     pub fn execute_seq(&mut self, world: &mut World<V>) -> Result<(), StageFault<E>>
         ensures { Dispatched V.kind_of (relations_of (lists_of S.reads S.writes C.reads C.writes) S.step C.begins C.asks) stage_answer (stage_over V.kind_of self.old world.old) result (stage_over V.kind_of self.new world.new) }
     {
@@ -323,9 +322,7 @@ where
     /// most that many threads, the caller's among them: of 0 or 1, and of a stage of one group, on the caller's thread
     /// alone. A half whose thread cannot be started runs on the thread that would have started it. A batch hands the number
     /// on: each stage of an inner plan, at every depth, runs on at most so many again, that of its own group among them. The
-    /// answer is that of the first group, in order, that is not Done, whichever refused first in time. Where it is `Memory`,
-    /// the stage was refused for memory, and nothing has run; no stage of today asks for any but that of a thread's start,
-    /// whose refusal is no answer.
+    /// answer is that of the first group, in order, that is not Done, whichever refused first in time; it is never `Memory`.
     pub fn execute<R: Threads + Sync>(
         &mut self,
         rt: &R,

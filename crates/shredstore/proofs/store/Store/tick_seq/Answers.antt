@@ -4,7 +4,7 @@ use Rattle.shred_world.specs.Worlds.{world_held}
 use Rattle.shred.specs.Dispatchers.{dispatcher_over}
 use Rattle.shredstore.specs.Held.{is_live}
 use Rattle.shredstore.specs.Tables.{kind_of, table_id}
-use Rattle.shredstore.proofs.Dispatches.{of-stages, only-live, runs-over, still-runs, tables-kept, tick-applies}
+use Rattle.shredstore.proofs.Dispatches.{of-systems, only-live, runs-over, still-runs, tables-kept, tick-applies, tick-told}
 use Rattle.shredstore.proofs.store.Store.tick_seq.Goals as goal
 
 pub invariant_of-self : goal.invariant_of-self
@@ -26,9 +26,14 @@ invariant_of-self-2 c =
 pub told-requires : goal.told-requires
 told-requires c =
     let old = c.args.self.now in
-    of-stages (dispatcher_over kind_of old.dispatcher old.entities.world) c.dispatched_in_order.result (dispatcher_over kind_of c.dispatched_in_order.new.dispatcher c.dispatched_in_order.new.world) c.dispatched_in_order.ensures
+    of-systems (dispatcher_over kind_of old.dispatcher old.entities.world) c.dispatched_in_order.result (dispatcher_over kind_of c.dispatched_in_order.new.dispatcher c.dispatched_in_order.new.world) c.dispatched_in_order.ensures
 
 pub returns-clause-applied : goal.returns-clause-applied
 returns-clause-applied c =
     let old = c.args.self.now in
     tick-applies old.rules.items (dispatcher_over kind_of old.dispatcher old.entities.world) (dispatcher_over kind_of c.dispatched_in_order.new.dispatcher c.dispatched_in_order.new.world) (∥∥₁_map old.runs_rules (λ runs. runs (world_held kind_of old.entities.world))) c.dispatched_in_order.result c.told.result c.dispatched_in_order.ensures c.told.ensures
+
+pub returns-clause-dispatched : goal.returns-clause-dispatched
+returns-clause-dispatched c =
+    let old = c.args.self.now in
+    tick-told old.rules.items (dispatcher_over kind_of old.dispatcher old.entities.world) (dispatcher_over kind_of c.dispatched_in_order.new.dispatcher c.dispatched_in_order.new.world) (∥∥₁_map old.runs_rules (λ runs. runs (world_held kind_of old.entities.world))) c.dispatched_in_order.result c.told.result c.dispatched_in_order.ensures c.told.ensures

@@ -14,7 +14,7 @@ use Rattle.shred_run.specs.Occupants.{Occupant, Occupants, a_batch, a_system, of
 use Rattle.shred_run.specs.Steps.{Outcome}
 
 module _ {V S C E : Type 0} (kind : V → Kind) (related : Related V S C E) where
-  -- the record is one step of the system that stands there, or one call of the controller of the batch that stands there, under what that declares
+  -- a system stands there, and the record is one step in the relation of systems, under the record's own access; or a batch stands there, and it is one call in the relations of controllers, under the lists that are kept of its controller
   abbrev pub TookStep : Option Occupant → NestedRecord V S C E → Type 0
   TookStep (Some a_system) r = (outcome : Outcome E) × IsNestedStep kind related.steps of_system (λ ended. done) r.access outcome r
   TookStep (Some (a_batch control plan)) r =

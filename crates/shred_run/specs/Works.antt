@@ -56,7 +56,7 @@ module _ {V C X : Type 0} (control_reads control_writes : C → List ResourceId)
 abbrev pub tier_numbers : {V X : Type 0} → Tier V X → List (List ℕ)
 tier_numbers tier = map group_numbers tier.groups.items
 
--- A run of an inner plan: its tiers' turns, in order, up to the first that is not Done. The plan stays, and the ids beside its groups.
+-- A run of an inner plan: its tiers' runs, in order, up to the first that is not Done. The plan stays, and the ids beside its groups.
 pub record InnerRun {V X E : Type 0} (kind : V → Kind) (step : Step V X E) (tiers : List (Tier V X)) (before : Held V) (answer : Answer (StageFault E)) (news : List (Tier V X)) (after : Held V) : Type 0 where
   pub ran : Ran (RunsUpToFault (λ place. StageRun kind step) 0 (tiers_plan tiers)) (configuration_of (listed_states tier_states tiers) before) answer (configuration_of (listed_states tier_states news) after)
   pub same_plan : tiers_plan news ≡ tiers_plan tiers

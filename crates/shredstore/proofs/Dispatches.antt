@@ -140,16 +140,24 @@ module _ (rules : List StoreRule) (before after : RulesOver) (runs : RunsRules r
   itself place path Inner stands (inl own) = own
   itself place path Inner stands (inr (control, plan, batch, deeper)) = absurd (let no = sym stands ∙ batch in cc)
 
-  its-fault : (own : StoreRule) (r : RuleRecord) (overflow : Overflow) → r.before ≡ of_system (record { 0 = own }) → r.outcome ≡ Err (Refused overflow) → TookStep kind_of rule_relations (Some a_system) r → IsFirstOverflow own (values_in r.seen) overflow.entity
-  its-fault own r overflow is ended (Ok ended_fine, step) = absurd (let no = sym step.outcome ∙ ended in cc)
-  its-fault own r overflow is ended (Err fault, step) =
+  its-fault : (own : StoreRule) (r : RuleRecord) (told : Fault Overflow) → r.before ≡ of_system (record { 0 = own }) → r.outcome ≡ Err told → TookStep kind_of rule_relations (Some a_system) r → IsRuleFault own (values_in r.seen) told
+  its-fault own r told is ended (Ok ended_fine, step) = absurd (let no = sym step.outcome ∙ ended in cc)
+  its-fault own r told is ended (Err fault, step) =
       let (old, new, was, after, lies) = step.lies in
       let same : old.0 ≡ own = cc in
-      let told : fault ≡ Refused overflow = cc in
-      subst (λ (rule : StoreRule). IsFirstOverflow rule (values_in r.seen) overflow.entity) same (subst (λ (f : Fault Overflow). IsRuleFault old.0 (values_in r.seen) f) told lies.0.1.0)
+      let same_fault : fault ≡ told = cc in
+      subst (λ (rule : StoreRule). IsRuleFault rule (values_in r.seen) told) same (subst (λ (f : Fault Overflow). IsRuleFault old.0 (values_in r.seen) f) same_fault lies.0.1.0)
 
-  overflow-of : (t : TellsFault dispatch_answer before.plan ran.list answer) (overflow : Overflow) → t.fault ≡ Refused overflow → IsOverflowOf rules ran.list t.entry.id overflow.entity
-  overflow-of t overflow is =
+  -- The rule that stands in the entry, whose step ended with the fault.
+  record ItsStep (t : TellsFault dispatch_answer before.plan ran.list answer) : Type 0 where
+    own : StoreRule
+    at : slice_get rules t.entry.id ≡ Some own
+    agent : entry_at before.plan t.r.agent ≡ Some t.entry
+    its : t.r.before ≡ of_system (record { 0 = own })
+    fault : IsRuleFault own (values_in t.r.seen) t.fault
+
+  its-step : (t : TellsFault dispatch_answer before.plan ran.list answer) → ItsStep t
+  its-step t =
       let place = t.stage ∷ (t.group ∷ (t.place ∷ [])) in
       let (own, told, lists, system, state) = runs.stands place t.entry t.stands in
       let inside = subst (λ (a : Agent). IsWithinEntries (occupants_of before) before.plan a t.r.access) t.inside (among-has (λ r. IsWithinEntries (occupants_of before) before.plan r.agent r.access) ran.within) in
@@ -159,28 +167,55 @@ module _ (rules : List StoreRule) (before after : RulesOver) (runs : RunsRules r
       let its : t.r.before ≡ of_system (record { 0 = own }) = cc in
       let took = among-has (IsAgentStep kind_of rule_relations (occupants_of before)) ran.steps in
       let step = subst (λ (o : Option Occupant). TookStep kind_of rule_relations o (record t.r { agent = [] })) (ap (occupants_of before) at ∙ system) took in
-      record { below = slice_get_within rules t.entry.id own told; own = own; at = told; r = t.r; among = t.among; its = its; first = its-fault own (record t.r { agent = [] }) overflow its (t.ended ∙ ap Err is) step }
+      record { own = own; at = told; agent = ap (entry_at before.plan) at ∙ t.stands; its = its; fault = its-fault own (record t.r { agent = [] }) t.fault its t.ended step }
     where
       among-has : (P : RuleRecord → Type 0) → AllByRecursion P ran.list → P t.r
       among-has P all = All-contains P ran.list t.r (All-from_recursion P ran.list all) t.among
 
-  pub overflow-told : (result : Answer TickError) → Tells answer result → (place entity : ℕ) → result ≡ Err (tick.Overflow place entity) → IsOverflowOf rules ran.list place entity
+  overflow-of : (t : TellsFault dispatch_answer before.plan ran.list answer) (overflow : Overflow) → t.fault ≡ Refused overflow → IsOverflowOf rules before.plan ran.list t.entry.id overflow.entity
+  overflow-of t overflow is =
+      let step = its-step t in
+      record {
+        below = slice_get_within rules t.entry.id step.own step.at;
+        own = step.own;
+        at = step.at;
+        r = t.r;
+        among = t.among;
+        entry = t.entry;
+        stands = step.agent;
+        id = refl;
+        its = step.its;
+        ended = t.ended ∙ ap Err is;
+        first = subst (λ (f : Fault Overflow). IsRuleFault step.own (values_in t.r.seen) f) is step.fault;
+      }
+
+  -- no rule is refused for memory
+  pub never-wants : (result : Answer TickError) → Tells answer result → (place : ℕ) → result ≡ Err (tick.RuleMemory place) → ⊥
+  never-wants result tells place is = of-answer ran.told where
+    of-answer : (answer ≡ Ok tt) ⊎ TellsFault dispatch_answer before.plan ran.list answer → ⊥
+    of-answer (inl over) = let e = subst (λ (a : Answer (DispatchError Overflow)). Tells a result) over tells in let no = sym e ∙ is in absurd (cc)
+    of-answer (inr t) = of-fault t.fault refl where
+      of-fault : (fault : Fault Overflow) → t.fault ≡ fault → ⊥
+      of-fault (Refused overflow) same = absurd (let told = subst₂ Tells (t.told ∙ ap (λ (f : Fault Overflow). Err (dispatch.System (record { 0 = t.entry.id }) f)) same) is tells in let no = told in cc)
+      of-fault OutOfMemory same = let step = its-step t in subst (λ (f : Fault Overflow). IsRuleFault step.own (values_in t.r.seen) f) same step.fault
+
+  pub overflow-told : (result : Answer TickError) → Tells answer result → (place entity : ℕ) → result ≡ Err (tick.Overflow place entity) → IsOverflowOf rules before.plan ran.list place entity
   overflow-told result tells place entity is = of-answer ran.told where
-    of-answer : (answer ≡ Ok tt) ⊎ TellsFault dispatch_answer before.plan ran.list answer → IsOverflowOf rules ran.list place entity
+    of-answer : (answer ≡ Ok tt) ⊎ TellsFault dispatch_answer before.plan ran.list answer → IsOverflowOf rules before.plan ran.list place entity
     of-answer (inl over) = absurd (let e = subst (λ (a : Answer (DispatchError Overflow)). Tells a result) over tells in let no = sym e ∙ is in cc)
     of-answer (inr t) = of-fault t.fault refl where
-      of-fault : (fault : Fault Overflow) → t.fault ≡ fault → IsOverflowOf rules ran.list place entity
+      of-fault : (fault : Fault Overflow) → t.fault ≡ fault → IsOverflowOf rules before.plan ran.list place entity
       of-fault (Refused overflow) same =
           let told = subst₂ Tells (t.told ∙ ap (λ (f : Fault Overflow). Err (dispatch.System (record { 0 = t.entry.id }) f)) same) is tells in
           let id : t.entry.id ≡ place = cc in
           let its : overflow.entity ≡ entity = cc in
-          subst₂ (IsOverflowOf rules ran.list) id its (overflow-of t overflow same)
+          subst₂ (IsOverflowOf rules before.plan ran.list) id its (overflow-of t overflow same)
       of-fault OutOfMemory same = absurd (let told = subst₂ Tells (t.told ∙ ap (λ (f : Fault Overflow). Err (dispatch.System (record { 0 = t.entry.id }) f)) same) is tells in let no = told in cc)
 
 -- what a tick tells
 pub tick-told : (rules : List StoreRule) (before after : RulesOver) → ∥ RunsRules rules before ∥₁ → (answer : Answer (DispatchError Overflow)) (result : Answer TickError) → IsDispatch before answer after → Tells answer result → IsTick rules before result after
 tick-told rules before after runs answer result ran tells =
-    record { answer = answer; dispatch = ran; tells = tells; overflow = λ place entity is. ∥∥₁_map runs (λ r. overflow-told rules before after r answer ran result tells place entity is) }
+    record { answer = answer; dispatch = ran; tells = tells; overflow = λ place entity is. ∥∥₁_map runs (λ r. overflow-told rules before after r answer ran result tells place entity is); no_want = λ place is. ∥∥₁_elim runs (Prim.hlevel props) (λ r. never-wants rules before after r answer ran result tells place is) }
 
 applies : (old new : Plain StoreRule) (seen left : Held (Only Pairs)) → rule_relations.steps old seen (Ok tt) new left → (new ≡ old) × ((entity table : ℕ) → values_in left entity table ≡ applied old.0 (values_in seen) entity table)
 applies old new seen left lies = (ap (λ (s : StoreRule). record { 0 = s }) lies.0.0, lies.0.1.1)

@@ -1,5 +1,6 @@
 -- How a tick ends.
 use Rattle.std.specs.Prelude.{◌≡◌, ◌<◌, ℕ, List, length, slice_get, Contains, Some, Ok, Err}
+use Rattle.shred_model.specs.Plan.{Plan, PlanEntry, entry_at}
 use Rattle.shred_model.specs.Runs.{Answer}
 use Rattle.shred_run.specs.Dispatched.{Dispatched}
 use Rattle.shred_run.specs.NestedRecords.{NestedRecord}
@@ -18,6 +19,7 @@ use Rattle.shredstore.specs.Rules.{IsFirstOverflow}
 use Rattle.shredstore.specs.Tables.{kind_of, values_in}
 use Rattle.shredstore.specs.declared.rule.StoreRule.{StoreRule}
 use Rattle.shred.specs.declared.plain.Plain.{Plain}
+use Rattle.shred_table.specs.declared.id.ResourceId.{ResourceId}
 use Rattle.shred_table.specs.declared.only.Only.{Only}
 
 -- an answer that is told of systems alone, and of no stage or thread-local system
@@ -47,19 +49,24 @@ Tells (Err refused) (Err error) = TellsError refused error
 abbrev pub RuleRecord : Type 0
 RuleRecord = NestedRecord (Only Pairs) (Plain StoreRule) (NoBatch rule.Overflow) rule.Overflow
 
--- The rule at this place took one of the steps. Of the values that it saw there, the entity is the least whose sum does not fit.
-pub record IsOverflowOf (rules : List StoreRule) (list : List RuleRecord) (place entity : ℕ) : Type 0 where
+-- The rule at this place took one of the steps, in the entry of the plan whose id is the place, and was refused for the entity. Of the values that it saw there, that is the least whose sum does not fit.
+pub record IsOverflowOf (rules : List StoreRule) (plan : Plan ResourceId) (list : List RuleRecord) (place entity : ℕ) : Type 0 where
   pub below : place < length rules
   pub own : StoreRule
   pub at : slice_get rules place ≡ Some own
   pub r : RuleRecord
   pub among : Contains list r
+  pub entry : PlanEntry ResourceId
+  pub stands : entry_at plan r.agent ≡ Some entry
+  pub id : entry.id ≡ place
   pub its : r.before ≡ of_system (record { 0 = own })
+  pub ended : r.outcome ≡ Err (Refused (record { entity = entity }))
   pub first : IsFirstOverflow own (values_in r.seen) entity
 
--- The plan of the rules was dispatched, and this was told of its answer; an `Overflow` is one of the rule that it names.
+-- The plan of the rules was dispatched, and this was told of its answer; an `Overflow` is one of the rule that it names, and no rule wants memory.
 pub record IsTick (rules : List StoreRule) (before : RulesOver) (result : Answer TickError) (after : RulesOver) : Type 0 where
   pub answer : Answer (DispatchError rule.Overflow)
   pub dispatch : IsDispatch before answer after
   pub tells : Tells answer result
-  pub overflow : (place entity : ℕ) → result ≡ Err (Overflow place entity) → ∥ IsOverflowOf rules dispatch.list place entity ∥₁
+  pub overflow : (place entity : ℕ) → result ≡ Err (Overflow place entity) → ∥ IsOverflowOf rules before.plan dispatch.list place entity ∥₁
+  pub no_want : (place : ℕ) → result ≡ Err (RuleMemory place) → ⊥

@@ -26,7 +26,7 @@ pub enum TickError {
     /// The stage of this number was refused for memory; those before it are done, and it was not begun. No tick answers it.
     #[error("stage {stage}: out of memory")]
     Memory { stage: usize },
-    /// The rule at this place was refused for memory, and changed nothing.
+    /// The rule at this place was refused for memory, and changed nothing. No tick answers it.
     #[error("rule {rule}: out of memory")]
     RuleMemory { rule: usize },
 }

@@ -209,7 +209,7 @@ impl<
     E: Drop,
 > Dispatcher<V, S, C, L> {
     /// Runs the stages, one after the other, up to the first that is not Done, on the caller's thread, and so inner plans. It
-    /// takes no memory but what its systems take.
+    /// takes no memory but what its systems and controllers take.
     pub fn dispatch_seq(&mut self, world: &mut World<V>) -> Result<(), DispatchError<E>>
         ensures dispatched { Dispatched V.kind_of (relations_of (lists_of S.reads S.writes C.reads C.writes) S.step C.begins C.asks) dispatch_answer (dispatcher_over V.kind_of self.old world.old) result (dispatcher_over V.kind_of self.new world.new) }
         ensures locals { dispatcher_locals self.new ≡ dispatcher_locals self.old }
@@ -315,7 +315,7 @@ where
 {
     /// Runs the stages, one after the other, up to the first that is not Done, the groups of each beside each other on at
     /// most as many threads as the dispatcher was given, the caller's among them. A batch hands that number on to its inner
-    /// plan. A half whose thread cannot be started runs on the caller's thread.
+    /// plan. A half whose thread cannot be started runs on the thread that would have started it.
     pub fn dispatch_par<R: Threads + Sync>(
         &mut self,
         rt: &R,

@@ -1,0 +1,93 @@
+//! The threads of workers.
+ghost use Rattle.std.specs.Prelude.{◌≡◌, ℕ, IfOk};
+ghost use Rattle.std.specs.Arc.{arc_value};
+
+use crate::place::{Idle, Place};
+use crate::workers::Workers;
+use shred_hatch::{Job, Runner, open};
+use std::alloc::{AllocError, Global};
+use std::marker::Model;
+use std::sync::{Arc, Wait};
+use std::thread;
+use std::thread::{JoinHandle, Threads};
+
+/// The threads of workers. Dropping it ends them, and waits until they have ended. Contracts see it as how many places there are.
+pub struct Pool<J: Job, R: Threads + Wait> {
+    workers: Arc<Workers<J>>,
+    threads: Vec<JoinHandle<()>>,
+    rt: R,
+}
+
+impl<J: Job, R: Threads + Wait> Model for Pool<J, R> {
+    ghost Value = { ℕ };
+
+    ghost view = { λ pool. arc_value pool.workers };
+}
+
+impl<J: Job + Drop, R: Threads + Wait + Drop> Drop for Pool<J, R> {
+    fn drop(self) {
+        let Self {
+            workers,
+            threads,
+            rt,
+        } = self;
+        workers.close(&rt);
+        for thread in threads {
+            thread.join(&rt);
+        }
+    }
+}
+
+// Starts the worker of a place. None where its thread or memory is refused.
+fn start_worker<
+    J: Job + Drop + Send + 'static,
+    R: Threads + Wait + Clone + Send + 'static,
+    X: Runner<J> + Clone + Send + 'static,
+>(rt: &R, alloc: Global, place: &Place<J>, looks: u32, runner: &X) -> Option<JoinHandle<()>> {
+    let (caller, worker) = open(alloc).ok()?;
+    let idle = Idle::new(caller);
+    let runtime = rt.clone().ok()?;
+    let own = runner.clone().ok()?;
+    let thread = thread::spawn(rt, move || worker.serve(&runtime, looks, &own)).ok()?;
+    place.fill(rt, idle);
+    Some(thread)
+}
+
+impl<J: Job + Drop + Send + 'static, R: Threads + Wait + Clone + Send + 'static> Pool<J, R> {
+    /// Starts a thread for each place, up to the first that is refused: who hands out jobs finds no worker at the places that are left.
+    /// Each worker runs jobs by a clone of the runner.
+    pub fn start<X: Runner<J> + Clone + Send + 'static>(
+        rt: &R,
+        alloc: Global,
+        workers: Arc<Workers<J>>,
+        runner: &X,
+    ) -> Result<Pool<J, R>, AllocError>
+        ensures { IfOk result (λ pool. pool ≡ arc_value workers) }
+    {
+        let places = workers.clone()?;
+        let mut pool = Pool {
+            workers,
+            threads: Vec::with_capacity(alloc, places.places().len())?,
+            rt: rt.clone()?,
+        };
+        for place in places.places() {
+            let Some(thread) = start_worker(rt, alloc, place, places.looks(), runner) else {
+                break;
+            };
+            pool.threads.push(thread)?;
+        }
+        Ok(pool)
+    }
+
+    /// The workers, for who hands them jobs.
+    pub fn workers(&self) -> &Workers<J>
+        ensures { result.now ≡ self.now }
+    {
+        &self.workers
+    }
+
+    /// How many threads were started.
+    pub fn len(&self) -> usize {
+        self.threads.len()
+    }
+}

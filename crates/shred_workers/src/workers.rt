@@ -1,0 +1,69 @@
+//! The workers of a pool, as those see them who hand them jobs.
+ghost use Rattle.std.specs.Prelude.{◌≡◌, ℕ, All, IfOk, length, vec_capacity};
+ghost use Rattle.std.specs.List.{AllZip};
+
+use crate::lanes::run_lanes;
+use crate::place::Place;
+use shred_hatch::{Job, Runner};
+use std::alloc::{AllocError, Global};
+use std::marker::Model;
+use std::sync::Wait;
+
+/// How often who waits looks before it sleeps, where a caller has no number of its own.
+pub const DEFAULT_LOOKS: u32 = 1000;
+
+/// The places of workers, which all share who hand them jobs. Contracts see it as how many there are.
+#[derive(Drop)]
+pub struct Workers<J: Job> {
+    places: Vec<Place<J>>,
+    looks: u32,
+}
+
+impl<J: Job> Model for Workers<J> {
+    ghost Value = { ℕ };
+
+    ghost view = { λ workers. length workers.places.items };
+}
+
+impl<J: Job + Drop> Workers<J> {
+    /// Places for so many workers, whom a `Pool` starts. Who waits, a worker or a caller, looks `looks` times before it sleeps.
+    pub fn new(alloc: Global, count: usize, looks: u32) -> Result<Workers<J>, AllocError>
+        ensures { IfOk result (λ workers. workers ≡ count) }
+    {
+        let mut places = Vec::with_capacity(alloc, count)?;
+        for _ in 0..count {
+            places.push(Place::new())?;
+        }
+        Ok(Workers { places, looks })
+    }
+
+    /// The places, for who hands out jobs one by one.
+    pub fn places(&self) -> &[Place<J>]
+        ensures { length result.now ≡ self.now }
+    {
+        self.places.as_slice()
+    }
+
+    /// How often who waits looks before it sleeps.
+    pub fn looks(&self) -> u32 {
+        self.looks
+    }
+
+    /// Runs every lane once: each of the last ones on a worker that is free, and the rest on the caller's thread. The lanes come back in
+    /// the order in which they were given, each as a run of it left it. It takes no memory, and waits for no worker but for those that
+    /// it handed a lane.
+    pub fn run<R: Wait, X: Runner<J>>(&self, rt: &R, runner: &X, lanes: &mut Vec<J>)
+        requires { All J.ready lanes.old.items }
+        ensures ran { AllZip J.ran lanes.old.items lanes.new.items }
+        ensures room { vec_capacity lanes.new ≡ vec_capacity lanes.old }
+    {
+        run_lanes(rt, self.places.as_slice(), self.looks, runner, lanes);
+    }
+
+    // Ends each worker, now or when it is given back.
+    pub(crate) fn close<R: Wait>(&self, rt: &R) {
+        for place in &self.places {
+            place.close(rt);
+        }
+    }
+}

@@ -1,4 +1,21 @@
-//! Workers that are kept, and lanes that run beside each other on them.
+//! Workers that are kept: threads that are started once, and run one job after the other, beside the thread that hands them out.
+//!
+//! A type of jobs says what is known of a job before its run and after, and a runner runs one:
+//!
+//!     impl Job for Number {
+//!         ghost ready = { λ _. ⊤ };
+//!
+//!         ghost ran = { λ before after. after.value ≡ tripled before.value };
+//!     }
+//!
+//! Then a list of jobs is run on the workers of a pool and on the caller's thread:
+//!
+//!     let workers = Arc::new(alloc, Workers::new(alloc, 3, DEFAULT_LOOKS)?)?;
+//!     let pool = Pool::start(&rt, alloc, workers, &Triples)?;
+//!     pool.workers().run(&rt, &Triples, &mut numbers);
+//!
+//! `run` ensures that each number is tripled, in order, for every number of workers, 0 among them: `triple_all` of `shredtest_workers`
+//! concludes it. `leaves`, there too, hands out jobs one by one, from within a job.
 #![tactic(auto)]
 
 mod lanes;

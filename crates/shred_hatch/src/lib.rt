@@ -19,6 +19,4 @@ mod worker;
 
 pub use caller::{Caller, open};
 pub use job::{Job, Runner};
-pub use plays::OneJob;
-pub use view::View;
 pub use worker::Worker;

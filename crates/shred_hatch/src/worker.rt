@@ -25,6 +25,15 @@ impl<J: Job> Model for Worker<J> {
     ghost invariant = { λ worker. IsWorker (arc_value worker.line).table.shared.table_id worker.seat };
 }
 
+fn run_once<J: Job, R: Wait, X: Runner<J>>(rt: &R, runner: &X, job: J) -> J
+    requires { J.ready job }
+    ensures { J.ran job result }
+{
+    let mut job = job;
+    runner.run(rt, &mut job);
+    job
+}
+
 // Runs the job that was fetched, and gives it back.
 fn work<J: Job, R: Wait, X: Runner<J>>(rt: &R, row: &Row<J>, seat: &mut End<J>, runner: &X)
     requires row { IsEnd row.now.table_id seat.old }
@@ -32,9 +41,9 @@ fn work<J: Job, R: Wait, X: Runner<J>>(rt: &R, row: &Row<J>, seat: &mut End<J>, 
     ensures row { seat.new.table_id ≡ seat.old.table_id }
     ensures seat { finished seat.new.me }
 {
-    let mut job = row.exchange(seat, 0, None).unwrap();
-    runner.run(rt, &mut job);
-    match row.exchange(seat, 0, Some(job)) {
+    let job = row.exchange(seat, 0, None).unwrap();
+    let done = run_once(rt, runner, job);
+    match row.exchange(seat, 0, Some(done)) {
         None => {}
         Some(_) => unreachable!(),
     }

@@ -14,4 +14,4 @@ store-requires g c =
     let same : c.unwrap-job.result ≡ x = cc in
     let out = now_in_slot _ _ _ _ _ c.requires.seat.1 c.exchange.ensures.3 in
     let in_again = now_in_slot _ _ _ _ _ out c.exchange-2.ensures.3 in
-    (search rules, search rules, finishes g.J.Job.ready g.J.Job.ran _ _ _ x c.run.new.job in_again (subst (λ v. g.J.Job.ran v c.run.new.job) same c.run.ensures))
+    (search rules, search rules, finishes g.J.Job.ready g.J.Job.ran _ _ _ x c.run_once-done.result in_again (subst (λ v. g.J.Job.ran v c.run_once-done.result) same c.run_once-done.ensures))

@@ -1,27 +1,20 @@
 //! The threads of workers.
-ghost use Rattle.std.specs.Prelude.{◌≡◌, ℕ, IfOk};
+ghost use Rattle.std.specs.Prelude.{◌≡◌, IfOk, vec_len};
 ghost use Rattle.std.specs.Arc.{arc_value};
 
 use crate::place::{Idle, Place};
 use crate::workers::Workers;
 use shred_hatch::{Job, Runner, open};
 use std::alloc::{AllocError, Global};
-use std::marker::Model;
 use std::sync::{Arc, Wait};
 use std::thread;
 use std::thread::{JoinHandle, Threads};
 
-/// The threads of workers. Dropping it ends them, and waits until they have ended. Contracts see it as how many places there are.
+/// The threads of workers. Dropping it ends them, and waits until they have ended.
 pub struct Pool<J: Job, R: Threads + Wait> {
     workers: Arc<Workers<J>>,
     threads: Vec<JoinHandle<()>>,
     rt: R,
-}
-
-impl<J: Job, R: Threads + Wait> Model for Pool<J, R> {
-    ghost Value = { ℕ };
-
-    ghost view = { λ pool. arc_value pool.workers };
 }
 
 impl<J: Job + Drop, R: Threads + Wait + Drop> Drop for Pool<J, R> {
@@ -62,7 +55,7 @@ impl<J: Job + Drop + Send + 'static, R: Threads + Wait + Clone + Send + 'static>
         workers: Arc<Workers<J>>,
         runner: &X,
     ) -> Result<Pool<J, R>, AllocError>
-        ensures { IfOk result (λ pool. pool ≡ arc_value workers) }
+        ensures { IfOk result (λ pool. arc_value pool.workers ≡ arc_value workers) }
     {
         let places = workers.clone()?;
         let mut pool = Pool {
@@ -81,13 +74,15 @@ impl<J: Job + Drop + Send + 'static, R: Threads + Wait + Clone + Send + 'static>
 
     /// The workers, for who hands them jobs.
     pub fn workers(&self) -> &Workers<J>
-        ensures { result.now ≡ self.now }
+        ensures { result.now ≡ arc_value self.now.workers }
     {
         &self.workers
     }
 
     /// How many threads were started.
-    pub fn len(&self) -> usize {
+    pub fn len(&self) -> usize
+        ensures { result ≡ vec_len self.now.threads }
+    {
         self.threads.len()
     }
 }

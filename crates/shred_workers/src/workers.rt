@@ -12,7 +12,7 @@ use std::sync::Wait;
 /// How often who waits looks before it sleeps, where a caller has no number of its own.
 pub const DEFAULT_LOOKS: u32 = 1000;
 
-/// The places of workers, which all share who hand them jobs. Contracts see it as how many there are.
+/// The places of workers, which all share who hand them jobs. Contracts see it as how many there are, and how often who waits looks.
 #[derive(Drop)]
 pub struct Workers<J: Job> {
     places: Vec<Place<J>>,
@@ -20,15 +20,15 @@ pub struct Workers<J: Job> {
 }
 
 impl<J: Job> Model for Workers<J> {
-    ghost Value = { ℕ };
+    ghost Value = { ℕ × ℕ };
 
-    ghost view = { λ workers. length workers.places.items };
+    ghost view = { λ workers. (length workers.places.items, workers.looks) };
 }
 
 impl<J: Job + Drop> Workers<J> {
     /// Places for so many workers, whom a `Pool` starts. Who waits, a worker or a caller, looks `looks` times before it sleeps.
     pub fn new(alloc: Global, count: usize, looks: u32) -> Result<Workers<J>, AllocError>
-        ensures { IfOk result (λ workers. workers ≡ count) }
+        ensures { IfOk result (λ workers. workers ≡ (count, looks)) }
     {
         let mut places = Vec::with_capacity(alloc, count)?;
         for _ in 0..count {
@@ -39,13 +39,15 @@ impl<J: Job + Drop> Workers<J> {
 
     /// The places, for who hands out jobs one by one.
     pub fn places(&self) -> &[Place<J>]
-        ensures { length result.now ≡ self.now }
+        ensures { length result.now ≡ self.now.0 }
     {
         self.places.as_slice()
     }
 
     /// How often who waits looks before it sleeps.
-    pub fn looks(&self) -> u32 {
+    pub fn looks(&self) -> u32
+        ensures { result ≡ self.now.1 }
+    {
         self.looks
     }
 

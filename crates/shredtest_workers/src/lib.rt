@@ -9,5 +9,7 @@ mod gates;
 mod refusals;
 #[cfg(test)]
 mod rows;
+#[cfg(test)]
+mod started;
 pub mod tree;
 pub mod tripled;

@@ -71,15 +71,16 @@ fn all_meet<R: Threads + Wait + Clone + Drop + Send + 'static>(
     let count = usize::try_from(wanted).unwrap_or(1).saturating_sub(1);
     let workers = Arc::new(alloc, Workers::new(alloc, count, looks)?)?;
     let pool = Pool::start(rt, alloc, workers, &Meets)?;
-    let mut all = true;
     for _ in 0..100 {
         let mut lanes = guests(alloc, wanted)?;
         pool.workers().run(rt, &Meets, &mut lanes);
         for guest in &lanes {
-            all = all && guest.met;
+            if !guest.met {
+                return Ok(false);
+            }
         }
     }
-    Ok(all)
+    Ok(true)
 }
 
 #[test]

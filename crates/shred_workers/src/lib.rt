@@ -23,6 +23,5 @@ mod place;
 mod pool;
 mod workers;
 
-pub use place::Place;
 pub use pool::Pool;
 pub use workers::{DEFAULT_LOOKS, Workers};

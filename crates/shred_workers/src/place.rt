@@ -42,7 +42,7 @@ enum State<J: Job> {
 
 /// The place of a worker: it is free, or it is out, or the pool is closed.
 #[derive(Drop)]
-pub struct Place<J: Job> {
+pub(crate) struct Place<J: Job> {
     state: Mutex<State<J>>,
 }
 
@@ -53,8 +53,7 @@ impl<J: Job + Drop> Place<J> {
         }
     }
 
-    /// The worker, if it is free. It never waits: where another thread looks at the place just now, the answer is None too.
-    pub fn take(&self) -> Option<Caller<J>>
+    pub(crate) fn take(&self) -> Option<Caller<J>>
         ensures { IfSome result (λ caller. caller ≡ None) }
     {
         let mut state = self.state.try_lock()?;
@@ -68,8 +67,7 @@ impl<J: Job + Drop> Place<J> {
         }
     }
 
-    /// Gives the worker of this place back. Where the pool is closed meanwhile, it ends.
-    pub fn give_back<R: Wait>(&self, rt: &R, caller: Caller<J>)
+    pub(crate) fn give_back<R: Wait>(&self, rt: &R, caller: Caller<J>)
         requires { caller ≡ None }
     {
         self.fill(rt, Idle::new(caller));

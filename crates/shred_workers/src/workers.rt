@@ -1,10 +1,10 @@
 //! The workers of a pool, as those see them who hand them jobs.
-ghost use Rattle.std.specs.Prelude.{◌≡◌, ℕ, All, IfOk, length, vec_capacity};
+ghost use Rattle.std.specs.Prelude.{◌≡◌, ℕ, All, None, IfOk, IfSome, length, vec_capacity};
 ghost use Rattle.std.specs.List.{AllZip};
 
 use crate::lanes::run_lanes;
 use crate::place::Place;
-use shred_hatch::{Job, Runner};
+use shred_hatch::{Caller, Job, Runner};
 use std::alloc::{AllocError, Global};
 use std::marker::Model;
 use std::sync::Wait;
@@ -37,11 +37,28 @@ impl<J: Job + Drop> Workers<J> {
         Ok(Workers { places, looks })
     }
 
-    /// The places, for who hands out jobs one by one.
-    pub fn places(&self) -> &[Place<J>]
-        ensures { length result.now ≡ self.now.0 }
+    /// How many places there are.
+    pub fn len(&self) -> usize
+        ensures { result ≡ self.now.0 }
     {
-        self.places.as_slice()
+        self.places.len()
+    }
+
+    /// The worker of a place, if it is free. It never waits: where another thread looks at the place just now, the answer is None too.
+    pub fn take(&self, place: usize) -> Option<Caller<J>>
+        ensures { IfSome result (λ caller. caller ≡ None) }
+    {
+        self.places.get(place)?.take()
+    }
+
+    /// Gives the worker of a place back. Where the pool is closed meanwhile, or has no such place, it ends.
+    pub fn give_back<R: Wait>(&self, rt: &R, place: usize, caller: Caller<J>)
+        requires { caller ≡ None }
+    {
+        match self.places.get(place) {
+            Some(place) => place.give_back(rt, caller),
+            None => caller.end(),
+        }
     }
 
     /// How often who waits looks before it sleeps.
@@ -60,6 +77,10 @@ impl<J: Job + Drop> Workers<J> {
         ensures room { vec_capacity lanes.new ≡ vec_capacity lanes.old }
     {
         run_lanes(rt, self.places.as_slice(), self.looks, runner, lanes);
+    }
+
+    pub(crate) fn places(&self) -> &[Place<J>] {
+        self.places.as_slice()
     }
 
     // Ends each worker, now or when it is given back.

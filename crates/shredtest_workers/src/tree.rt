@@ -40,15 +40,15 @@ pub fn leaves<R: Wait>(rt: &R, workers: &Workers<Tree>, depth: u32) -> u64
         return 1;
     }
     let half = depth - 1;
-    for place in workers.places() {
-        if let Some(mut worker) = place.take() {
+    for place in 0..workers.len() {
+        if let Some(mut worker) = workers.take(place) {
             worker.send(Tree {
                 depth: half,
                 leaves: 0,
             });
             let here = leaves(rt, workers, half);
             let there = worker.collect(rt, workers.looks()).leaves;
-            place.give_back(rt, worker);
+            workers.give_back(rt, place, worker);
             return here.wrapping_add(there);
         }
     }

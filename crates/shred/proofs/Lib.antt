@@ -1,2 +1,3 @@
 pub mod Planner
 pub mod Names
+pub mod Setups

@@ -7,11 +7,11 @@ use Rattle.shred_run.specs.Alone.{KeepsKinds}
 use Rattle.shred_run.specs.Depths.{Related}
 use Rattle.shred_run.specs.Dispatched.{Dispatched}
 use Rattle.shred_run.specs.Steps.{Step}
-use Rattle.shred_run.specs.declared.work.Nested.{Nested}
-use Rattle.shred_run.specs.declared.work.Work.{Work}
+use Rattle.shred_run.specs.WorkSetups.{Setups}
 use Rattle.shred_stage.specs.Situations.{dispatch_answer}
 use Rattle.shred_stage.specs.declared.dispatch.dispatch_error.DispatchError.{DispatchError}
 use Rattle.shred.specs.Dispatchers.{dispatcher_locals, dispatcher_with, dispatcher_workers}
+use Rattle.shred.specs.FullRuns.{whole_with}
 use Rattle.shred.specs.LocalRuns.{LocalsRun}
 use Rattle.shred.specs.Setups.{IsSetUp}
 use Rattle.shred.specs.declared.dispatch.dispatcher.Dispatcher.{Dispatcher}
@@ -36,5 +36,5 @@ module _ {V S C L E N A M B : Type 0} {vd : _} {sd : _} {ad : _} {cd : _} {bd : 
     pub workers : dispatcher_workers after.dispatcher ≡ dispatcher_workers before.dispatcher
 
   -- the dispatcher was set up over the values
-  abbrev pub SetUpOver : Step V (Work S (Nested V S C)) E → Step V L E → Over V (Dispatcher V S C L N A M B vd sd ad cd bd) → Answer (DispatchError E) → Over V (Dispatcher V S C L N A M B vd sd ad cd bd) → Type 0
-  SetUpOver staged local before answer after = IsSetUp staged local before.dispatcher before.values answer after.dispatcher after.values
+  abbrev pub SetUpOver : Setups V S C E → Step V L E → Over V (Dispatcher V S C L N A M B vd sd ad cd bd) → Answer (DispatchError E) → Over V (Dispatcher V S C L N A M B vd sd ad cd bd) → Type 0
+  SetUpOver setups local before answer after = IsSetUp setups local (whole_with before.dispatcher before.values) answer (whole_with after.dispatcher after.values)

@@ -1,7 +1,7 @@
 //! The setup of an asynchronous dispatcher.
 ghost use Rattle.std.specs.Prelude.{◌≡◌, ℕ};
 ghost use Rattle.shred_run.specs.Depths.{lists_of, relations_of};
-ghost use Rattle.shred_run.specs.WorkSetups.{OwnSetup};
+ghost use Rattle.shred_run.specs.WorkSetups.{setups_of};
 ghost use Rattle.shred_async.specs.Parts.{PlanRan, SetUpOver};
 ghost use Rattle.shred_async.specs.Standing.{over, state_of};
 ghost use Rattle.shred_async.specs.Steps.{SetsUp};
@@ -25,7 +25,7 @@ fn set_up_home<
     L: RunNow<V, Error = E> + Drop,
     E: Drop,
 >(home: &mut Home<V, S, C>, thread_local: &mut ThreadLocal<L>) -> Result<(), DispatchError<E>>
-    ensures set_up { (workers : ℕ) → SetUpOver (OwnSetup S.sets_up C.sets_up) L.sets_up (over V.kind_of home.old.stages thread_local.old workers home.old.world) result (over V.kind_of home.new.stages thread_local.new workers home.new.world) }
+    ensures set_up { (workers : ℕ) → SetUpOver (setups_of (lists_of S.reads S.writes C.reads C.writes) S.sets_up C.sets_up) L.sets_up (over V.kind_of home.old.stages thread_local.old workers home.old.world) result (over V.kind_of home.new.stages thread_local.new workers home.new.world) }
     ensures untold { home.new.untold ≡ home.old.untold }
 {
     match set_up_stages(home.stages.as_mut_slice(), &mut home.world) {
@@ -45,7 +45,7 @@ impl<
     /// thread-local systems, up to the first that is not Done, which the answer tells. What was done before it stays, and a
     /// refusal of the last run that was not told yet stays so. `Lost` where a run could not be started before.
     pub fn setup<R: Threads>(&mut self, rt: &R) -> Result<(), AsyncError<E>>
-        ensures { SetsUp (PlanRan V.kind_of (relations_of (lists_of S.reads S.writes C.reads C.writes) S.step C.begins C.asks)) (SetUpOver (OwnSetup S.sets_up C.sets_up) L.sets_up) (state_of V.kind_of self.old) result (state_of V.kind_of self.new) }
+        ensures { SetsUp (PlanRan V.kind_of (relations_of (lists_of S.reads S.writes C.reads C.writes) S.step C.begins C.asks)) (SetUpOver (setups_of (lists_of S.reads S.writes C.reads C.writes) S.sets_up C.sets_up) L.sets_up) (state_of V.kind_of self.old) result (state_of V.kind_of self.new) }
     {
         self.join(rt);
         match &mut self.place {

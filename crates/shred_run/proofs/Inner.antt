@@ -42,7 +42,7 @@ use Rattle.shred_run.specs.declared.entry.StageFault.{StageFault}
 use Rattle.shred_run.specs.Steps.{Outcome, Step}
 use Rattle.shred_run.specs.Setups.{AreSetUp}
 use Rattle.shred_run.specs.Owned.{HasOwnGroups, IsOwned, StaysOwned, StayTiers}
-use Rattle.shred_run.specs.WorkSetups.{BatchSetup, WorkSetup, BatchDisposal, WorkDisposal}
+use Rattle.shred_run.specs.WorkSetups.{BatchSetup, Setups, WorkSetup, BatchDisposal, WorkDisposal}
 
 -- Kept lists have the ids that were declared.
 
@@ -253,18 +253,18 @@ module _ {V S C : Type 0} (declared : Declared S C) where
       let same : down.0 ≡ less = let one = down.1 in omega (arith, one, deeper) in
       (down.2, subst (λ (n : ℕ). All (HasOwnGroups (Owns declared n)) (batch_of nested).tiers.items) same down.3)
 
-module _ {V S C E : Type 0} (system : Step V S E) (control : Step V C E) where
-  pub system-setup : (depth : ℕ) (work : Work S (Nested V S C)) (old : S) → work ≡ System old → (before : Held V) (outcome : Outcome E) (new : S) (after : Held V) → system old before outcome new after → WorkSetup system control depth work before outcome (System new) after
+module _ {V S C E : Type 0} (setups : Setups V S C E) where
+  pub system-setup : (depth : ℕ) (work : Work S (Nested V S C)) (old : S) → work ≡ System old → (before : Held V) (outcome : Outcome E) (new : S) (after : Held V) → setups.systems old before outcome new after → WorkSetup setups depth work before outcome (System new) after
   unfolding WorkSetup
-  system-setup depth work old is before outcome new after one = subst (λ (w : Work S (Nested V S C)). WorkSetup system control depth w before outcome (System new) after) (sym is) one
+  system-setup depth work old is before outcome new after one = subst (λ (w : Work S (Nested V S C)). WorkSetup setups depth w before outcome (System new) after) (sym is) one
 
   pub batch-setup : (depth less : ℕ) → depth ≡ suc less → (work : Work S (Nested V S C)) (nested left : Nested V S C) → work ≡ Batch nested → (ended : OneBatch V C (Work S (Nested V S C))) → batch_of left ≡ ended → (before : Held V) (outcome : Outcome E) (after : Held V)
-      → BatchSetup (WorkSetup system control less) control (batch_of nested) before outcome ended after → WorkSetup system control depth work before outcome (Batch left) after
+      → BatchSetup (WorkSetup setups less) setups.controllers (batch_of nested) before outcome ended after → WorkSetup setups depth work before outcome (Batch left) after
   unfolding WorkSetup
   batch-setup depth less deeper work nested left is_batch ended is before outcome after one =
-      subst (λ (w : Work S (Nested V S C)). WorkSetup system control depth w before outcome (Batch left) after) (sym is_batch)
-      (subst (λ (n : ℕ). WorkSetup system control n (Batch nested) before outcome (Batch left) after) (sym deeper)
-      (subst (λ (b : OneBatch V C (Work S (Nested V S C))). BatchSetup (WorkSetup system control less) control (batch_of nested) before outcome b after) (sym is) one))
+      subst (λ (w : Work S (Nested V S C)). WorkSetup setups depth w before outcome (Batch left) after) (sym is_batch)
+      (subst (λ (n : ℕ). WorkSetup setups n (Batch nested) before outcome (Batch left) after) (sym deeper)
+      (subst (λ (b : OneBatch V C (Work S (Nested V S C))). BatchSetup (WorkSetup setups less) setups.controllers (batch_of nested) before outcome b after) (sym is) one))
 
 module _ {V X E : Type 0} (own : X → List ResourceId → List ResourceId → Type 0) (setup : Step V X E) where
   -- a tier's groups were set up

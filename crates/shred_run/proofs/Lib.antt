@@ -5,3 +5,4 @@ pub mod Groups
 pub mod Inner
 pub mod Paths
 pub mod Runs
+pub mod Setups

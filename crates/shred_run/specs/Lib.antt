@@ -7,6 +7,7 @@ pub mod Calls
 pub mod Controls
 pub mod Depths
 pub mod Entries
+pub mod EntrySetups
 pub mod Faults
 pub mod Hands
 pub mod Kept
@@ -26,6 +27,7 @@ pub mod OwnSlots
 pub mod Owned
 pub mod Parallel
 pub mod Parts
+pub mod PlanSetups
 pub mod PlanOf
 pub mod Rounds
 pub mod Rules

@@ -7,7 +7,7 @@ use Rattle.shred_run.specs.Depths.{Declared, Owns, Related, WorkStep}
 use Rattle.shred_run.specs.OwnDepth.{depth_of}
 use Rattle.shred_run.specs.Nesting.{IsNoDeeper}
 use Rattle.shred_run.specs.Steps.{Outcome, Step}
-use Rattle.shred_run.specs.WorkSetups.{WorkSetup, WorkDisposal}
+use Rattle.shred_run.specs.WorkSetups.{Setups, WorkSetup, WorkDisposal}
 use Rattle.shred_run.specs.declared.entry.Group.{Group}
 use Rattle.shred_run.specs.declared.entry.GroupEntry.{GroupEntry}
 use Rattle.shred_run.specs.declared.work.Nested.{Nested}
@@ -33,8 +33,8 @@ abbrev pub RuleStep : {V S C E : Type 0} → (V → Kind) → Related V S C E �
 RuleStep kind related at old before outcome new after = WorkStep kind related (rule_depth at old) old before outcome new after
 
 -- in which relation its setup lies
-abbrev pub RuleSetup : {V S C E : Type 0} → Step V S E → Step V C E → Option ℕ → Step V (Work S (Nested V S C)) E
-RuleSetup system control at old before outcome new after = WorkSetup system control (rule_depth at old) old before outcome new after
+abbrev pub RuleSetup : {V S C E : Type 0} → Setups V S C E → Option ℕ → Step V (Work S (Nested V S C)) E
+RuleSetup setups at old before outcome new after = WorkSetup setups (rule_depth at old) old before outcome new after
 
 -- in which relation its disposal lies
 abbrev pub RuleDisposal : {V S C E : Type 0} → (S → Held V → Outcome E → Held V → Type 0) → Option ℕ → Work S (Nested V S C) → Held V → Outcome E → Held V → Type 0

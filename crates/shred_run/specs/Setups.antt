@@ -1,4 +1,4 @@
--- Setup and disposal of the systems of entries and groups, over a whole world.
+-- Setups and disposals of what stands in entries, as the loops over entries, groups and tiers take them.
 use Rattle.std.specs.Prelude.{◌≡◌, List, map, All}
 use Rattle.shred_model.specs.InTurn.{InTurn, AllInTurn}
 use Rattle.shred_model.specs.Runs.{Answer}
@@ -12,6 +12,7 @@ use Rattle.shred_run.specs.Hands.{KeepsRoom}
 use Rattle.shred_run.specs.OwnLists.{IsGroupOf}
 use Rattle.shred_run.specs.PlanOf.{group_numbers, groups_plan}
 use Rattle.shred_run.specs.Steps.{Outcome, Step}
+use Rattle.shred_run.specs.declared.work.Tier.{Tier}
 
 module _ {V S E : Type 0} (sets_up : Step V S E) where
   -- an entry's setup is its work's own, and a fault is told with the entry's id
@@ -30,6 +31,14 @@ module _ {V S E : Type 0} (sets_up : Step V S E) where
   abbrev pub GroupsSetup : List (Group V S) → Held V → Answer (StageFault E) → List (Group V S) → Held V → Type 0
   GroupsSetup groups before answer news after = InTurn (λ place. GroupSetup) 0 groups before answer news after
 
+  -- a tier's setup is that of its groups
+  abbrev pub TierSetup : Tier V S → Held V → Answer (StageFault E) → Tier V S → Held V → Type 0
+  TierSetup tier before answer new after = GroupsSetup tier.groups.items before answer new.groups.items after
+
+  -- the setups of some tiers, in order, up to the first that is not Done
+  abbrev pub TiersSetup : List (Tier V S) → Held V → Answer (StageFault E) → List (Tier V S) → Held V → Type 0
+  TiersSetup tiers before answer news after = InTurn (λ place. TierSetup) 0 tiers before answer news after
+
 module _ {V S E : Type 0} (disposes : S → Held V → Outcome E → Held V → Type 0) where
   -- an entry's disposal is its work's own, and a fault is told with the entry's id
   abbrev pub EntryDisposal : GroupEntry V S → Held V → Answer (StageFault E) → Held V → Type 0
@@ -42,6 +51,14 @@ module _ {V S E : Type 0} (disposes : S → Held V → Outcome E → Held V → 
   -- the disposals of all of some groups, in order; the answer is the first that is not Done
   abbrev pub GroupsDisposal : List (Group V S) → Held V → Answer (StageFault E) → Held V → Type 0
   GroupsDisposal groups before answer after = AllInTurn (λ place. GroupDisposal) 0 groups before answer after
+
+  -- a tier's disposal is that of its groups
+  abbrev pub TierDisposal : Tier V S → Held V → Answer (StageFault E) → Held V → Type 0
+  TierDisposal tier before answer after = GroupsDisposal tier.groups.items before answer after
+
+  -- the disposals of all of some tiers, in order; the answer is that of the first that is not Done
+  abbrev pub TiersDisposal : List (Tier V S) → Held V → Answer (StageFault E) → Held V → Type 0
+  TiersDisposal tiers before answer after = AllInTurn (λ place. TierDisposal) 0 tiers before answer after
 
 -- The groups were set up; all beside their systems is as before.
 pub record AreSetUp {V S E : Type 0} (sets_up : Step V S E) (own : S → List ResourceId → List ResourceId → Type 0) (old : List (Group V S)) (before : Held V) (answer : Answer (StageFault E)) (new : List (Group V S)) (after : Held V) : Type 0 where

@@ -1,9 +1,9 @@
 //! Disposal of what stands in an entry: of a system, or of what stands in a batch's inner plan, which leads back here.
 ghost use Rattle.std.specs.Prelude.{◌-◌, All};
-ghost use Rattle.shred_run.specs.Setups.{EntryDisposal, GroupDisposal, GroupsDisposal};
+ghost use Rattle.shred_run.specs.Setups.{EntryDisposal, GroupDisposal, GroupsDisposal, TiersDisposal};
 ghost use Rattle.shred_run.specs.Nesting.{IsNoDeeper};
 ghost use Rattle.shred_run.specs.Rules.{EntryNests, GroupNests, RuleDisposal, TierNests};
-ghost use Rattle.shred_run.specs.WorkSetups.{BatchDisposal, TiersDisposal, WorkDisposal};
+ghost use Rattle.shred_run.specs.WorkSetups.{BatchDisposal, WorkDisposal};
 ghost use Rattle.shred_world.specs.Worlds.{world_held};
 
 use crate::depth::depth_by;

@@ -6,10 +6,10 @@ ghost use Rattle.shred_run.specs.Hands.{IsSameButEntries, KeepsRoom};
 ghost use Rattle.shred_run.specs.OwnLists.{IsEntryOf, IsGroupOf};
 ghost use Rattle.shred_run.specs.PlanOf.{entry_plan, group_plan};
 ghost use Rattle.shred_run.specs.Rules.{RuleOwns, RuleSetup};
-ghost use Rattle.shred_run.specs.Setups.{AreSetUp, EntriesSetup, EntrySetup, GroupSetup};
+ghost use Rattle.shred_run.specs.Setups.{AreSetUp, EntriesSetup, EntrySetup, GroupSetup, TiersSetup};
 ghost use Rattle.shred_run.specs.OwnDepth.{depth_of};
 ghost use Rattle.shred_run.specs.Owned.{HasOwnGroups, IsOwned, StaysOwned, StayTiers};
-ghost use Rattle.shred_run.specs.WorkSetups.{BatchSetup, TiersSetup, WorkSetup};
+ghost use Rattle.shred_run.specs.WorkSetups.{BatchSetup, WorkSetup, setups_of};
 ghost use Rattle.shred_world.specs.Worlds.{world_held};
 
 use crate::controller::BatchController;
@@ -28,7 +28,7 @@ fn set_up_work<V: ResourceValue, S: System<V, Error = E>, C: BatchController<V, 
     world: &mut World<V>,
 ) -> Result<(), Fault<E>>
     requires { IsOwned (lists_of S.reads S.writes C.reads C.writes) depth work.old }
-    ensures set_up { WorkSetup S.sets_up C.sets_up depth work.old (world_held V.kind_of world.old) result work.new (world_held V.kind_of world.new) }
+    ensures set_up { WorkSetup (setups_of (lists_of S.reads S.writes C.reads C.writes) S.sets_up C.sets_up) depth work.old (world_held V.kind_of world.old) result work.new (world_held V.kind_of world.new) }
     ensures owned { StaysOwned (lists_of S.reads S.writes C.reads C.writes) depth work.old work.new }
     ensures noted { depth_of work.new ≡ depth_of work.old }
 {
@@ -47,7 +47,7 @@ fn set_up_batch<V: ResourceValue, S: System<V, Error = E>, C: BatchController<V,
 ) -> Result<(), Fault<E>>
     requires control { IsOwnControl C.reads C.writes batch.old.control }
     requires tiers { All (HasOwnGroups (Owns (lists_of S.reads S.writes C.reads C.writes) less)) batch.old.tiers.items }
-    ensures set_up { BatchSetup (WorkSetup S.sets_up C.sets_up less) C.sets_up batch.old (world_held V.kind_of world.old) result batch.new (world_held V.kind_of world.new) }
+    ensures set_up { BatchSetup (WorkSetup (setups_of (lists_of S.reads S.writes C.reads C.writes) S.sets_up C.sets_up) less) (setups_of (lists_of S.reads S.writes C.reads C.writes) S.sets_up C.sets_up).controllers batch.old (world_held V.kind_of world.old) result batch.new (world_held V.kind_of world.new) }
     ensures access { control_access batch.new.control ≡ control_access batch.old.control }
     ensures control { IsOwnControl C.reads C.writes batch.new.control }
     ensures tiers { StayTiers (Owns (lists_of S.reads S.writes C.reads C.writes) less) batch.old.tiers.items batch.new.tiers.items }
@@ -69,7 +69,7 @@ fn set_up_tiers<V: ResourceValue, S: System<V, Error = E>, C: BatchController<V,
     world: &mut World<V>,
 ) -> Result<(), StageFault<E>>
     requires { All (HasOwnGroups (Owns (lists_of S.reads S.writes C.reads C.writes) less)) tiers.old }
-    ensures set_up { TiersSetup (WorkSetup S.sets_up C.sets_up less) tiers.old (world_held V.kind_of world.old) result tiers.new (world_held V.kind_of world.new) }
+    ensures set_up { TiersSetup (WorkSetup (setups_of (lists_of S.reads S.writes C.reads C.writes) S.sets_up C.sets_up) less) tiers.old (world_held V.kind_of world.old) result tiers.new (world_held V.kind_of world.new) }
     ensures stay { StayTiers (Owns (lists_of S.reads S.writes C.reads C.writes) less) tiers.old tiers.new }
 {
     for tier in tiers.iter_mut() {
@@ -95,7 +95,7 @@ pub fn set_up_groups<
 ) -> Result<(), StageFault<E>>
     requires owns { All (IsGroupOf (RuleOwns (lists_of S.reads S.writes C.reads C.writes) at)) groups.old }
     requires room { All KeepsRoom groups.old }
-    ensures { AreSetUp (RuleSetup S.sets_up C.sets_up at) (RuleOwns (lists_of S.reads S.writes C.reads C.writes) at) groups.old (world_held V.kind_of world.old) result groups.new (world_held V.kind_of world.new) }
+    ensures { AreSetUp (RuleSetup (setups_of (lists_of S.reads S.writes C.reads C.writes) S.sets_up C.sets_up) at) (RuleOwns (lists_of S.reads S.writes C.reads C.writes) at) groups.old (world_held V.kind_of world.old) result groups.new (world_held V.kind_of world.new) }
 {
     for group in groups.iter_mut() {
         if let Err(fault) = set_up_group(at, group, world) {
@@ -113,7 +113,7 @@ fn set_up_group<V: ResourceValue, S: System<V, Error = E>, C: BatchController<V,
     world: &mut World<V>,
 ) -> Result<(), StageFault<E>>
     requires { IsGroupOf (RuleOwns (lists_of S.reads S.writes C.reads C.writes) at) group.old }
-    ensures set_up { GroupSetup (RuleSetup S.sets_up C.sets_up at) group.old (world_held V.kind_of world.old) result group.new (world_held V.kind_of world.new) }
+    ensures set_up { GroupSetup (RuleSetup (setups_of (lists_of S.reads S.writes C.reads C.writes) S.sets_up C.sets_up) at) group.old (world_held V.kind_of world.old) result group.new (world_held V.kind_of world.new) }
     ensures plan { group_plan group.new ≡ group_plan group.old }
     ensures owns { IsGroupOf (RuleOwns (lists_of S.reads S.writes C.reads C.writes) at) group.new }
     ensures same { IsSameButEntries group.old group.new }
@@ -129,7 +129,7 @@ fn set_up_entries<V: ResourceValue, S: System<V, Error = E>, C: BatchController<
     world: &mut World<V>,
 ) -> Result<(), StageFault<E>>
     requires { All (IsEntryOf (RuleOwns (lists_of S.reads S.writes C.reads C.writes) at)) entries.old }
-    ensures set_up { EntriesSetup (RuleSetup S.sets_up C.sets_up at) entries.old (world_held V.kind_of world.old) result entries.new (world_held V.kind_of world.new) }
+    ensures set_up { EntriesSetup (RuleSetup (setups_of (lists_of S.reads S.writes C.reads C.writes) S.sets_up C.sets_up) at) entries.old (world_held V.kind_of world.old) result entries.new (world_held V.kind_of world.new) }
     ensures plan { map entry_plan entries.new ≡ map entry_plan entries.old }
     ensures owns { All (IsEntryOf (RuleOwns (lists_of S.reads S.writes C.reads C.writes) at)) entries.new }
 {
@@ -149,7 +149,7 @@ fn set_up_entry<V: ResourceValue, S: System<V, Error = E>, C: BatchController<V,
     world: &mut World<V>,
 ) -> Result<(), StageFault<E>>
     requires { IsEntryOf (RuleOwns (lists_of S.reads S.writes C.reads C.writes) at) entry.old }
-    ensures set_up { EntrySetup (RuleSetup S.sets_up C.sets_up at) entry.old (world_held V.kind_of world.old) result entry.new (world_held V.kind_of world.new) }
+    ensures set_up { EntrySetup (RuleSetup (setups_of (lists_of S.reads S.writes C.reads C.writes) S.sets_up C.sets_up) at) entry.old (world_held V.kind_of world.old) result entry.new (world_held V.kind_of world.new) }
     ensures plan { entry_plan entry.new ≡ entry_plan entry.old }
     ensures owns { IsEntryOf (RuleOwns (lists_of S.reads S.writes C.reads C.writes) at) entry.new }
 {

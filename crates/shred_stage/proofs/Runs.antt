@@ -1,2 +1,3 @@
--- Runs of stages.
+-- Runs and setups of stages.
 pub mod Plans
+pub mod Setups

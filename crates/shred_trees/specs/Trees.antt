@@ -7,6 +7,7 @@ use Rattle.shred_table.specs.declared.id.ResourceId.{ResourceId}
 use Rattle.shred_table.specs.Slots.{among}
 use Rattle.shred_world.specs.Worked.{Held}
 use Rattle.shred_run.specs.Alone.{KeepsKinds}
+use Rattle.shred_run.specs.Controls.{keeping}
 use Rattle.shred_run.specs.Steps.{Outcome, Step, declared_of}
 use Rattle.shred_run.specs.declared.system.Fault.{Fault}
 
@@ -50,8 +51,12 @@ module _ {V H T E : Type 0} (kind : V → Kind) (heads : Trees V H E) (tails : T
   TailRanFirst head tail before head_outcome tail_outcome head_after tail_after after =
       (between : Held V) × IsRun kind tails tail before tail_outcome tail_after between × IsRun kind heads head between head_outcome head_after after
 
+-- A setup lies in the tree's relation, and the lists stay.
+abbrev pub IsTreeSetup : {V T E : Type 0} → Trees V T E → Step V T E
+IsTreeSetup trees = keeping trees.reads trees.writes trees.sets_up
+
 -- The setup of the head, and where it was Done that of the tail; where it was not, the tail stays, and the outcome is the head's.
 abbrev pub SetUpInTurn : {V H T E : Type 0} → Trees V H E → Trees V T E → H → T → Held V → Outcome E → H → T → Held V → Type 0
 SetUpInTurn {V} {E = E} heads tails head tail before outcome head_after tail_after after =
-    ((between : Held V) × heads.sets_up head before (Ok tt) head_after between × tails.sets_up tail between outcome tail_after after)
-    ⊎ ((fault : Fault E) × heads.sets_up head before (Err fault) head_after after × (tail_after ≡ tail) × (outcome ≡ Err fault))
+    ((between : Held V) × IsTreeSetup heads head before (Ok tt) head_after between × IsTreeSetup tails tail between outcome tail_after after)
+    ⊎ ((fault : Fault E) × IsTreeSetup heads head before (Err fault) head_after after × (tail_after ≡ tail) × (outcome ≡ Err fault))

@@ -127,7 +127,7 @@ impl<V: ResourceValue + Drop, E: Drop, T: RunWithPool<V, E>> RunNow<V> for ParSe
 
     ghost runs = { λ old before outcome new after. ParSeqRan V.kind_of T.trees (tree_of old) before outcome (tree_of new) after × (workers_of new ≡ workers_of old) };
 
-    ghost sets_up = { λ old before outcome new after. T.trees.sets_up (tree_of old) before outcome (tree_of new) after × (workers_of new ≡ workers_of old) };
+    ghost sets_up = { λ old before outcome new after. T.trees.sets_up (tree_of old) before outcome (tree_of new) after × KeepsLists T.trees.reads T.trees.writes (tree_of old) (tree_of new) × (workers_of new ≡ workers_of old) };
 
     ghost disposes = { λ old before outcome after. (outcome ≡ Ok tt) × (after ≡ before) };
 

@@ -1,5 +1,5 @@
 -- Runs of scripts.
-use Rattle.std.specs.Prelude.{◌≡◌, ◌⊎◌, ℕ, zero, suc, ◌≤◌, Bool, true, None, List, [], ◌++◌, length, map, Option, Some, Result, Ok, Err, OnOk, IfErr, MatchResult}
+use Rattle.std.specs.Prelude.{◌≡◌, ◌⊎◌, ℕ, zero, suc, ◌≤◌, Bool, true, List, [], ◌++◌, length, map, Option, Some, Result, Ok, Err, OnOk, IfErr, MatchResult}
 use Rattle.std.specs.Io.KnownBytes.{Appends, Consumes, IsAtEnd, Keeps}
 use Rattle.indexmap.specs.IndexMap.{values}
 use Rattle.shred_model.specs.Plan.{plan_ids}
@@ -12,9 +12,10 @@ use Rattle.shred.specs.FullRuns.{FullyDispatched, Whole}
 use Rattle.shred_stage.specs.Sinks.{AppendsBeginning}
 use Rattle.shred_run.specs.Steps.{Outcome as Ends}
 use Rattle.shred_run.specs.Controls.{Control}
-use Rattle.shred_model.specs.Record.{Agent}
 use Rattle.shred_run.specs.Depths.{Declared, Related, lists_of, relations_of}
-use Rattle.shred_run.specs.WorkSetups.{OwnSetup}
+use Rattle.shred_run.specs.PlanSetups.{SetUp}
+use Rattle.shred_run.specs.WorkSetups.{Setups, setups_of}
+use Rattle.shred_stage.specs.Setups.{dispatch_fault}
 use Rattle.shred_stage.specs.declared.dispatch.dispatch_error.DispatchError.{DispatchError}
 use Rattle.shredscript_text.specs.declared.error.ScriptError.{ScriptError}
 use Rattle.shredscript_text.specs.declared.error.ScriptError.TheVariants.{TooLong, InputFailed, Line, Refused, Unnamed, OutOfMemory, OutputFailed}
@@ -30,7 +31,7 @@ use Rattle.shredscript_text.specs.declared.value.Value.{Value}
 use Rattle.shredscript_text.specs.Endings.{outcome_of, status_of}
 use Rattle.shredscript_text.specs.Input.{IsLongerThan}
 use Rattle.shredscript_text.specs.Place.{id_at}
-use Rattle.shredscript.specs.Lines.{IsBuiltBy, IsNotBuilt, ScriptBuilt, ScriptWork}
+use Rattle.shredscript.specs.Lines.{IsBuiltBy, IsNotBuilt, ScriptBuilt}
 use Rattle.shredscript.specs.PlanTexts.{IsPlanPart}
 use Rattle.shredscript_text.specs.Report.{first_held, resource_names, report}
 use Rattle.shredscript.specs.Steps.{steps_left, steps_outcome}
@@ -66,16 +67,9 @@ script_related = relations_of script_lists script_step batch_begins batch_asks
 abbrev pub IsIdle : {S : Type 0} → S → Held Value → Ends Refusal → S → Held Value → Type 0
 IsIdle before seen outcome after left = (after ≡ before) × (outcome ≡ Ok tt) × (left ≡ seen)
 
--- what stood in an entry was set up, over some values, which stay
-abbrev pub WasSetUp : ScriptWork → ScriptWork → Type 0
-WasSetUp old new = (held : Held Value) × OwnSetup IsIdle IsIdle old held (Ok tt) new held
-
--- there is something before and after, which are so related, or there is nothing
-abbrev pub AtBoth : {X : Type 0} → (X → X → Type 0) → Option X → Option X → Type 0
-AtBoth R None None = Unit {0}
-AtBoth R (Some old) (Some new) = R old new
-AtBoth R None (Some new) = ⊥
-AtBoth R (Some old) None = ⊥
+-- the relations of the setups of a script's systems, and of its batches' controllers
+abbrev pub script_setups : Setups Value ScriptSystem ScriptBatch Refusal
+script_setups = setups_of script_lists IsIdle IsIdle
 
 -- a plan of a script's systems and batches, with these and its thread-local systems, and the values of a world
 abbrev pub Program : Type 0
@@ -95,8 +89,7 @@ AreDispatched (suc n) before answer after = (a : Answer (DispatchError Refusal))
 
 -- What stands in the plan was set up, and all else is as before, the values too.
 pub record IsSetUpFrom (before after : Program) : Type 0 where
-  pub plan : after.staged.plan ≡ before.staged.plan
-  pub works : (path : Agent) → AtBoth WasSetUp (before.staged.works path) (after.staged.works path)
+  pub staged : SetUp script_setups dispatch_fault before.staged (Ok tt) after.staged
   pub values : after.staged.values ≡ before.staged.values
   pub locals : after.locals ≡ before.locals
   pub workers : after.workers ≡ before.workers

@@ -5,17 +5,19 @@ ghost use Rattle.shred_model.specs.Record.{Agent};
 ghost use Rattle.shred_run.specs.Alone.{KeepsKinds};
 ghost use Rattle.shred_run.specs.Depths.{Related, lists_of, relations_of};
 ghost use Rattle.shred_run.specs.Dispatched.{Dispatched};
-ghost use Rattle.shred_run.specs.WorkSetups.{OwnDisposal, OwnSetup};
+ghost use Rattle.shred_run.specs.PlanSetups.{DisposedOf, SetUp};
+ghost use Rattle.shred_run.specs.WorkSetups.{setups_of};
 ghost use Rattle.shred_stage.specs.Names.{AreNames, first_unnamed};
 ghost use Rattle.shred_stage.specs.Plans.{plan_states};
 ghost use Rattle.shred_stage.specs.Printed.{line_feed, plan_text};
 ghost use Rattle.shred_stage.specs.Prints.{IsPrinted};
-ghost use Rattle.shred_stage.specs.Situations.{dispatch_answer};
+ghost use Rattle.shred_stage.specs.Setups.{dispatch_fault};
+ghost use Rattle.shred_stage.specs.Situations.{dispatch_answer, stages_with};
 ghost use Rattle.shred_stage.specs.StagePlan.{plan_of, widest};
 ghost use Rattle.shred.specs.Dispatchers.{dispatcher_locals, dispatcher_over, dispatcher_plan, dispatcher_states, dispatcher_workers};
 ghost use Rattle.shred.specs.FullRuns.{FullyDispatched, IsRefusedBy, RunsNow, whole_over, whole_with};
 ghost use Rattle.shred.specs.LocalRuns.{LocalsRun};
-ghost use Rattle.shred.specs.Setups.{DisposesNow, IsDisposedOf, IsSetUp, SetsUpNow, StageDisposalAt, StagesDisposal, StagesSetup};
+ghost use Rattle.shred.specs.Setups.{DisposesNow, IsDisposedOf, IsSetUp, SetsUpNow, StageDisposalAt};
 ghost use Rattle.shred.specs.SystemNames.{names_known, names_pairs};
 ghost use Rattle.shred.specs.ThreadLocals.{systems_of};
 ghost use Rattle.shred_world.specs.Worlds.{local_held, world_held};
@@ -124,8 +126,7 @@ pub fn set_up_stages<
     C: BatchController<V, Error = E> + Drop,
     E: Drop,
 >(stages: &mut [Stage<V, S, C>], world: &mut World<V>) -> Result<(), DispatchError<E>>
-    ensures set_up { StagesSetup (OwnSetup S.sets_up C.sets_up) stages.old (world_held V.kind_of world.old) result stages.new (world_held V.kind_of world.new) }
-    ensures plan { plan_of stages.new ≡ plan_of stages.old }
+    ensures { SetUp (setups_of (lists_of S.reads S.writes C.reads C.writes) S.sets_up C.sets_up) dispatch_fault (stages_with stages.old (world_held V.kind_of world.old)) result (stages_with stages.new (world_held V.kind_of world.new)) }
 {
     for (place, stage) in stages.iter_mut().enumerate() {
         if let Err(fault) = stage.setup(world) {
@@ -142,7 +143,7 @@ fn dispose_of_stage<
     C: BatchController<V, Error = E> + Drop,
     E: Drop,
 >(place: usize, stage: Stage<V, S, C>, world: &mut World<V>) -> Result<(), DispatchError<E>>
-    ensures { StageDisposalAt (OwnDisposal S.disposes) place stage (world_held V.kind_of world.old) result (world_held V.kind_of world.new) }
+    ensures { StageDisposalAt S.disposes place stage (world_held V.kind_of world.old) result (world_held V.kind_of world.new) }
 {
     match stage.dispose(world) {
         Ok(()) => Ok(()),
@@ -157,7 +158,7 @@ fn dispose_of_stages<
     C: BatchController<V, Error = E> + Drop,
     E: Drop,
 >(stages: Vec<Stage<V, S, C>>, world: &mut World<V>) -> Result<(), DispatchError<E>>
-    ensures { StagesDisposal (OwnDisposal S.disposes) stages.items (world_held V.kind_of world.old) result (world_held V.kind_of world.new) }
+    ensures { DisposedOf S.disposes dispatch_fault (stages_with stages.items (world_held V.kind_of world.old)) result (world_held V.kind_of world.new) }
 {
     let mut answer = Ok(());
     let mut place = 0;
@@ -229,7 +230,7 @@ impl<
     /// Sets up what stands in the plan, in its order, and then the thread-local ones, up to the first that is not Done,
     /// which the answer tells. What was done before it stays.
     pub fn setup(&mut self, world: &mut World<V>) -> Result<(), DispatchError<E>>
-        ensures { IsSetUp (OwnSetup S.sets_up C.sets_up) L.sets_up self.old (world_held V.kind_of world.old) result self.new (world_held V.kind_of world.new) }
+        ensures { IsSetUp (setups_of (lists_of S.reads S.writes C.reads C.writes) S.sets_up C.sets_up) L.sets_up (whole_over V.kind_of self.old world.old) result (whole_over V.kind_of self.new world.new) }
     {
         match set_up_stages(self.stages.as_mut_slice(), world) {
             Ok(()) => self.thread_local.setup(world),
@@ -240,7 +241,7 @@ impl<
     /// Disposes of what stands in the plan, in its order, and then of the thread-local ones, of all of them. The answer
     /// tells the first that is not Done.
     pub fn dispose(self, world: &mut World<V>) -> Result<(), DispatchError<E>>
-        ensures { IsDisposedOf (OwnDisposal S.disposes) L.disposes self (world_held V.kind_of world.old) result (world_held V.kind_of world.new) }
+        ensures { IsDisposedOf S.disposes L.disposes (whole_over V.kind_of self world.old) result (world_held V.kind_of world.new) }
     {
         let staged = dispose_of_stages(self.stages, world);
         first(staged, self.thread_local.dispose(world))
@@ -281,9 +282,9 @@ impl<
 
     ghost runs = { λ old before outcome new after. RunsNow V.kind_of (relations_of (lists_of S.reads S.writes C.reads C.writes) S.step C.begins C.asks) L.runs (whole_with old before) outcome (whole_with new after) };
 
-    ghost sets_up = { λ old before outcome new after. SetsUpNow (OwnSetup S.sets_up C.sets_up) L.sets_up old before outcome new after };
+    ghost sets_up = { λ old before outcome new after. SetsUpNow (setups_of (lists_of S.reads S.writes C.reads C.writes) S.sets_up C.sets_up) L.sets_up (whole_with old before) outcome (whole_with new after) };
 
-    ghost disposes = { λ old before outcome after. DisposesNow (OwnDisposal S.disposes) L.disposes old before outcome after };
+    ghost disposes = { λ old before outcome after. DisposesNow S.disposes L.disposes (whole_with old before) outcome after };
 
     fn run_now<R: Threads + Sync>(
         &mut self,

@@ -109,3 +109,10 @@ module _ {I : Type 0} where
     all : (ss : List (PlacedEntry I)) → AllByRecursion (λ s. entry_at plan s.place ≡ Some s.entry) ss → AllLater (λ s t. StandsBefore s.place t.place) ss → AllLater ComesFirst ss
     all [] at before = tt
     all (s ∷ ss) at before = (later s at.0 ss at.1 before.0, all ss at.1 before.1)
+
+-- what is at a path of each element is at that path behind its place
+pub each-stands : {Y W : Type 0} (states : Y → Agent → Option W) (ys : List Y) → EachAt (λ m y. (path : Agent) → listed_states states ys (m ∷ path) ≡ states y path) 0 ys
+each-stands {Y} states ys = all 0 ys (each-at ys) where
+  all : (n : ℕ) (zs : List Y) → EachAt (λ m y. slice_get ys m ≡ Some y) n zs → EachAt (λ m y. (path : Agent) → listed_states states ys (m ∷ path) ≡ states y path) n zs
+  all n [] each = tt
+  all n (z ∷ zs) each = ((λ path. ap (option_and_then (λ (y : Y). states y path)) each.0), all (suc n) zs each.1)

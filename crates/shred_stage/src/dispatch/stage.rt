@@ -341,15 +341,18 @@ impl<
     C: BatchController<V, Error = E> + Drop,
     E: Drop,
 > Stage<V, S, C> {
-    ghost use Rattle.shred_run.specs.WorkSetups.{OwnDisposal, OwnSetup};
-    ghost use Rattle.shred_stage.specs.Setups.{StageSetup, StageDisposal};
+    ghost use Rattle.shred_run.specs.Depths.{lists_of};
+    ghost use Rattle.shred_run.specs.EntrySetups.{stage_fault};
+    ghost use Rattle.shred_run.specs.PlanSetups.{DisposedOf, SetUp};
+    ghost use Rattle.shred_run.specs.WorkSetups.{setups_of};
+    ghost use Rattle.shred_stage.specs.Situations.{stage_over};
     ghost use Rattle.shred_stage.specs.StagePlan.{stage_plan};
     ghost use Rattle.shred_world.specs.Worlds.{world_held};
 
     /// Sets up what stands in the entries, in the plan's order, up to the first that is not Done, which the answer tells. What
     /// was done before it stays.
     pub fn setup(&mut self, world: &mut World<V>) -> Result<(), StageFault<E>>
-        ensures set_up { StageSetup (OwnSetup S.sets_up C.sets_up) self.old (world_held V.kind_of world.old) result self.new (world_held V.kind_of world.new) }
+        ensures set_up { SetUp (setups_of (lists_of S.reads S.writes C.reads C.writes) S.sets_up C.sets_up) stage_fault (stage_over V.kind_of self.old world.old) result (stage_over V.kind_of self.new world.new) }
         ensures plan { stage_plan self.new ≡ stage_plan self.old }
     {
         set_up_groups(None, self.groups.as_mut_slice(), world)
@@ -358,7 +361,7 @@ impl<
     /// Disposes of all that stands in the entries, in the plan's order, also of what stands after one that is not Done. The
     /// answer tells the first that is not Done.
     pub fn dispose(self, world: &mut World<V>) -> Result<(), StageFault<E>>
-        ensures { StageDisposal (OwnDisposal S.disposes) self (world_held V.kind_of world.old) result (world_held V.kind_of world.new) }
+        ensures { DisposedOf S.disposes stage_fault (stage_over V.kind_of self world.old) result (world_held V.kind_of world.new) }
     {
         dispose_of_groups(None, self.groups, world)
     }

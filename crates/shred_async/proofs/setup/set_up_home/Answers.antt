@@ -8,10 +8,9 @@ returns-in-Ok-clause-set_up g c workers =
     let old = c.args.home.now.stages in
     let same : length c.set_up_stages.new.stages ≡ old.len = search rules in
     record {
-      of_stages = Ok tt;
+      of_plan = Ok tt;
       middle = world_held g.V.ResourceValue.kind_of c.set_up_stages.new.world;
-      stages = rw (with_items_is old c.set_up_stages.new.stages same) (rw c.as_mut_slice.ensures.value at c.in-Ok.ensures.set_up);
+      staged = rw (with_items_is old c.set_up_stages.new.stages same) (rw c.as_mut_slice.ensures.value at c.in-Ok.ensures);
       locals = c.setup.ensures;
-      plan = rw (with_items_is old c.set_up_stages.new.stages same) (rw c.as_mut_slice.ensures.value at c.in-Ok.ensures.plan);
       workers = refl;
     }

@@ -1,13 +1,15 @@
-use Rattle.std.proofs.Common.{◌≡◌, ◌-◌, suc, length, ◌∙◌, subst, arith}
+use Rattle.std.proofs.Common.{◌≡◌, ◌-◌, suc, length, sym, ◌∙◌, ap, subst, arith, Ok, Err}
 use Rattle.std.proofs.lemmas.Iterator.Adapters.{YieldsList-from_vec}
 use Rattle.shred_model.proofs.Joined.InTurn.{AllInTurn-more}
 use Rattle.shred_model.specs.InTurn.{AllInTurn}
 use Rattle.shred_world.specs.Worlds.{world_held}
-use Rattle.shred_run.specs.Setups.{EntryDisposal, GroupDisposal}
+use Rattle.shred_run.specs.Setups.{EntryDisposal, GroupDisposal, TierDisposal}
 use Rattle.shred_run.specs.Rules.{EntryNests, GroupNests, RuleDisposal}
-use Rattle.shred_run.specs.WorkSetups.{TierDisposal, WorkDisposal}
+use Rattle.shred_run.specs.WorkSetups.{BatchDisposal, WorkDisposal}
 use Rattle.shred_run.proofs.Groups.{next-holds, all-yielded}
 use Rattle.shred_run.proofs.Inner.{batch-disposal, nests-deep, nests-inside, system-disposal}
+use Rattle.shred_run.specs.Steps.{Outcome}
+use Rattle.shred_run.proofs.Setups.Works.{tiers-disposed}
 use Rattle.shred_run.proofs.dispose.+dispose.Goals as goal
 
 pub dispose_of_work-overflow_sub-depth : goal.dispose_of_work-overflow_sub-depth
@@ -31,6 +33,18 @@ dispose_of_work-returns-in-Batch g c = λ x.
     let down = nests-deep x.args.depth x.args.work x.in-Batch.nested x.in-Batch.is x.requires in
     let same : x.args.depth ≡ suc (x.args.depth - 1) = omega (arith, down.1) in
     batch-disposal g.S.System.disposes x.args.depth (x.args.depth - 1) same x.args.work x.in-Batch.nested x.in-Batch.is (world_held g.V.ResourceValue.kind_of x.args.world.now) x.dispose_of_batch.result (world_held g.V.ResourceValue.kind_of x.dispose_of_batch.new.world) x.dispose_of_batch.ensures
+
+pub dispose_of_batch-returns-in-Ok : goal.dispose_of_batch-returns-in-Ok
+dispose_of_batch-returns-in-Ok g c = λ x.
+    tiers-disposed (WorkDisposal g.row.C.Denot g.S.System.disposes x.args.less) x.args.batch.tiers.items (world_held g.V.ResourceValue.kind_of x.args.world.now) (world_held g.V.ResourceValue.kind_of x.dispose_of_tiers.new.world) (Ok tt) x.in-Ok.ensures
+
+pub dispose_of_batch-returns : goal.dispose_of_batch-returns
+dispose_of_batch-returns g c = λ x.
+    let inner = WorkDisposal g.row.C.Denot g.S.System.disposes x.args.less in
+    let before = world_held g.V.ResourceValue.kind_of x.args.world.now in
+    let after = world_held g.V.ResourceValue.kind_of x.dispose_of_tiers.new.world in
+    subst (λ (outcome : Outcome g.row.E.Denot). BatchDisposal inner x.args.batch before outcome after) (sym (ap Err x.within.ensures))
+    (tiers-disposed inner x.args.batch.tiers.items before after (Err x.in-Err.fault) x.in-Err.ensures)
 
 pub dispose_of_tiers-loop-tier-preserved : goal.dispose_of_tiers-loop-tier-preserved
 dispose_of_tiers-loop-tier-preserved g c = λ x.

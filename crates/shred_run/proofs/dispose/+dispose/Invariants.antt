@@ -1,9 +1,9 @@
 use Rattle.std.proofs.Common.{◌+◌, ◌*◌}
 use Rattle.shred_model.specs.InTurn.{AllInTurn}
 use Rattle.shred_world.specs.Worlds.{world_held}
-use Rattle.shred_run.specs.Setups.{EntryDisposal, GroupDisposal}
+use Rattle.shred_run.specs.Setups.{EntryDisposal, GroupDisposal, TierDisposal}
 use Rattle.shred_run.specs.Rules.{RuleDisposal, bound_of}
-use Rattle.shred_run.specs.WorkSetups.{TierDisposal, WorkDisposal}
+use Rattle.shred_run.specs.WorkSetups.{WorkDisposal}
 use Rattle.shred_run.proofs.dispose.+dispose.Given as goal
 
 abbrev pub decreases-dispose_of_work : goal.decreases-dispose_of_work

@@ -5,12 +5,12 @@ use Rattle.shred_world.specs.Worlds.{world_held}
 use Rattle.shred_run.specs.Hands.{KeepsRoom}
 use Rattle.shred_run.specs.OwnLists.{IsEntryOf, IsGroupOf}
 use Rattle.shred_run.specs.PlanOf.{entry_plan, group_numbers, group_plan}
-use Rattle.shred_run.specs.Setups.{EntrySetup, GroupSetup}
+use Rattle.shred_run.specs.Setups.{EntrySetup, GroupSetup, TierSetup}
 use Rattle.shred_run.specs.Depths.{Owns, lists_of}
 use Rattle.shred_run.specs.Rules.{RuleOwns, RuleSetup, bound_of}
 use Rattle.shred_run.specs.Works.{tier_numbers, tiers_plan}
 use Rattle.shred_run.specs.Owned.{HasOwnGroups}
-use Rattle.shred_run.specs.WorkSetups.{TierSetup, WorkSetup}
+use Rattle.shred_run.specs.WorkSetups.{WorkSetup, setups_of}
 use Rattle.shred_run.proofs.setup.+set_up.Given as goal
 
 abbrev pub decreases-set_up_work : goal.decreases-set_up_work
@@ -36,7 +36,7 @@ invariant-set_up_tiers-loop-tier g l = record {
   plan : tiers_plan l.tiers ≡ tiers_plan l.initial.tiers;
   ids : map tier_numbers l.tiers ≡ map tier_numbers l.initial.tiers;
   groups : All (HasOwnGroups (Owns (lists_of g.S.System.reads g.S.System.writes g.C.BatchController.reads g.C.BatchController.writes) l.less)) l.tiers;
-  turns : TurnsSoFar (λ place. TierSetup (WorkSetup g.S.System.sets_up g.C.BatchController.sets_up l.less)) l.tier-index l.initial.tiers (world_held g.V.ResourceValue.kind_of l.initial.world) l.tiers (world_held g.V.ResourceValue.kind_of l.world);
+  turns : TurnsSoFar (λ place. TierSetup (WorkSetup (setups_of (lists_of g.S.System.reads g.S.System.writes g.C.BatchController.reads g.C.BatchController.writes) g.S.System.sets_up g.C.BatchController.sets_up) l.less)) l.tier-index l.initial.tiers (world_held g.V.ResourceValue.kind_of l.initial.world) l.tiers (world_held g.V.ResourceValue.kind_of l.world);
 }
 
 abbrev pub decreases-set_up_entry : goal.decreases-set_up_entry
@@ -48,12 +48,12 @@ invariant-set_up_groups-loop-group g l = record {
   ids : map group_numbers l.groups ≡ map group_numbers l.initial.groups;
   owns : All (IsGroupOf (RuleOwns (lists_of g.S.System.reads g.S.System.writes g.C.BatchController.reads g.C.BatchController.writes) l.at)) l.groups;
   room : All KeepsRoom l.groups;
-  turns : TurnsSoFar (λ place. GroupSetup (RuleSetup g.S.System.sets_up g.C.BatchController.sets_up l.at)) l.group-index l.initial.groups (world_held g.V.ResourceValue.kind_of l.initial.world) l.groups (world_held g.V.ResourceValue.kind_of l.world);
+  turns : TurnsSoFar (λ place. GroupSetup (RuleSetup (setups_of (lists_of g.S.System.reads g.S.System.writes g.C.BatchController.reads g.C.BatchController.writes) g.S.System.sets_up g.C.BatchController.sets_up) l.at)) l.group-index l.initial.groups (world_held g.V.ResourceValue.kind_of l.initial.world) l.groups (world_held g.V.ResourceValue.kind_of l.world);
 }
 
 abbrev pub invariant-set_up_entries-loop-entry : goal.invariant-set_up_entries-loop-entry
 invariant-set_up_entries-loop-entry g l = record {
   plan : map entry_plan l.entries ≡ map entry_plan l.initial.entries;
   owns : All (IsEntryOf (RuleOwns (lists_of g.S.System.reads g.S.System.writes g.C.BatchController.reads g.C.BatchController.writes) l.at)) l.entries;
-  turns : TurnsSoFar (λ place. EntrySetup (RuleSetup g.S.System.sets_up g.C.BatchController.sets_up l.at)) l.entry-index l.initial.entries (world_held g.V.ResourceValue.kind_of l.initial.world) l.entries (world_held g.V.ResourceValue.kind_of l.world);
+  turns : TurnsSoFar (λ place. EntrySetup (RuleSetup (setups_of (lists_of g.S.System.reads g.S.System.writes g.C.BatchController.reads g.C.BatchController.writes) g.S.System.sets_up g.C.BatchController.sets_up) l.at)) l.entry-index l.initial.entries (world_held g.V.ResourceValue.kind_of l.initial.world) l.entries (world_held g.V.ResourceValue.kind_of l.world);
 }

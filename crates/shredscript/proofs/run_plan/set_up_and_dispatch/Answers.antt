@@ -4,9 +4,9 @@ use Rattle.shredscript.proofs.SetUp.{is-set-up}
 use Rattle.shredscript.proofs.run_plan.set_up_and_dispatch.Goals as goal
 
 pub returns-in-Ok : goal.returns-in-Ok
-returns-in-Ok g c = (whole_over kind_of c.setup.new.self c.setup.new.world, (is-set-up _ _ _ _ _ c.setup.ensures).1, c.dispatch_each.ensures)
+returns-in-Ok g c = (whole_over kind_of c.setup.new.self c.setup.new.world, (is-set-up _ _ _ c.setup.ensures).1, c.dispatch_each.ensures)
 
 pub returns-in-Err : goal.returns-in-Err
 returns-in-Err g c =
-    let same = is-set-up _ _ _ _ _ c.setup.ensures in
+    let same = is-set-up _ _ _ c.setup.ensures in
     absurd (let done = same.0 in let refused = c.in-Err.is in cc)

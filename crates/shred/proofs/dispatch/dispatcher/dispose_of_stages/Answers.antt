@@ -5,7 +5,7 @@ use Rattle.shred_model.proofs.Joined.InTurn.{AllInTurn-more}
 use Rattle.shred_model.specs.InTurn.{AllInTurn}
 use Rattle.shred_world.specs.Worlds.{world_held}
 use Rattle.shred.specs.Setups.{StageDisposalAt}
-use Rattle.shred_run.specs.WorkSetups.{OwnDisposal}
+use Rattle.shred.proofs.Setups.{plan-disposed}
 use Rattle.shred.proofs.dispatch.dispatcher.dispose_of_stages.Goals as goal
 
 pub overflow_add-place : goal.overflow_add-place
@@ -27,7 +27,7 @@ loop-stage-preserved g c =
       all = append_assoc at.yielded (c.in-Some.stage ∷ []) _ ∙ rw (← steps) at.invariant.all;
       long = let was = at.invariant.long in let gone = c.in-Some.ensures.steps.1 in let short = ap length steps in omega arith;
       at_place = let was = at.invariant.at_place in let long = length_push at.yielded c.in-Some.stage in omega arith;
-      turns = rw c.first-answer.ensures (AllInTurn-more (StageDisposalAt (OwnDisposal g.S.System.disposes)) 0 at.place at.yielded c.in-Some.stage _ (world_held kind at.world) (world_held kind c.dispose_of_stage.new.world) at.answer c.dispose_of_stage.result (let was = at.invariant.at_place in omega arith) at.invariant.turns c.dispose_of_stage.ensures);
+      turns = rw c.first-answer.ensures (AllInTurn-more (StageDisposalAt g.S.System.disposes) 0 at.place at.yielded c.in-Some.stage _ (world_held kind at.world) (world_held kind c.dispose_of_stage.new.world) at.answer c.dispose_of_stage.result (let was = at.invariant.at_place in omega arith) at.invariant.turns c.dispose_of_stage.ensures);
     }
 
 pub returns : goal.returns
@@ -37,4 +37,4 @@ returns g c =
     let none = c.in-None.ensures.steps in
     let empty : into_iter_items at.stage-iterator ≡ [] = nil_from_length _ (sym at.invariant.long ∙ none.0) in
     let all = sym (append-nil at.yielded) ∙ rw empty at at.invariant.all ∙ c.into_iter-stage-iterator.ensures.into_iter_gives.0 in
-    subst (λ items. AllInTurn (StageDisposalAt (OwnDisposal g.S.System.disposes)) 0 items (world_held kind c.args.world.now) at.answer (world_held kind at.world)) all at.invariant.turns
+    plan-disposed g.S.System.disposes _ _ _ _ (subst (λ items. AllInTurn (StageDisposalAt g.S.System.disposes) 0 items (world_held kind c.args.world.now) at.answer (world_held kind at.world)) all at.invariant.turns)

@@ -3,7 +3,6 @@ use Rattle.std.specs.Vec.Iter.{into_iter_items, into_iter_len}
 use Rattle.shred_model.specs.InTurn.{AllInTurn}
 use Rattle.shred_world.specs.Worlds.{world_held}
 use Rattle.shred.specs.Setups.{StageDisposalAt}
-use Rattle.shred_run.specs.WorkSetups.{OwnDisposal}
 use Rattle.shred.proofs.dispatch.dispatcher.dispose_of_stages.Given as goal
 
 abbrev pub invariant-loop-stage : goal.invariant-loop-stage
@@ -11,5 +10,5 @@ invariant-loop-stage g l = record {
   all : l.yielded ++ into_iter_items l.stage-iterator ≡ into_iter_items l.initial.stage-iterator;
   long : into_iter_len l.stage-iterator ≡ length (into_iter_items l.stage-iterator);
   at_place : l.place ≡ length l.yielded;
-  turns : AllInTurn (StageDisposalAt (OwnDisposal g.S.System.disposes)) 0 l.yielded (world_held g.V.ResourceValue.kind_of l.initial.world) l.answer (world_held g.V.ResourceValue.kind_of l.world);
+  turns : AllInTurn (StageDisposalAt g.S.System.disposes) 0 l.yielded (world_held g.V.ResourceValue.kind_of l.initial.world) l.answer (world_held g.V.ResourceValue.kind_of l.world);
 }

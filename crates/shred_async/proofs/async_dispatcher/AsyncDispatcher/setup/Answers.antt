@@ -1,6 +1,6 @@
 use Rattle.std.proofs.Common.{sym, ap}
 use Rattle.shred_run.specs.Depths.{lists_of, relations_of}
-use Rattle.shred_run.specs.WorkSetups.{OwnSetup}
+use Rattle.shred_run.specs.WorkSetups.{setups_of}
 use Rattle.shred_async.specs.Parts.{PlanRan, SetUpOver}
 use Rattle.shred_async.specs.Standing.{over, state_at, state_of}
 use Rattle.shred_async.proofs.AtHome.{sets-up-home}
@@ -12,7 +12,7 @@ returns-in-Home g c =
     let self = c.join.new.self in
     let home = c.in-Home.home in
     let left = c.set_up_home.new.home in
-    sets-up-home (PlanRan kind (relations_of (lists_of g.S.System.reads g.S.System.writes g.C.BatchController.reads g.C.BatchController.writes) g.S.System.step g.C.BatchController.begins g.C.BatchController.asks)) (SetUpOver (OwnSetup g.S.System.sets_up g.C.BatchController.sets_up) g.L.RunNow.sets_up)
+    sets-up-home (PlanRan kind (relations_of (lists_of g.S.System.reads g.S.System.writes g.C.BatchController.reads g.C.BatchController.writes) g.S.System.step g.C.BatchController.begins g.C.BatchController.asks)) (SetUpOver (setups_of (lists_of g.S.System.reads g.S.System.writes g.C.BatchController.reads g.C.BatchController.writes) g.S.System.sets_up g.C.BatchController.sets_up) g.L.RunNow.sets_up)
     (state_of kind c.args.self.now) (state_of kind self) c.join.ensures
     (over kind home.stages self.thread_local self.workers home.world) (over kind left.stages c.set_up_home.new.thread_local self.workers left.world) home.untold left.untold c.set_up_home.result c.as_told.result
     (ap (state_at kind self.thread_local self.workers) (sym c.in-Home.is)) (c.set_up_home.ensures.set_up self.workers) c.as_told.ensures c.set_up_home.ensures.untold

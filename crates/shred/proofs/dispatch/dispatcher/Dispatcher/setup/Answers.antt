@@ -8,11 +8,10 @@ returns-in-Ok g c =
     let old = c.args.self.now.stages in
     let same : length c.set_up_stages.new.stages ≡ old.len = search rules in
     record {
-      of_stages = Ok tt;
+      of_plan = Ok tt;
       middle = world_held g.V.ResourceValue.kind_of c.set_up_stages.new.world;
-      stages = rw (with_items_is old c.set_up_stages.new.stages same) (rw c.as_mut_slice.ensures.value at c.in-Ok.ensures.set_up);
+      staged = rw (with_items_is old c.set_up_stages.new.stages same) (rw c.as_mut_slice.ensures.value at c.in-Ok.ensures);
       locals = c.setup.ensures;
-      plan = rw (with_items_is old c.set_up_stages.new.stages same) (rw c.as_mut_slice.ensures.value at c.in-Ok.ensures.plan);
       workers = refl;
     }
 
@@ -21,10 +20,9 @@ returns-in-Err g c =
     let old = c.args.self.now.stages in
     let same : length c.set_up_stages.new.stages ≡ old.len = search rules in
     record {
-      of_stages = Err c.in-Err.error;
+      of_plan = Err c.in-Err.error;
       middle = world_held g.V.ResourceValue.kind_of c.set_up_stages.new.world;
-      stages = rw (with_items_is old c.set_up_stages.new.stages same) (rw c.as_mut_slice.ensures.value at c.in-Err.ensures.set_up);
+      staged = rw (with_items_is old c.set_up_stages.new.stages same) (rw c.as_mut_slice.ensures.value at c.in-Err.ensures);
       locals = (refl, refl, refl);
-      plan = rw (with_items_is old c.set_up_stages.new.stages same) (rw c.as_mut_slice.ensures.value at c.in-Err.ensures.plan);
       workers = refl;
     }

@@ -14,6 +14,7 @@
 #   ends it, and what is printed there follows; nothing is printed on the other.
 # - NAME.dot and NAME.conflicts are what shredplan is to print of NAME.script, asked for that, worked out by hand. Of its
 #   svg NAME.classes has a line for each class, with the number of its elements.
+# - Of arguments shredrun takes the word `demo` alone, and shows the demo then.
 set -euo pipefail
 cd "$(dirname "${BASH_SOURCE[0]}")"
 
@@ -139,7 +140,32 @@ compare_random() {
     [ "$scripts" -gt 0 ] || complain "random.txt has no script"
 }
 
+# is_told_usage ARGUMENT..: shredrun is told how it is called, and runs no script.
+is_told_usage() {
+    local program=("${program[@]}" "$@")
+    ends_so "shredrun, called with '$*'," "$room/script" 1 /dev/null "$room/wanted-stderr"
+}
+
+compare_arguments() {
+    printf 'res X 1\n' >"$room/script"
+    printf 'usage: shredrun [demo]\n' >"$room/wanted-stderr"
+    is_told_usage ''
+    is_told_usage Demo
+    is_told_usage demos
+    is_told_usage --demo
+    is_told_usage $'\xff'
+    is_told_usage demo ''
+    is_told_usage demo demo
+    is_told_usage script demo
+    local program=("${program[@]}" demo)
+    printf 'e0 8 5 11\ne1 10 - 27\nok\n' >"$room/wanted-stdout"
+    ends_so "shredrun demo" "$room/script" 0 "$room/wanted-stdout" /dev/null
+    printf 'demo failed\n' >"$room/wanted-stderr"
+    writes_nothing "shredrun demo" "$room/script" 1 "$room/wanted-stderr"
+}
+
 compare_files
+compare_arguments
 compare_plans
 compare_rows
 compare_random

@@ -1,8 +1,10 @@
-//! Tests of the entity store.
+//! Tests of the entity store, and of the demo that shows it.
 #![tactic(auto)]
 
 #[cfg(test)]
 mod calls;
+#[cfg(test)]
+mod demos;
 #[cfg(test)]
 mod refusals;
 #[cfg(test)]

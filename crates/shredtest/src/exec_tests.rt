@@ -1,7 +1,7 @@
 //! Setups of worlds, and calls with bundles of them.
 use crate::shown::{Answer, count_in, empty, expect_answer, expect_number, world_of};
 use crate::values::{Count, Flag, Value};
-use shred_world::{DataError, Read, World, Write};
+use shred_world::{DataError, Kind, Read, ReadExpect, ResourceId, World, Write};
 use std::process::Abort;
 use std::test::Fail;
 
@@ -54,4 +54,33 @@ fn what_one_call_writes_the_next_one_reads(rt: HostRuntime) {
     expect_both(&rt, &mut world, 0, false);
     expect_both(&rt, &mut world, 43, true);
     expect_number(&rt, count_in(&world), Some(43));
+}
+
+fn count_id() -> ResourceId {
+    ResourceId::from_type_id(Kind(0))
+}
+
+// What a call is refused with that writes the count twice; one that is not refused shows the count.
+fn write_twice(world: &mut World<Value>) -> Answer {
+    world.exec::<(Write<Count>, Write<Count>), _, _>(|(count, _)| Some(count.0))
+}
+
+#[test]
+fn an_id_is_not_written_twice_in_one_call(rt: HostRuntime) {
+    let mut world = empty(rt.alloc());
+    let taken = Err(DataError::Taken(count_id()));
+    expect_answer(&rt, write_twice(&mut world), taken);
+    expect_number(&rt, count_in(&world), Some(0));
+}
+
+fn read_what_is_expected(world: &mut World<Value>) -> Answer {
+    world.exec::<ReadExpect<Count>, _, _>(|count| Some(count.0))
+}
+
+#[test]
+fn what_is_expected_is_not_provided(rt: HostRuntime) {
+    let mut world = empty(rt.alloc());
+    let missing = Err(DataError::Missing(count_id()));
+    expect_answer(&rt, read_what_is_expected(&mut world), missing);
+    expect_number(&rt, count_in(&world), None);
 }

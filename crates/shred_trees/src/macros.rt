@@ -1,5 +1,5 @@
 //! Trees, written down.
-ghost use Rattle.std.specs.Prelude.{◌≡◌, IfOk};
+ghost use Rattle.std.specs.Prelude.{◌≡◌, MatchResult};
 ghost use Rattle.shred_trees.specs.declared.halves.Halves.TheVariants.{Both};
 
 use crate::nil::Nil;
@@ -12,7 +12,7 @@ use shred_world::ResourceValue;
 pub fn single<V: ResourceValue, E: Drop, H: RunWithPool<V, E>>(
     head: H,
 ) -> Result<Par<V, E, H, Nil>, ParError>
-    ensures { IfOk result (λ par. par.halves ≡ Both head record {}) }
+    ensures { MatchResult result (λ par. par.halves ≡ Both head record {}) (λ refused. ⊥) }
 {
     Ok(Par::new(head))
 }

@@ -4,12 +4,14 @@ ghost use Rattle.std.specs.Prelude.{[]};
 use crate::adds::{DONE, ended, zeros};
 use shred::{Now, Plain, PlainSystem};
 use shred_run::Fault;
-use shred_trees::{Nil, Par, ParError, ParSeq, par};
+use shred_trees::{Nil, Par, ParError, ParSeq, RunWithPool, par, seq};
 use shred_world::{BatchAccessor, Only, OutOfMemory, View};
 use std::alloc::Global;
+use std::process::Abort;
 use std::sync::atomic::{AtomicBool, Ordering};
 use std::test::Fail;
 use std::thread;
+use std::thread::Threads;
 
 /// Raises its flag, looks so often at most for the other's, and refuses if it never sees it. After each look it lets others
 /// run, so that a busy machine has the time to start the second thread.
@@ -45,28 +47,63 @@ impl<'f> PlainSystem<Only<i64>> for Meets<'f> {
     }
 }
 
-fn meeting<'f>(own: &'f AtomicBool, other: &'f AtomicBool, turns: u32) -> Now<Plain<Meets<'f>>> {
+type Meeting<'f> = Now<Plain<Meets<'f>>>;
+
+fn meeting<'f>(own: &'f AtomicBool, other: &'f AtomicBool, turns: u32) -> Meeting<'f> {
     Now(Plain(Meets { own, other, turns }))
+}
+
+/// How often each of two looks that meet on two workers.
+const TURNS: u32 = 10_000_000;
+
+/// How often each looks in vain on one worker. No number of looks would do: the second has not begun.
+const VAIN: u32 = 100_000;
+
+/// Two that wait for each other, beside each other.
+type Both<'f> = Par<Only<i64>, u8, Par<Only<i64>, u8, Meeting<'f>, Meeting<'f>>, Nil>;
+
+fn both<'f>(
+    alloc: Global,
+    one: &'f AtomicBool,
+    other: &'f AtomicBool,
+    turns: u32,
+) -> Result<Both<'f>, ParError> {
+    par![alloc; meeting(one, other, turns), meeting(other, one, turns),]
+}
+
+/// On so many workers the dispatch of the two ends so, and that of the two at the head of a sequence.
+fn expect_meeting(
+    rt: &(impl Abort + AllocGlobal + Threads + Sync),
+    workers: usize,
+    turns: u32,
+    end: (&'static str, u8),
+) -> Result<(), Fail> {
+    let (one, other) = (AtomicBool::new(false), AtomicBool::new(false));
+    let tree = both(rt.alloc(), &one, &other, turns)?;
+    expect_end(rt, tree, workers, end)?;
+    let (one, other) = (AtomicBool::new(false), AtomicBool::new(false));
+    let tree = both(rt.alloc(), &one, &other, turns)?;
+    expect_end(rt, seq![tree, Nil], workers, end)
+}
+
+fn expect_end<T: RunWithPool<Only<i64>, u8> + Send>(
+    rt: &(impl Abort + AllocGlobal + Threads + Sync),
+    tree: T,
+    workers: usize,
+    end: (&'static str, u8),
+) -> Result<(), Fail> {
+    let mut par_seq: ParSeq<T, u8> = ParSeq::new(tree, workers);
+    let mut world = zeros(rt.alloc(), 0)?;
+    assert_eq!(rt; ended(par_seq.dispatch(rt, &mut world)), end);
+    Ok(())
 }
 
 #[test]
 fn two_workers_meet(rt: HostRuntime) -> Result<(), Fail> {
-    let (one, other) = (AtomicBool::new(false), AtomicBool::new(false));
-    let made: Result<Par<Only<i64>, u8, _, Nil>, ParError> =
-        par![rt.alloc(); meeting(&one, &other, 10_000_000), meeting(&other, &one, 10_000_000),];
-    let mut par_seq = ParSeq::new(made?, 2);
-    let mut world = zeros(rt.alloc(), 0)?;
-    assert_eq!(rt; ended(par_seq.dispatch(&rt, &mut world)), DONE);
-    Ok(())
+    expect_meeting(&rt, 2, TURNS, DONE)
 }
 
 #[test]
 fn one_worker_waits_in_vain(rt: HostRuntime) -> Result<(), Fail> {
-    let (one, other) = (AtomicBool::new(false), AtomicBool::new(false));
-    let made: Result<Par<Only<i64>, u8, _, Nil>, ParError> =
-        par![rt.alloc(); meeting(&one, &other, 100), meeting(&other, &one, 100),];
-    let mut par_seq = ParSeq::new(made?, 1);
-    let mut world = zeros(rt.alloc(), 0)?;
-    assert_eq!(rt; ended(par_seq.dispatch(&rt, &mut world)), ("refused", 1));
-    Ok(())
+    expect_meeting(&rt, 1, VAIN, ("refused", 1))
 }

@@ -43,6 +43,30 @@ fn the_first_conflict_of_a_list_is_told(rt: HostRuntime) -> Result<(), Fail> {
     Ok(())
 }
 
+/// The tree, whose evaluation is counted.
+fn counted<T>(evaluated: &AtomicU64, tree: T) -> T {
+    evaluated.fetch_add(1, Ordering::SeqCst);
+    tree
+}
+
+#[test]
+fn nothing_behind_a_conflict_is_evaluated(rt: HostRuntime) {
+    let evaluated = AtomicU64::new(0);
+    let made: Result<Par<Only<i64>, u8, _, Nil>, ParError> =
+        par![rt.alloc(); counted(&evaluated, adds_to(0, 1)), counted(&evaluated, looks_at(0)), counted(&evaluated, adds_to(1, 1)),];
+    assert_eq!(rt; made.err(), Some(ParError::Conflict));
+    assert_eq!(rt; evaluated.load(Ordering::SeqCst), 2);
+}
+
+#[test]
+fn a_par_of_one_runs_it(rt: HostRuntime) -> Result<(), Fail> {
+    let made: Result<Par<Only<i64>, u8, _, Nil>, ParError> = par![rt.alloc(); adds_to(0, 7),];
+    let mut world = zeros(rt.alloc(), 1)?;
+    assert_eq!(rt; run_of(&rt, made?, 2, &mut world), DONE);
+    expect_counts(&rt, &world, &[7]);
+    Ok(())
+}
+
 #[test]
 fn readers_stand_beside_each_other(rt: HostRuntime) -> Result<(), Fail> {
     let made: Result<Par<Only<i64>, u8, _, Nil>, ParError> =

@@ -39,14 +39,6 @@ pub(crate) fn dispatcher_over<S: System<Value> + Drop>(
     new_dispatcher(stages, ThreadLocal::new(alloc), 4)
 }
 
-/// The dispatcher of these systems, numbered from 0, which depend on nothing.
-pub(crate) fn dispatcher_of<S: System<Value> + Drop>(
-    alloc: Global,
-    systems: Vec<S>,
-) -> Result<Dispatcher<Value, S>, OutOfMemory> {
-    Ok(dispatcher_over(alloc, stages_of(alloc, systems)?))
-}
-
 pub(crate) fn add<S: System<Value> + Drop>(
     builder: &mut DispatcherBuilder<Value, S>,
     system: S,

@@ -1,6 +1,6 @@
 //! How a call ended, as a value that can be compared.
 
-use shred::{DispatchError, Fault};
+use shred::{DispatchError, Fault, StageFault};
 
 /// What ended it, which one, and its code.
 pub(crate) type Ended = (&'static str, usize, u8);
@@ -33,5 +33,14 @@ pub(crate) fn run_ended(outcome: Result<(), Fault<DispatchError<u8>>>) -> Ended 
         Ok(()) => DONE,
         Err(Fault::Refused(error)) => ended(Err(error)),
         Err(Fault::OutOfMemory) => ("memory of the run", 0, NO_MEMORY),
+    }
+}
+
+/// How a stage's call ended.
+pub(crate) fn stage_ended(answer: Result<(), StageFault<u8>>) -> Ended {
+    match answer {
+        Ok(()) => DONE,
+        Err(StageFault::System { id, fault }) => ("system", id.0, code_of(fault)),
+        Err(StageFault::Memory) => ("memory of the stage", 0, NO_MEMORY),
     }
 }

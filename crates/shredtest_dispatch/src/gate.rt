@@ -2,8 +2,12 @@
 ghost use Rattle.std.specs.Prelude.{[]};
 ghost use Rattle.shred_run.specs.declared.system.RunningTime.TheVariants.{Average};
 
-use crate::calls::{dispatched, dispatcher_of};
-use shred::{Dispatcher, Fault, OutOfMemory, RunningTime, System, View, World};
+use crate::calls::stages_of;
+use crate::ended::{DONE, Ended, ended, stage_ended};
+use shred::{
+    Dispatcher, Fault, OutOfMemory, RunningTime, Stage, System, ThreadLocal, View, World,
+    new_dispatcher,
+};
 use shredtest::values::Value;
 use std::alloc::{AllocError, Global};
 use std::process::Abort;
@@ -103,55 +107,120 @@ fn systems_of(
     Ok(systems)
 }
 
-fn dispatcher_meeting(
+/// By which call the systems are run, and on how many workers.
+#[derive(Clone, Copy)]
+enum Way {
+    Dispatch(usize),
+    InSequence,
+    Execute(usize),
+}
+
+fn executed(
+    rt: &(impl Threads + Sync),
+    stage: &mut Stage<Value, Meets<'_>>,
+    world: &mut World<Value>,
+    workers: usize,
+) -> Ended {
+    stage_ended(stage.execute(rt, world, workers))
+}
+
+fn dispatched_par(
+    rt: &(impl Threads + Sync),
+    dispatcher: &mut Dispatcher<Value, Meets<'_>>,
+    world: &mut World<Value>,
+) -> Ended {
+    ended(dispatcher.dispatch_par(rt, world))
+}
+
+fn dispatched_seq(
+    dispatcher: &mut Dispatcher<Value, Meets<'_>>,
+    world: &mut World<Value>,
+) -> Ended {
+    ended(dispatcher.dispatch_seq(world))
+}
+
+fn dispatcher_on(
     alloc: Global,
-    flags: &Flags,
-    count: usize,
-    turns: u32,
-) -> Result<Dispatcher<Value, Meets<'_>>, Fail> {
-    let systems = systems_of(alloc, flags, count, turns)?;
-    Ok(dispatcher_of(alloc, systems)?)
+    stages: Vec<Stage<Value, Meets<'_>>>,
+    workers: usize,
+) -> Dispatcher<Value, Meets<'_>> {
+    new_dispatcher(stages, ThreadLocal::new(alloc), workers)
 }
 
-/// The dispatch ends so.
-fn expect_end(
-    rt: &(impl Abort + AllocGlobal + Threads + Sync),
-    mut dispatcher: Dispatcher<Value, Meets<'_>>,
-    on_threads: bool,
-    ended: &str,
-) -> Result<(), Fail> {
+/// How a run of these stages ends, over an empty world: of each, or of the first that is not Done.
+fn end_of(
+    rt: &(impl AllocGlobal + Threads + Sync),
+    mut stages: Vec<Stage<Value, Meets<'_>>>,
+    way: Way,
+) -> Ended {
     let mut world: World<Value> = World::empty(rt.alloc());
-    let end = dispatched(rt, &mut dispatcher, &mut world, on_threads)?;
-    assert_eq!(rt; end.as_str(), ended);
-    Ok(())
+    match way {
+        Way::Dispatch(workers) => {
+            let mut dispatcher = dispatcher_on(rt.alloc(), stages, workers);
+            dispatched_par(rt, &mut dispatcher, &mut world)
+        }
+        Way::InSequence => {
+            let mut dispatcher = dispatcher_on(rt.alloc(), stages, 4);
+            dispatched_seq(&mut dispatcher, &mut world)
+        }
+        Way::Execute(workers) => match stages.first_mut() {
+            Some(stage) => executed(rt, stage, &mut world, workers),
+            None => DONE,
+        },
+    }
 }
 
-/// So many systems stand in one stage, each in a group of its own, and their dispatch ends so.
+// The number of groups in the first stage.
+fn groups_of(stages: &[Stage<Value, Meets<'_>>]) -> usize {
+    match stages.first() {
+        Some(stage) => stage.max_threads(),
+        None => 0,
+    }
+}
+
+/// So many systems stand in one stage, each in a group of its own, and their run ends so.
 fn expect_meeting(
     rt: &(impl Abort + AllocGlobal + Threads + Sync),
     count: usize,
     turns: u32,
-    on_threads: bool,
-    ended: &str,
+    way: Way,
+    end: Ended,
 ) -> Result<(), Fail> {
     let flags = Flags {
         first: AtomicBool::new(false),
         last: AtomicBool::new(false),
         between: AtomicBool::new(false),
     };
-    let dispatcher = dispatcher_meeting(rt.alloc(), &flags, count, turns)?;
-    assert_eq!(rt; dispatcher.max_threads(), count);
-    expect_end(rt, dispatcher, on_threads, ended)
+    let systems = systems_of(rt.alloc(), &flags, count, turns)?;
+    let stages = stages_of(rt.alloc(), systems)?;
+    assert_eq!(rt; stages.len(), 1);
+    assert_eq!(rt; groups_of(stages.as_slice()), count);
+    assert_eq!(rt; end_of(rt, stages, way), end);
+    Ok(())
 }
+
+/// How often each looks that meets the other.
+const TURNS: u32 = 10_000_000;
+
+/// How often each looks in vain. No number of looks would do: the second has not begun.
+const VAIN: u32 = 100_000;
+
+const REFUSED: Ended = ("system", 0, 1);
 
 #[test]
 fn gate_two_systems(rt: HostRuntime) -> Result<(), Fail> {
-    expect_meeting(&rt, 2, 10_000_000, true, "done")?;
-    // One after the other they do not meet. No number of looks would do: the second has not begun.
-    expect_meeting(&rt, 2, 1_000, false, "system 0: refused: 1")
+    expect_meeting(&rt, 2, TURNS, Way::Dispatch(2), DONE)?;
+    expect_meeting(&rt, 2, VAIN, Way::Dispatch(1), REFUSED)?;
+    expect_meeting(&rt, 2, VAIN, Way::InSequence, REFUSED)
+}
+
+#[test]
+fn gate_of_a_stage(rt: HostRuntime) -> Result<(), Fail> {
+    expect_meeting(&rt, 2, TURNS, Way::Execute(2), DONE)?;
+    expect_meeting(&rt, 2, VAIN, Way::Execute(1), REFUSED)
 }
 
 #[test]
 fn halves_of_a_stage_of_four_run_at_once(rt: HostRuntime) -> Result<(), Fail> {
-    expect_meeting(&rt, 4, 10_000_000, true, "done")
+    expect_meeting(&rt, 4, TURNS, Way::Dispatch(4), DONE)
 }

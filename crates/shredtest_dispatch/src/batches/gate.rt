@@ -324,7 +324,7 @@ fn gate_batch_on_too_few_workers(rt: HostRuntime) -> Result<(), Fail> {
     let one = Ring {
         workers: 1,
         inner_workers: 2,
-        turns: 1_000,
+        turns: 100_000,
         ..TWO
     };
     let two = Ring {

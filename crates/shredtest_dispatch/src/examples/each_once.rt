@@ -54,6 +54,7 @@ fn what_is_behind_a_box_is_dispatched(rt: HostRuntime) {
 fn a_plan_runs_as_often_as_a_number_says(rt: HostRuntime) {
     assert_eq!(rt; added_in_rounds(rt.alloc(), -1), Some(5));
     assert_eq!(rt; added_in_rounds(rt.alloc(), 0), Some(5));
+    assert_eq!(rt; added_in_rounds(rt.alloc(), 3), Some(14));
     assert_eq!(rt; added_in_rounds(rt.alloc(), 4), Some(17));
 }
 

@@ -142,6 +142,37 @@ const LOCAL_LIFE: Case = Case {
     left: &[Some(0)],
 };
 
+/// Its setup puts 0, and its run leaves 33 there, whatever it finds.
+const LEAVES_33: Case = Case {
+    counts: &[None],
+    staged: &[],
+    local: &[Script {
+        inserts: Some(0),
+        factor: 0,
+        amount: 33,
+        ..IDLE
+    }],
+    turns: &[
+        Turn {
+            call: Call::Setup,
+            ended: DONE,
+            counts: &[Some(0)],
+        },
+        Turn {
+            call: Call::Dispatch,
+            ended: DONE,
+            counts: &[Some(33)],
+        },
+        Turn {
+            call: Call::RunNow,
+            ended: DONE,
+            counts: &[Some(33)],
+        },
+    ],
+    disposed: DONE,
+    left: &[Some(33)],
+};
+
 /// The second staged system adds and refuses, and no thread-local one runs.
 const STAGED_REFUSAL: Case = Case {
     counts: &[Some(0)],
@@ -288,6 +319,7 @@ fn dispatchers_live_from_setup_to_disposal(rt: HostRuntime) -> Result<(), Fail> 
     for case in [
         &STAGED_LIFE,
         &LOCAL_LIFE,
+        &LEAVES_33,
         &STAGED_REFUSAL,
         &LOCAL_REFUSAL,
         &REFUSED_SETUP,

@@ -177,7 +177,7 @@ fn gate_four(rt: HostRuntime) -> Result<(), Fail> {
 fn gate_four_on_fewer_workers(rt: HostRuntime) -> Result<(), Fail> {
     // No number of looks would do: a system has not begun.
     for workers in 0..3 {
-        expect_meeting(&rt, Call::Dispatch, workers, 1_000, ("system", 0, 1))?;
+        expect_meeting(&rt, Call::Dispatch, workers, 100_000, ("system", 0, 1))?;
     }
     Ok(())
 }

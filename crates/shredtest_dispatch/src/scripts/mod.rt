@@ -1,5 +1,6 @@
-//! Tests of the engine of scripts, by whole runs, and of a table of scripts.
+//! Tests of the engine of scripts, by whole runs, of a table of scripts, and of what lines say.
 
+mod manners;
 mod readers;
 mod runs;
 mod tables;

@@ -45,8 +45,10 @@ struct Told {
 fn read_and_add<R: Wait>(rt: &R, shared: &SharedWorld<Number>) -> Told {
     let mut told = Told { added: 0, wrong: 0 };
     for _ in 0..1_000u32 {
-        if add_one(shared) {
-            told.added = told.added.wrapping_add(1);
+        match add_one(shared) {
+            Ok(()) => told.added = told.added.wrapping_add(1),
+            Err(SharedError::InvalidBorrow) => {}
+            Err(_) => told.wrong = told.wrong.wrapping_add(1),
         }
         match shared.fetch::<Sum, _>(rt) {
             Ok(_) | Err(SharedError::InvalidBorrow) => {}

@@ -79,6 +79,23 @@ fn what_is_written_is_not_read(rt: HostRuntime) -> Result<(), Fail> {
 }
 
 #[test]
+fn what_nobody_borrows_is_lent(rt: HostRuntime) -> Result<(), Fail> {
+    let shared = two_shared_sums(rt.alloc())?;
+    let found = shared.try_fetch::<Sum, _>(&rt)?;
+    let reader = found.expect(&rt, "a sum");
+    assert_eq!(rt; reader.0, 1);
+    drop(reader);
+    let found = shared.try_fetch_mut::<Sum>()?;
+    let mut writer = found.expect(&rt, "a sum");
+    *writer = Sum(7);
+    drop(writer);
+    let cell = shared.try_fetch_internal(first_sum()).expect(&rt, "a cell");
+    let value = cell.try_borrow(&rt)?;
+    assert_eq!(rt; *value, Number::Sum(Sum(7)));
+    Ok(())
+}
+
+#[test]
 fn what_was_written_is_read_and_comes_home(rt: HostRuntime) -> Result<(), Fail> {
     let shared = two_shared_sums(rt.alloc())?;
     let mut writer = shared.fetch_mut::<Sum>()?;

@@ -10,15 +10,14 @@ use std::alloc::{AllocError, Global};
 use std::sync::Wait;
 use std::thread::{Threads, map_indices};
 
-/// Adds one to the sum where no other borrows it, and says whether it did.
-pub fn add_one(shared: &SharedWorld<Number>) -> bool {
-    match shared.fetch_mut::<Sum>() {
-        Ok(mut sum) => {
-            sum.0 = sum.0.wrapping_add(1);
-            true
-        }
-        Err(_) => false,
-    }
+/// Adds one to the sum; refused `InvalidBorrow` while another borrows it, and `Missing` exactly where none is held.
+pub fn add_one(shared: &SharedWorld<Number>) -> Result<(), SharedError>
+    ensures there { OnOk result (shares shared.now (id_of sum_kind 0) ≡ true) }
+    ensures borrowed { shares shared.now (id_of sum_kind 0) ≡ true → IfErr result (λ error. error ≡ SharedError.InvalidBorrow) }
+{
+    let mut sum = shared.fetch_mut::<Sum>()?;
+    sum.0 = sum.0.wrapping_add(1);
+    Ok(())
 }
 
 /// The sum; refused `InvalidBorrow` while it is written, and `Missing` exactly where none is held.
@@ -41,5 +40,5 @@ pub fn added_by_each<R: Threads + Sync>(
 }
 
 fn added_by_one(shared: &SharedWorld<Number>) -> usize {
-    (0..1_000u32).filter(|_| add_one(shared)).count()
+    (0..1_000u32).filter(|_| add_one(shared).is_ok()).count()
 }

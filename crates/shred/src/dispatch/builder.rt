@@ -394,3 +394,69 @@ impl<
         Ok(builder)
     }
 }
+
+#[cfg(test)]
+mod tests {
+    use super::*;
+    use crate::plain::{Plain, PlainSystem};
+    use shred_run::Fault;
+    use shred_world::{BatchAccessor, Only, OutOfMemory, View};
+    use std::test::Fail;
+
+    /// A system that touches nothing.
+    #[derive(Drop)]
+    struct Quiet;
+
+    impl PlainSystem<Only<i64>> for Quiet {
+        type Error = u8;
+
+        ghost use Rattle.std.specs.Prelude.{[]};
+
+        ghost reads = { λ system. [] };
+
+        ghost writes = { λ system. [] };
+
+        ghost step = { λ _ _ _ _ _. Unit {0} };
+
+        fn run(&mut self, _view: &mut View<Only<i64>>) -> Result<(), Fault<u8>> {
+            Ok(())
+        }
+
+        fn accessor(&self, alloc: Global) -> Result<BatchAccessor, OutOfMemory> {
+            BatchAccessor::of(alloc, &[], &[])
+        }
+    }
+
+    type Builder = DispatcherBuilder<Only<i64>, Plain<Quiet>>;
+
+    // A builder with one system, and without an id for another.
+    fn exhausted(alloc: Global) -> Result<Builder, AddError> {
+        let mut builder: Builder = DispatcherBuilder::new(alloc);
+        builder.add(Plain(Quiet), "a", &[])?;
+        builder.next = usize::MAX;
+        Ok(builder)
+    }
+
+    fn added(
+        builder: &mut Builder,
+        name: &str,
+        dependencies: &[&str],
+    ) -> Result<SystemId, AddError> {
+        builder.add(Plain(Quiet), name, dependencies)
+    }
+
+    #[test]
+    fn no_system_has_the_greatest_id(rt: HostRuntime) -> Result<(), Fail> {
+        let mut builder = exhausted(rt.alloc())?;
+        let refused = Err(AddError::IdsExhausted);
+        assert_eq!(rt; added(&mut builder, "b", &["a"]), refused);
+        assert_eq!(rt; added(&mut builder, "", &[]), refused);
+        // The builder is as before: `b` is no name, `a` is one, no number was given, and one system is planned.
+        let missing = Err(AddError::NoSuchSystem { place: 0 });
+        assert_eq!(rt; added(&mut builder, "c", &["b"]), missing);
+        assert_eq!(rt; added(&mut builder, "a", &[]), Err(AddError::NameTaken));
+        assert_eq!(rt; builder.next, usize::MAX);
+        assert_eq!(rt; builder.build().max_threads(), 1);
+        Ok(())
+    }
+}

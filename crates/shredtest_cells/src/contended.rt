@@ -50,7 +50,7 @@ fn read_and_add<R: Wait>(rt: &R, shared: &SharedWorld<Number>) -> Told {
             Err(SharedError::InvalidBorrow) => {}
             Err(_) => told.wrong = told.wrong.wrapping_add(1),
         }
-        match shared.fetch::<Sum, _>(rt) {
+        match shared.fetch::<Sum>(rt) {
             Ok(_) | Err(SharedError::InvalidBorrow) => {}
             Err(_) => told.wrong = told.wrong.wrapping_add(1),
         }
@@ -72,7 +72,7 @@ fn what_eight_threads_add_is_in_the_shared_world(rt: HostRuntime) -> Result<(), 
         .iter()
         .fold(1usize, |sum, one| sum.wrapping_add(one.added));
     let sum = first.wrapping_add(total(more.as_slice()));
-    let reader = shared.fetch::<Sum, _>(&rt)?;
+    let reader = shared.fetch::<Sum>(&rt)?;
     assert_eq!(rt; u64::try_from(reader.0), Ok(sum as u64));
     Ok(())
 }

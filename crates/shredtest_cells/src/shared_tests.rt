@@ -14,9 +14,9 @@ fn first_sum() -> ResourceId {
 fn what_is_not_held_is_missing(rt: HostRuntime) -> Result<(), Fail> {
     let shared = two_shared_sums(rt.alloc())?;
     let missing = Some(SharedError::Missing(ResourceId::from_type_id(Kind(1))));
-    assert_eq!(rt; shared.fetch::<Product, _>(&rt).err(), missing);
+    assert_eq!(rt; shared.fetch::<Product>(&rt).err(), missing);
     assert_eq!(rt; shared.fetch_mut::<Product>().err(), missing);
-    assert!(rt; matches!(shared.try_fetch::<Product, _>(&rt), Ok(None)));
+    assert!(rt; matches!(shared.try_fetch::<Product>(&rt), Ok(None)));
     assert!(rt; matches!(shared.try_fetch_mut::<Product>(), Ok(None)));
     Ok(())
 }
@@ -29,7 +29,7 @@ fn an_id_of_another_kind_is_refused(rt: HostRuntime) -> Result<(), Fail> {
         found: Kind(0),
     });
     assert_eq!(rt;
-        shared.try_fetch_by_id::<Product, _>(&rt, first_sum()).err(),
+        shared.try_fetch_by_id::<Product>(&rt, first_sum()).err(),
         wrong
     );
     assert_eq!(rt;
@@ -51,7 +51,7 @@ fn refused_to_write(shared: &SharedWorld<Number>) -> [Option<SharedError>; 3] {
 #[test]
 fn what_is_read_is_not_written(rt: HostRuntime) -> Result<(), Fail> {
     let shared = two_shared_sums(rt.alloc())?;
-    let reader = shared.fetch::<Sum, _>(&rt)?;
+    let reader = shared.fetch::<Sum>(&rt)?;
     let copy = reader.try_clone(&rt)?;
     drop(reader);
     assert_eq!(rt;
@@ -67,10 +67,10 @@ fn what_is_written_is_not_read(rt: HostRuntime) -> Result<(), Fail> {
     let shared = two_shared_sums(rt.alloc())?;
     let writer = shared.fetch_mut::<Sum>()?;
     let borrowed = Some(SharedError::InvalidBorrow);
-    assert_eq!(rt; shared.fetch::<Sum, _>(&rt).err(), borrowed);
-    assert_eq!(rt; shared.try_fetch::<Sum, _>(&rt).err(), borrowed);
+    assert_eq!(rt; shared.fetch::<Sum>(&rt).err(), borrowed);
+    assert_eq!(rt; shared.try_fetch::<Sum>(&rt).err(), borrowed);
     assert_eq!(rt;
-        shared.try_fetch_by_id::<Sum, _>(&rt, first_sum()).err(),
+        shared.try_fetch_by_id::<Sum>(&rt, first_sum()).err(),
         borrowed
     );
     assert_eq!(rt; refused_to_write(&shared), [borrowed; 3]);
@@ -101,10 +101,10 @@ fn what_was_written_is_read_and_comes_home(rt: HostRuntime) -> Result<(), Fail> 
     let mut writer = shared.fetch_mut::<Sum>()?;
     *writer = Sum(7);
     drop(writer);
-    let reader = shared.fetch::<Sum, _>(&rt)?;
+    let reader = shared.fetch::<Sum>(&rt)?;
     assert_eq!(rt; reader.0, 7);
     drop(reader);
-    let found = shared.try_fetch_by_id::<Sum, _>(&rt, second_sum())?;
+    let found = shared.try_fetch_by_id::<Sum>(&rt, second_sum())?;
     let other = found.expect(&rt, "a second sum");
     assert_eq!(rt; other.0, 2);
     drop(other);
@@ -141,10 +141,10 @@ fn a_world_with_a_lost_value_stays_shared(rt: HostRuntime) -> Result<(), Fail> {
     std::mem::forget(shared.fetch_mut::<Sum>()?);
     let shared = shared.into_world().err().expect(&rt, "a shared world");
     assert_eq!(rt;
-        shared.fetch::<Sum, _>(&rt).err(),
+        shared.fetch::<Sum>(&rt).err(),
         Some(SharedError::InvalidBorrow)
     );
-    let found = shared.try_fetch_by_id::<Sum, _>(&rt, second_sum())?;
+    let found = shared.try_fetch_by_id::<Sum>(&rt, second_sum())?;
     let other = found.expect(&rt, "a second sum");
     assert_eq!(rt; other.0, 2);
     Ok(())

@@ -25,7 +25,7 @@ pub fn sum_in<R: Wait>(rt: &R, shared: &SharedWorld<Number>) -> Result<i64, Shar
     ensures there { OnOk result (shares shared.now (id_of sum_kind 0) ≡ true) }
     ensures borrowed { shares shared.now (id_of sum_kind 0) ≡ true → IfErr result (λ error. error ≡ SharedError.InvalidBorrow) }
 {
-    let sum = shared.fetch::<Sum, _>(rt)?;
+    let sum = shared.fetch::<Sum>(rt)?;
     Ok(sum.0)
 }
 

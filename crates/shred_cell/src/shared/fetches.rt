@@ -63,9 +63,9 @@ impl<V: ResourceValue + Drop> SharedWorld<V> {
 
     /// The resource that is held, to read. `Missing` where none is; `InvalidBorrow` where it is written, or read as often as
     /// may be.
-    pub fn fetch<R: Resource<V>, W: Wait>(
+    pub fn fetch<R: Resource<V>>(
         &self,
-        rt: &W,
+        rt: &impl Wait,
     ) -> Result<SharedFetch<'_, V, R>, SharedError>
         ensures missing { shares self.now (id_of R.KIND 0) ≡ false → result ≡ Err (SharedError.Missing (id_of R.KIND 0)) }
         ensures borrowed { shares self.now (id_of R.KIND 0) ≡ true → IfErr result (λ e. e ≡ SharedError.InvalidBorrow) }
@@ -75,9 +75,9 @@ impl<V: ResourceValue + Drop> SharedWorld<V> {
     }
 
     /// The resource that is held, to read, if one is. `InvalidBorrow` where it is written, or read as often as may be.
-    pub fn try_fetch<R: Resource<V>, W: Wait>(
+    pub fn try_fetch<R: Resource<V>>(
         &self,
-        rt: &W,
+        rt: &impl Wait,
     ) -> Result<Option<SharedFetch<'_, V, R>>, SharedError>
         ensures held { IfOk result (λ found. is_some found ≡ shares self.now (id_of R.KIND 0)) }
         ensures borrowed { IfErr result (λ e. (e ≡ SharedError.InvalidBorrow) × (shares self.now (id_of R.KIND 0) ≡ true)) }
@@ -87,9 +87,9 @@ impl<V: ResourceValue + Drop> SharedWorld<V> {
 
     /// The resource that is held under the id, to read, if one is. `WrongKind` where the id is of another kind, tested first;
     /// `InvalidBorrow` where it is written, or read as often as may be.
-    pub fn try_fetch_by_id<R: Resource<V>, W: Wait>(
+    pub fn try_fetch_by_id<R: Resource<V>>(
         &self,
-        rt: &W,
+        rt: &impl Wait,
         id: ResourceId,
     ) -> Result<Option<SharedFetch<'_, V, R>>, SharedError>
         ensures wrong_kind { (R.KIND ≢ id_kind id) → result ≡ Err (SharedError.WrongKind R.KIND (id_kind id)) }

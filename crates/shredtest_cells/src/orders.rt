@@ -2,7 +2,10 @@
 ghost use Rattle.std.specs.Prelude.{◌≡◌, MatchOption, false};
 ghost use Rattle.shred_meta.specs.Kinds.{is_registered};
 ghost use Rattle.shred_meta.specs.MetaTables.{kinds_of};
+ghost use Rattle.shred_table.specs.declared.id.ResourceId.{ResourceId};
+ghost use Rattle.shred_world.specs.Worlds.{world_held};
 ghost use Rattle.shredtest_cells.specs.Numbers.{after_order, kind_of};
+ghost use Rattle.shredtest_cells.specs.Orders.{ordered};
 
 use crate::numbers::{Number, Product, Sum};
 use shred_meta::{Common, MetaTable};
@@ -18,15 +21,12 @@ pub fn both_kinds(alloc: Global) -> Result<MetaTable<Number>, OutOfMemory> {
 }
 
 /// Gives the order to each number of a registered kind that is held under number 0, in the order of registration.
-pub fn order_each(table: &MetaTable<Number>, world: &mut World<Number>, order: i64) {
+pub fn order_each(table: &MetaTable<Number>, world: &mut World<Number>, order: i64)
+    ensures { (id : ResourceId) → world_held kind_of world.new id ≡ ordered order (kinds_of table.now) (world_held kind_of world.old) id }
+{
     let mut walk = table.iter_mut(world);
-    for _ in 0..u64::MAX {
-        match walk.next() {
-            Some(number) => {
-                number.act(order);
-            }
-            None => break,
-        }
+    while let Some(number) = walk.next() {
+        number.act(order);
     }
 }
 

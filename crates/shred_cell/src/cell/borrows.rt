@@ -7,7 +7,7 @@ ghost use Rattle.shred_cell.specs.Word.{step};
 use super::{InvalidBorrow, Ref, RefMut, TrustCell};
 use crate::bits::{bits_of, word_of};
 use crate::fact::{Fact, Kept};
-use crate::word::{Ask, next};
+use crate::word::{Ask, Word, next};
 use counted_slot::{Claim, Counted, FREE, MARKED, PRESENT, TAKEN};
 use std::marker::PhantomData;
 use std::sync::Wait;
@@ -133,13 +133,16 @@ impl<T: Drop, F: Fact<T>> TrustCell<T, F> {
     pub(crate) fn give(&self, value: T)
         requires { F.holds (tag_of self.now) value }
     {
+        let Some(then) = next(Word::Writer, Ask::EndWrite) else {
+            unreachable!()
+        };
         let (found, hand) = self.slot.turn(MARKED, TAKEN);
         if found == MARKED {
             let kept = Kept {
                 value,
                 fact: PhantomData,
             };
-            hand.put(Some(kept), PRESENT);
+            hand.put(Some(kept), bits_of(then));
         } else {
             // No one but the writer changes the word while one writes, so the exchange is not lost.
             hand.done();

@@ -28,7 +28,8 @@ pub use one_of::OneOf;
 pub use plain::{Plain, PlainSystem};
 pub use run_now::RunNow;
 pub use shred_cell::{
-    CellRef, OfKind, SharedError, SharedFetch, SharedFetchMut, SharedWorld, cell, word,
+    Anything, CellRef, Fact, OfKind, SharedError, SharedFetch, SharedFetchMut, SharedWorld, cell,
+    word,
 };
 pub use shred_meta::{Common, MetaIter, MetaIterMut, MetaMut, MetaTable};
 pub use shred_run::kept::batch_entry;

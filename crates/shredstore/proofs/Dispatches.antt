@@ -131,7 +131,7 @@ module _ (before : RulesOver) (answer : Answer (DispatchError Overflow)) (after 
 
 -- the answer is told of systems alone
 pub of-systems : (before : RulesOver) (answer : Answer (DispatchError Overflow)) (after : RulesOver) → IsDispatch before answer after → IsOfSystems answer
-of-systems before answer after ran = elim ran.told [ | inl over ↦ subst IsOfSystems (sym over) tt | inr t ↦ subst IsOfSystems (sym t.told) tt ]
+of-systems before answer after ran = elim ran.told [ inl over ↦ subst IsOfSystems (sym over) tt | inr t ↦ subst IsOfSystems (sym t.told) tt ]
 
 -- the rule that a dispatch tells of as overflowing took a step with this fault
 module _ (rules : List StoreRule) (before after : RulesOver) (runs : RunsRules rules before) (answer : Answer (DispatchError Overflow)) (ran : IsDispatch before answer after) where

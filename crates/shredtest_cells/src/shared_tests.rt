@@ -81,7 +81,7 @@ fn what_is_written_is_not_read(rt: HostRuntime) -> Result<(), Fail> {
 #[test]
 fn what_nobody_borrows_is_lent(rt: HostRuntime) -> Result<(), Fail> {
     let shared = two_shared_sums(rt.alloc())?;
-    let found = shared.try_fetch::<Sum, _>(&rt)?;
+    let found = shared.try_fetch::<Sum>(&rt)?;
     let reader = found.expect(&rt, "a sum");
     assert_eq!(rt; reader.0, 1);
     drop(reader);

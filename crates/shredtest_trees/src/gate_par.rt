@@ -71,39 +71,40 @@ fn both<'f>(
     par![alloc; meeting(one, other, turns), meeting(other, one, turns),]
 }
 
-/// On so many workers the dispatch of the two ends so, and that of the two at the head of a sequence.
+/// Whether on so many workers the two meet, by themselves and at the head of a sequence.
 fn expect_meeting(
     rt: &(impl Abort + AllocGlobal + Threads + Sync),
     workers: usize,
     turns: u32,
-    end: (&'static str, u8),
+    meet: bool,
 ) -> Result<(), Fail> {
     let (one, other) = (AtomicBool::new(false), AtomicBool::new(false));
     let tree = both(rt.alloc(), &one, &other, turns)?;
-    expect_end(rt, tree, workers, end)?;
+    expect_end(rt, tree, workers, meet)?;
     let (one, other) = (AtomicBool::new(false), AtomicBool::new(false));
     let tree = both(rt.alloc(), &one, &other, turns)?;
-    expect_end(rt, seq![tree, Nil], workers, end)
+    expect_end(rt, seq![tree, Nil], workers, meet)
 }
 
 fn expect_end<T: RunWithPool<Only<i64>, u8> + Send>(
     rt: &(impl Abort + AllocGlobal + Threads + Sync),
     tree: T,
     workers: usize,
-    end: (&'static str, u8),
+    meet: bool,
 ) -> Result<(), Fail> {
     let mut par_seq: ParSeq<T, u8> = ParSeq::new(tree, workers);
     let mut world = zeros(rt.alloc(), 0)?;
+    let end = if meet { DONE } else { ("refused", 1) };
     assert_eq!(rt; ended(par_seq.dispatch(rt, &mut world)), end);
     Ok(())
 }
 
 #[test]
 fn two_workers_meet(rt: HostRuntime) -> Result<(), Fail> {
-    expect_meeting(&rt, 2, TURNS, DONE)
+    expect_meeting(&rt, 2, TURNS, true)
 }
 
 #[test]
 fn one_worker_waits_in_vain(rt: HostRuntime) -> Result<(), Fail> {
-    expect_meeting(&rt, 1, VAIN, ("refused", 1))
+    expect_meeting(&rt, 1, VAIN, false)
 }

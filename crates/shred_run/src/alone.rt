@@ -1,18 +1,18 @@
 //! One step of a system over all that a table holds, outside of a plan.
-ghost use Rattle.std.specs.Prelude.{◌≡◌, IfOk, false};
+ghost use Rattle.std.specs.Prelude.{◌≡◌, IfOk};
 ghost use Rattle.shred_run.specs.Alone.{IsStepOver, KeepsKinds, KeepsLists, StepsAlone};
 ghost use Rattle.shred_run.specs.declared.alone.Room.{Room};
 ghost use Rattle.shred_table.specs.Parting.{IsEmptyHand};
-ghost use Rattle.shred_table.specs.Shown.{shown, IsSameSlots};
-ghost use Rattle.shred_table.specs.Slots.{slot_at, held, among};
-ghost use Rattle.shred_table.specs.declared.id.ResourceId.{ResourceId};
-ghost use Rattle.std.specs.Option.{option_map};
+ghost use Rattle.shred_table.specs.Shown.{IsSameSlots};
+ghost use Rattle.shred_table.specs.Slots.{slot_at, held};
 ghost use Rattle.shred_run.specs.Kept.{AreOwnLists};
 ghost use Rattle.shred_run.specs.OwnSlots.{HasOnlySlots};
-ghost use Rattle.shred_run.specs.Steps.{declared_of};
+ghost use Rattle.shred_run.specs.Controls.{keeping};
+ghost use Rattle.shred_run.specs.OwnLists.{declared_lists};
+ghost use Rattle.shred_run.specs.Steppers.{IsStepBy};
 ghost use Rattle.shred_table.specs.Shown.{HasOwnSlots};
 
-use crate::calls::run_system;
+use crate::calls::{Run, call_over};
 use crate::loan::Loan;
 use crate::system::{Fault, System};
 use shred_world::parting::{empty_hand, move_each, move_home};
@@ -58,11 +58,7 @@ fn step_before<V: ResourceValue, S: System<V>>(
     requires own_lists { AreOwnLists (S.reads system.old) (S.writes system.old) reads.now writes.now }
     requires own_slots { HasOwnSlots writes.now (slot_at table.now) hand.old }
     requires only_own { HasOnlySlots writes.now hand.old }
-    ensures step { S.step system.old (declared_of (record { reads = reads.now; writes = writes.now }) (shown V.kind_of (slot_at table.now) hand.old)) result system.new (declared_of (record { reads = reads.now; writes = writes.now }) (shown V.kind_of (slot_at table.now) hand.new)) }
-    ensures kinds { (id : ResourceId) → option_map V.kind_of (shown V.kind_of (slot_at table.now) hand.new id) ≡ option_map V.kind_of (shown V.kind_of (slot_at table.now) hand.old id) }
-    ensures slots { IsSameSlots hand.old hand.new }
-    ensures frame { (id : ResourceId) → among writes.now id ≡ false → shown V.kind_of (slot_at table.now) hand.new id ≡ shown V.kind_of (slot_at table.now) hand.old id }
-    ensures lists { KeepsLists S.reads S.writes system.old system.new }
+    ensures { IsStepBy V.kind_of (declared_lists S.reads S.writes) (keeping S.reads S.writes S.step) reads.now writes.now (slot_at table.now) system.old hand.old result system.new hand.new }
 {
     let shelf = &[Shelf::Last(table)];
     let loan = Loan {
@@ -70,7 +66,7 @@ fn step_before<V: ResourceValue, S: System<V>>(
         writes,
         shelf,
     };
-    run_system(&loan, system, hand)
+    call_over(&Run, &loan, system, hand)
 }
 
 // The step, with what it writes moved into the hand before, and back after.

@@ -26,7 +26,7 @@ ghost use Rattle.shred_table.specs.declared.id.ResourceId.{ResourceId};
 ghost use Rattle.shred_table.specs.Shown.{shown, HasOwnSlots};
 ghost use Rattle.shred_world.specs.Views.{lent_slot};
 
-use crate::calls::{Ask, Begin, run_system};
+use crate::calls::{Ask, Begin, Run, call_over};
 use crate::control::{KeptController, call_kept};
 use crate::controller::BatchController;
 use crate::depth::depth_by;
@@ -78,7 +78,7 @@ where
                 writes,
                 shelf,
             };
-            run_system(&loan, system, own)
+            call_over(&Run, &loan, system, own)
         }
         Work::Batch(nested) => run_batch(
             rt,

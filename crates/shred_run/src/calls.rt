@@ -1,14 +1,11 @@
-//! A system's step and the two calls of a controller, over a table and what is lent behind it.
+//! The run of a system and the two calls of a controller, over a table and what is lent behind it.
 ghost use Rattle.std.specs.Prelude.{◌≡◌, List, false, is_some};
-ghost use Rattle.std.specs.Option.{option_map};
 ghost use Rattle.shred_run.specs.OwnSlots.{LendsSome, LiesBefore};
-ghost use Rattle.shred_run.specs.Alone.{KeepsLists};
 ghost use Rattle.shred_run.specs.Controls.{keeping};
 ghost use Rattle.shred_run.specs.Kept.{AreOwnLists};
-ghost use Rattle.shred_run.specs.Steps.{declared_of};
+ghost use Rattle.shred_run.specs.OwnLists.{declared_lists};
+ghost use Rattle.shred_run.specs.Steppers.{IsStepBy};
 ghost use Rattle.shred_table.specs.declared.id.ResourceId.{ResourceId};
-ghost use Rattle.shred_table.specs.Shown.{shown, IsSameSlots};
-ghost use Rattle.shred_table.specs.Slots.{among};
 ghost use Rattle.shred_world.specs.Views.{lent_slot};
 
 use crate::controller::BatchController;
@@ -72,7 +69,25 @@ impl<V: ResourceValue, C: BatchController<V, Error = E>, E> Call<V, C, bool, E> 
     }
 }
 
+/// The run of a system.
+#[derive(Drop)]
+pub(crate) struct Run;
+
+impl<V: ResourceValue, S: System<V, Error = E>, E> Call<V, S, (), E> for Run {
+    ghost reads_of = { S.reads };
+
+    ghost writes_of = { S.writes };
+
+    ghost does = { keeping S.reads S.writes S.step };
+
+    #[inline(always)]
+    fn call(&self, on: &mut S, view: &mut View<V>) -> Result<(), Fault<E>> {
+        on.run(view)
+    }
+}
+
 /// The call, over a table that has what may be written and nothing else, before what is lent shared.
+#[inline(always)]
 pub(crate) fn call_over<V: ResourceValue, C, A, E, K: Call<V, C, A, E>>(
     call: &K,
     loan: &Loan<V>,
@@ -82,39 +97,11 @@ pub(crate) fn call_over<V: ResourceValue, C, A, E, K: Call<V, C, A, E>>(
     requires own_lists { AreOwnLists (K.reads_of on.old) (K.writes_of on.old) loan.now.reads.now loan.now.writes.now }
     requires has { LiesBefore loan.now.writes.now loan.now.shelf.now own.old }
     requires behind { LendsSome loan.now.shelf.now }
-    ensures lies { K.does on.old (declared_of (record { reads = loan.now.reads.now; writes = loan.now.writes.now }) (shown V.kind_of (lent_slot loan.now.shelf.now) own.old)) result on.new (declared_of (record { reads = loan.now.reads.now; writes = loan.now.writes.now }) (shown V.kind_of (lent_slot loan.now.shelf.now) own.new)) }
-    ensures kinds { (id : ResourceId) → option_map V.kind_of (shown V.kind_of (lent_slot loan.now.shelf.now) own.new id) ≡ option_map V.kind_of (shown V.kind_of (lent_slot loan.now.shelf.now) own.old id) }
-    ensures slots { IsSameSlots own.old own.new }
-    ensures frame { (id : ResourceId) → among loan.now.writes.now id ≡ false → shown V.kind_of (lent_slot loan.now.shelf.now) own.new id ≡ shown V.kind_of (lent_slot loan.now.shelf.now) own.old id }
-    ensures own_lists { AreOwnLists (K.reads_of on.new) (K.writes_of on.new) loan.now.reads.now loan.now.writes.now }
+    ensures { IsStepBy V.kind_of (declared_lists K.reads_of K.writes_of) K.does loan.now.reads.now loan.now.writes.now (lent_slot loan.now.shelf.now) on.old own.old result on.new own.new }
 {
     let reads = loan.reads;
     let writes = loan.writes;
     let shelf = loan.shelf;
     let mut view = View::over(reads, writes, shelf, own);
     call.call(on, &mut view)
-}
-
-// One step of a system, over a table that has what it writes and nothing else, before what is lent shared.
-#[inline(always)]
-pub(crate) fn run_system<V: ResourceValue, S: System<V>>(
-    loan: &Loan<V>,
-    system: &mut S,
-    own: &mut Table<V>,
-) -> Result<(), Fault<S::Error>>
-    requires own_lists { AreOwnLists (S.reads system.old) (S.writes system.old) loan.now.reads.now loan.now.writes.now }
-    requires has { LiesBefore loan.now.writes.now loan.now.shelf.now own.old }
-    requires behind { LendsSome loan.now.shelf.now }
-    ensures lies { S.step system.old (declared_of (record { reads = loan.now.reads.now; writes = loan.now.writes.now }) (shown V.kind_of (lent_slot loan.now.shelf.now) own.old)) result system.new (declared_of (record { reads = loan.now.reads.now; writes = loan.now.writes.now }) (shown V.kind_of (lent_slot loan.now.shelf.now) own.new)) }
-    ensures kinds { (id : ResourceId) → option_map V.kind_of (shown V.kind_of (lent_slot loan.now.shelf.now) own.new id) ≡ option_map V.kind_of (shown V.kind_of (lent_slot loan.now.shelf.now) own.old id) }
-    ensures slots { IsSameSlots own.old own.new }
-    ensures frame { (id : ResourceId) → among loan.now.writes.now id ≡ false → shown V.kind_of (lent_slot loan.now.shelf.now) own.new id ≡ shown V.kind_of (lent_slot loan.now.shelf.now) own.old id }
-    ensures own_lists { AreOwnLists (S.reads system.new) (S.writes system.new) loan.now.reads.now loan.now.writes.now }
-    ensures lists { KeepsLists S.reads S.writes system.old system.new }
-{
-    let reads = loan.reads;
-    let writes = loan.writes;
-    let shelf = loan.shelf;
-    let mut view = View::over(reads, writes, shelf, own);
-    system.run(&mut view)
 }

@@ -1,11 +1,11 @@
 //! A batch's controller, with what was kept of it, and its calls over a table that lies before what is lent shared.
-ghost use Rattle.std.specs.Prelude.{◌≡◌, true, false};
-ghost use Rattle.std.specs.Option.{option_map};
+ghost use Rattle.std.specs.Prelude.{◌≡◌, true};
 ghost use Rattle.shred_run.specs.KeptControllers.{control_access, IsOwnControl};
 ghost use Rattle.shred_run.specs.Rounds.{IsControlOver};
 ghost use Rattle.shred_run.specs.Kept.{AreOwnLists};
 ghost use Rattle.shred_run.specs.OwnSlots.{lent_before, HasOnlySlots, LiesBefore};
-ghost use Rattle.shred_run.specs.Steps.{declared_of};
+ghost use Rattle.shred_run.specs.OwnLists.{declared_lists};
+ghost use Rattle.shred_run.specs.Steppers.{IsStepBy};
 ghost use Rattle.shred_table.specs.declared.id.ResourceId.{ResourceId};
 ghost use Rattle.shred_table.specs.Shown.{shown, HasOwnSlots, IsSameSlots};
 ghost use Rattle.shred_table.specs.Slots.{among};
@@ -38,13 +38,9 @@ fn call_in_hand<V: ResourceValue, C, A, E, K: Call<V, C, A, E>>(
     requires has { LiesBefore loan.now.writes.now loan.now.shelf.now own.now }
     requires hand_slots { HasOwnSlots entry.old.writes.items (lent_before own.now (lent_slot loan.now.shelf.now)) entry.old.hand }
     requires only_hand { HasOnlySlots entry.old.writes.items entry.old.hand }
-    ensures lies { K.does entry.old.controller (declared_of (control_access entry.old) (shown V.kind_of (lent_before own.now (lent_slot loan.now.shelf.now)) entry.old.hand)) result entry.new.controller (declared_of (control_access entry.old) (shown V.kind_of (lent_before own.now (lent_slot loan.now.shelf.now)) entry.new.hand)) }
-    ensures kinds { (id : ResourceId) → option_map V.kind_of (shown V.kind_of (lent_before own.now (lent_slot loan.now.shelf.now)) entry.new.hand id) ≡ option_map V.kind_of (shown V.kind_of (lent_before own.now (lent_slot loan.now.shelf.now)) entry.old.hand id) }
-    ensures slots { IsSameSlots entry.old.hand entry.new.hand }
-    ensures frame { (id : ResourceId) → among entry.old.writes.items id ≡ false → shown V.kind_of (lent_before own.now (lent_slot loan.now.shelf.now)) entry.new.hand id ≡ shown V.kind_of (lent_before own.now (lent_slot loan.now.shelf.now)) entry.old.hand id }
+    ensures called { IsStepBy V.kind_of (declared_lists K.reads_of K.writes_of) K.does entry.old.reads.items entry.old.writes.items (lent_before own.now (lent_slot loan.now.shelf.now)) entry.old.controller entry.old.hand result entry.new.controller entry.new.hand }
     ensures reads { entry.new.reads ≡ entry.old.reads }
     ensures writes { entry.new.writes ≡ entry.old.writes }
-    ensures own_lists { AreOwnLists (K.reads_of entry.new.controller) (K.writes_of entry.new.controller) entry.new.reads.items entry.new.writes.items }
 {
     let writes = loan.writes;
     let shelf = loan.shelf;

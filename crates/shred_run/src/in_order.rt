@@ -25,7 +25,7 @@ ghost use Rattle.shred_table.specs.declared.id.ResourceId.{ResourceId};
 ghost use Rattle.shred_table.specs.Shown.{shown, HasOwnSlots};
 ghost use Rattle.shred_world.specs.Views.{lent_slot};
 
-use crate::calls::{Ask, Begin, run_system};
+use crate::calls::{Ask, Begin, Run, call_over};
 use crate::control::{KeptController, call_kept};
 use crate::controller::BatchController;
 use crate::depth::depth_by;
@@ -70,7 +70,7 @@ fn run_work<
                 writes,
                 shelf,
             };
-            run_system(&loan, system, own)
+            call_over(&Run, &loan, system, own)
         }
         Work::Batch(nested) => run_batch(depth - 1, &mut nested.batch, reads, writes, shelf, own),
     }

@@ -24,7 +24,7 @@ returns-clause-step g c =
     record {
       lies = subst (λ seen. g.S.System.step c.args.system.now seen ran.result ran.new.system (declared_of (record { reads = g.S.System.reads c.args.system.now; writes = g.S.System.writes c.args.system.now }) (held kind c.move_home.new.to)))
           (λ i. declared_of (record { reads = r i; writes = w i }) (λ q. shows q i))
-          (subst (λ left. g.S.System.step c.args.system.now seen ran.result ran.new.system left) (λ i. declared_of (record { reads = r i; writes = w i }) (λ q. ends q i)) ran.ensures.step);
+          (subst (λ left. g.S.System.step c.args.system.now seen ran.result ran.new.system left) (λ i. declared_of (record { reads = r i; writes = w i }) (λ q. ends q i)) ran.ensures.lies.0);
       frame = λ q out. sym (ends q) ∙ ran.ensures.frame q (ap (λ (ids : List ResourceId). among ids q) w ∙ out) ∙ shows q;
       keeps_kinds = λ q. ap (option_map kind) (sym (ends q)) ∙ ran.ensures.kinds q ∙ ap (option_map kind) (shows q);
     }

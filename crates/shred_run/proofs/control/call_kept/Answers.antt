@@ -10,4 +10,4 @@ returns-clause-ran g c =
     let to = rw c.as_slice.ensures.value at c.move_each.ensures.to in
     let back = rw (c.as_slice-2.ensures.value ∙ ap (λ ids. ids.items) ran.ensures.writes) at c.move_home.ensures.to in
     controlled g.V.ResourceValue.kind_of (lent_slot c.args.loan.now.shelf.now) c.args.loan.now.writes.now c.args.entry.now c.args.own.now c.move_each.new.from c.move_each.new.to ran.new.entry.hand c.move_home.new.to
-    c.requires.own_lists.hand c.requires.writes_within c.requires.has.own_slots from to ran.ensures.slots ran.ensures.kinds back g.K.Call.does ran.result ran.new.entry.controller ran.ensures.lies ran.ensures.frame
+    c.requires.own_lists.hand c.requires.writes_within c.requires.has.own_slots from to ran.ensures.called.slots ran.ensures.called.kinds back g.K.Call.does ran.result ran.new.entry.controller ran.ensures.called.lies ran.ensures.called.frame

@@ -159,8 +159,8 @@ run_in_own_hand-returns-clause-stepped g t c =
 pub run_entry-returns-then-single-clause-stepped : goal.run_entry-returns-then-single-clause-stepped
 run_entry-returns-then-single-clause-stepped g t c = rw (c.as_slice.ensures.value, c.as_slice-then-single.ensures.value) at c.run_work.ensures.stepped
 
-pub run_work-run_system-requires-clause-own_lists : goal.run_work-run_system-requires-clause-own_lists
-run_work-run_system-requires-clause-own_lists g t c = system-lists (lists_of g.S.System.reads g.S.System.writes g.C.BatchController.reads g.C.BatchController.writes) c.args.reads.now c.args.writes.now (rule_depth c.args.at c.args.work.now) c.args.work.now c.in-System.system c.in-System.is c.requires.own_lists
+pub run_work-call_over-requires-clause-own_lists : goal.run_work-call_over-requires-clause-own_lists
+run_work-call_over-requires-clause-own_lists g t c = system-lists (lists_of g.S.System.reads g.S.System.writes g.C.BatchController.reads g.C.BatchController.writes) c.args.reads.now c.args.writes.now (rule_depth c.args.at c.args.work.now) c.args.work.now c.in-System.system c.in-System.is c.requires.own_lists
 
 pub run_work-overflow_sub-depth : goal.run_work-overflow_sub-depth
 run_work-overflow_sub-depth g t c = batch-deep (lists_of g.S.System.reads g.S.System.writes g.C.BatchController.reads g.C.BatchController.writes) c.args.at c.args.reads.now c.args.writes.now c.in-Batch.is c.depth_by-depth.ensures c.requires.own_lists
@@ -173,8 +173,7 @@ run_work-run_batch-requires g t c κs within =
 
 pub run_work-returns-in-System : goal.run_work-returns-in-System
 run_work-returns-in-System g t c =
-    let went = c.run_system.ensures in
-    record { stepped = ran-system (lists_of g.S.System.reads g.S.System.writes g.C.BatchController.reads g.C.BatchController.writes) c.args.at c.args.reads.now c.args.writes.now (relations_of (lists_of g.S.System.reads g.S.System.writes g.C.BatchController.reads g.C.BatchController.writes) g.S.System.step g.C.BatchController.begins g.C.BatchController.asks) c.in-System.is (record { lies = (went.lies, went.lists); kinds = went.kinds; slots = went.slots; frame = went.frame; own_lists = went.own_lists }) }
+    record { stepped = ran-system (lists_of g.S.System.reads g.S.System.writes g.C.BatchController.reads g.C.BatchController.writes) c.args.at c.args.reads.now c.args.writes.now (relations_of (lists_of g.S.System.reads g.S.System.writes g.C.BatchController.reads g.C.BatchController.writes) g.S.System.step g.C.BatchController.begins g.C.BatchController.asks) c.in-System.is c.call_over.ensures }
 
 pub run_work-returns-in-Batch : goal.run_work-returns-in-Batch
 run_work-returns-in-Batch g t c = record { stepped = ran-batch (lists_of g.S.System.reads g.S.System.writes g.C.BatchController.reads g.C.BatchController.writes) c.args.at c.args.reads.now c.args.writes.now (relations_of (lists_of g.S.System.reads g.S.System.writes g.C.BatchController.reads g.C.BatchController.writes) g.S.System.step g.C.BatchController.begins g.C.BatchController.asks) c.in-Batch.is c.depth_by-depth.ensures c.requires.own_lists (ap (λ level. level.batch) (out-roll-Nested _ _ _ _)) c.run_batch.ensures }

@@ -30,6 +30,14 @@ void *malloc(size_t size) {
     return NULL;
 }
 
+void *realloc(void *block, size_t size) {
+    static void *(*real)(void *, size_t);
+    if (!real) real = (void *(*)(void *, size_t))dlsym(RTLD_NEXT, "realloc");
+    if (!is_refused("REFUSE_MEMORY", &requests)) return real(block, size);
+    errno = ENOMEM;
+    return NULL;
+}
+
 int pthread_create(pthread_t *thread, const pthread_attr_t *attributes, void *(*start)(void *), void *argument) {
     static int (*real)(pthread_t *, const pthread_attr_t *, void *(*)(void *), void *);
     if (!real) real = (int (*)(pthread_t *, const pthread_attr_t *, void *(*)(void *), void *))dlsym(RTLD_NEXT, "pthread_create");

@@ -6,6 +6,7 @@ pub mod Ids
 pub mod Slots
 pub mod Held
 pub mod Moves
+pub mod AsOne
 pub mod Members
 pub mod Halving
 pub mod Counted

@@ -1,15 +1,22 @@
--- The slots of a list that hold values.
-use Rattle.std.specs.Prelude.{Bool, List, is_some}
+-- The slots of a list that hold values, alone or with the slots of a hand beside it.
+use Rattle.std.specs.Prelude.{Bool, List, [], ◌∷◌, Option, Some, is_some}
 use Rattle.std.specs.List.{filter}
 use Rattle.shred_table.specs.declared.id.Kind.{Kind}
 use Rattle.shred_table.specs.declared.id.ResourceId.{ResourceId}
 use Rattle.shred_table.specs.declared.table.Slot.{Slot}
-use Rattle.shred_table.specs.Slots.{of_kind}
+use Rattle.shred_table.specs.declared.table.Table.{Table}
+use Rattle.shred_table.specs.AsOne.{as_one}
+use Rattle.shred_table.specs.Slots.{slot_at, slot_held}
+
+-- the slot of an id, and that of the first of the hands, where there is one, as one
+abbrev pub beside : {V : Type 0} → List (Table V) → ResourceId → Option (Slot V) → Option (Slot V)
+beside [] q s = s
+beside (hand ∷ rest) q s = as_one s (slot_at hand q)
 
 -- whether the slot holds a value of its id's kind
-abbrev pub holds : {V : Type 0} → (V → Kind) → ResourceId × Slot V → Bool
-holds kind e = is_some (of_kind kind e.0 e.1.value)
+abbrev pub holds : {V : Type 0} → (V → Kind) → List (Table V) → ResourceId × Slot V → Bool
+holds kind hand e = is_some (slot_held kind e.0 (beside hand e.0 (Some e.1)))
 
 -- the slots that hold values
-abbrev pub held_slots : {V : Type 0} → (V → Kind) → List (ResourceId × Slot V) → List (ResourceId × Slot V)
-held_slots kind es = filter (holds kind) es
+abbrev pub held_slots : {V : Type 0} → (V → Kind) → List (Table V) → List (ResourceId × Slot V) → List (ResourceId × Slot V)
+held_slots kind hand es = filter (holds kind hand) es

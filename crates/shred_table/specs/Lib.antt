@@ -7,6 +7,8 @@ pub mod Held
 pub mod Counts
 pub mod Lent
 pub mod Parting
+pub mod AsOne
+pub mod Twins
 pub mod Shown
 pub mod Parts
 pub mod Accessors

@@ -1,5 +1,5 @@
 -- What the slots of a table hold.
-use Rattle.std.specs.Prelude.{Bool, false, Option, Some, None, cond, is_none, nat_eq, List}
+use Rattle.std.specs.Prelude.{Bool, false, Option, Some, None, cond, is_none, nat_eq, List, map}
 use Rattle.std.specs.List.{list_any}
 use Rattle.shred_table.specs.declared.id.Kind.{Kind}
 use Rattle.shred_table.specs.declared.id.ResourceId.{ResourceId}
@@ -12,6 +12,10 @@ use Rattle.shred_table.specs.declared.table.Table.{Table}
 -- the slots of a table
 abbrev pub slots_of : {V : Type 0} → Table V → Listed V
 slots_of t = t.slots
+
+-- the ids that have a slot, in order
+abbrev pub ids_in : {V : Type 0} → Table V → List ResourceId
+ids_in t = map (λ e. e.0) t.slots.slots.items
 
 -- the slot of an id
 abbrev pub slot_at : {V : Type 0} → Table V → ResourceId → Option (Slot V)

@@ -12,6 +12,7 @@ pub mod parting;
 pub mod resource;
 pub mod steps;
 pub mod table;
+pub mod twin;
 pub mod util;
 
 pub use accessor::{Accessor, BatchAccessor, OutOfMemory};
@@ -20,4 +21,5 @@ pub use only::{Only, only_id};
 pub use resource::{Resource, ResourceValue};
 pub use steps::Steps;
 pub use table::{Slot, Table};
+pub use twin::Twin;
 pub use util::check_intersection;

@@ -1,5 +1,5 @@
 //! A list of slots, in the order of their ids.
-ghost use Rattle.std.specs.Prelude.{◌≡◌, ℕ, ◌<◌, ◌≤◌, length, AllPairs, None, Some, Option, map, IfOk, IfErr, OnOk, OnErr, IfSome, is_some, ◌&&◌};
+ghost use Rattle.std.specs.Prelude.{◌≡◌, ℕ, ◌<◌, ◌≤◌, length, slice_index_or, IsTrue, AllPairs, None, Some, Option, map, IfOk, IfErr, OnOk, OnErr, IfSome, is_some, ◌&&◌};
 ghost use Rattle.std.specs.Borrow.{sem};
 ghost use Rattle.std.specs.Option.{option_copied, option_copied_mut};
 ghost use Rattle.std.proofs.Props.{props};
@@ -11,7 +11,7 @@ use crate::held;
 use crate::id::ResourceId;
 use crate::resource::ResourceValue;
 use crate::steps::Steps;
-use crate::table::Slot;
+use crate::table::{Slot, Table};
 use std::alloc::Global;
 use std::cmp::Ordering;
 
@@ -24,6 +24,7 @@ pub(crate) struct Listed<V> {
 
 impl<V> Listed<V> {
     ghost use Rattle.shred_table.specs.Lent.{LendsListed};
+    ghost use Rattle.shred_table.specs.Held.{beside};
     ghost use Rattle.shred_table.specs.Listed.{listed_at, IsPlaceOf, IsGapFor};
     ghost use Rattle.shred_table.specs.Counts.{IsCountOf, IsWithinDigits};
     ghost use Rattle.shred_table.specs.InOrder.{comes_first};
@@ -76,6 +77,7 @@ impl<V> Listed<V> {
     pub(crate) fn take(&mut self, id: ResourceId, first: usize, second: usize) -> (Option<V>, usize)
         ensures value { result.0 ≡ slot_value (listed_at self.old id) }
         ensures slots { (q : ResourceId) → listed_at self.new q ≡ with_at (listed_at self.old) id (emptied (listed_at self.old id)) q }
+        ensures ids { map (λ slot. slot.0) self.new.slots.items ≡ map (λ slot. slot.0) self.old.slots.items }
     {
         match self.place_near(id, first, second) {
             Ok(place) => (self.slots[place].1.value.take(), place),
@@ -100,15 +102,35 @@ impl<V> Listed<V> {
         }
     }
 
-    // How many ids that come before it hold a value, where the id holds one.
-    pub(crate) fn slot_of(&self, id: ResourceId, steps: &mut Steps) -> Option<usize>
+    // How many ids that come before it hold a value, with the hand where there is one, if the id holds one.
+    pub(crate) fn slot_of(
+        &self,
+        hand: &[Table<V>],
+        id: ResourceId,
+        steps: &mut Steps,
+    ) -> Option<usize>
     where
         V: ResourceValue,
-        ensures held { is_some result ≡ is_some (slot_held V.kind_of id (listed_at self.now id)) }
-        ensures slot { IfSome result (IsCountOf (λ q. is_some (slot_held V.kind_of q (listed_at self.now q)) && comes_first q id)) }
-        ensures steps { (count : ℕ) × IsCountOf (λ q. is_some (slot_held V.kind_of q (listed_at self.now q))) count × IsWithinDigits count steps.old.count steps.new.count }
+        ensures held { is_some result ≡ is_some (slot_held V.kind_of id (beside hand.now id (listed_at self.now id))) }
+        ensures slot { IfSome result (IsCountOf (λ q. is_some (slot_held V.kind_of q (beside hand.now q (listed_at self.now q))) && comes_first q id)) }
+        ensures steps { (count : ℕ) × IsCountOf (λ q. is_some (slot_held V.kind_of q (beside hand.now q (listed_at self.now q)))) count × IsWithinDigits count steps.old.count steps.new.count }
     {
-        held::slot_of(self.slots.as_slice(), id, steps)
+        held::slot_of(self.slots.as_slice(), hand, id, steps)
+    }
+
+    // How many slots there are.
+    pub(crate) fn len(&self) -> usize
+        ensures { result ≡ length (map (λ slot. slot.0) self.now.slots.items) }
+    {
+        self.slots.len()
+    }
+
+    // The id of the slot at a place.
+    pub(crate) fn id_at(&self, place: usize) -> ResourceId
+        requires { place < length (map (λ slot. slot.0) self.now.slots.items) }
+        ensures { (d : ResourceId) → result ≡ slice_index_or (map (λ slot. slot.0) self.now.slots.items) place d }
+    {
+        self.slots[place].0
     }
 
     // The ids that have a slot, in order.
@@ -150,6 +172,7 @@ impl<V> Listed<V> {
     pub(crate) fn remove(&mut self, id: ResourceId) -> Option<Slot<V>>
         ensures value { result ≡ listed_at self.old id }
         ensures after { (q : ResourceId) → listed_at self.new q ≡ with_at (listed_at self.old) id None q }
+        ensures fewer { IsTrue (is_some (listed_at self.old id)) → length self.new.slots.items < length self.old.slots.items }
     {
         match self.place(id) {
             Ok(place) => Some(self.slots.remove(place).1),

@@ -1,8 +1,9 @@
 //! Moving the values of some ids from a table into another one, and back.
-ghost use Rattle.std.specs.Prelude.{◌≡◌, ◌&&◌, IsTrue, IfOk, None, OnOk, OnErr, cond, is_some, Some};
+ghost use Rattle.std.specs.Prelude.{◌≡◌, ◌&&◌, IsTrue, true, IfOk, IfSome, IfNone, None, OnOk, OnErr, cond, is_some, Some};
 ghost use Rattle.shred_table.specs.declared.id.ResourceId.{ResourceId};
 ghost use Rattle.shred_table.specs.Parting.{IsEmptyHand, IsRoom, IsSpare, emptied, slot_value, given};
-ghost use Rattle.shred_table.specs.Slots.{slot_at, with_at, among};
+ghost use Rattle.shred_table.specs.AsOne.{brought};
+ghost use Rattle.shred_table.specs.Slots.{slot_at, noted_in, with_at, among, ids_in};
 
 use crate::accessor::OutOfMemory;
 use crate::id::ResourceId;
@@ -74,6 +75,63 @@ impl<V: Drop> Table<V> {
         let home = self.home(number);
         if let Some(value) = take_near(self, id, number) {
             fill_near(to, id, home, value);
+        }
+    }
+}
+
+impl<V: Drop> Table<V> {
+    // Moves the value that is at a place, where there is one, into the id's slot of another table, where that is empty. A value
+    // for which the other table has no such slot is dropped.
+    fn bring_one(&mut self, id: ResourceId, place: usize, to: &mut Table<V>)
+        ensures from { (q : ResourceId) → slot_at self.new q ≡ with_at (slot_at self.old) id (emptied (slot_at self.old id)) q }
+        ensures to { (q : ResourceId) → slot_at to.new q ≡ with_at (slot_at to.old) id (brought (slot_at self.old id) (slot_at to.old id)) q }
+        ensures ids { ids_in self.new ≡ ids_in self.old }
+        ensures noted { (q : ResourceId) → noted_in to.new q ≡ noted_in to.old q }
+    {
+        let Some(value) = take_near(self, id, place) else {
+            return;
+        };
+        if let Some(slot) = to.slot_mut_near(id, place) {
+            if slot.value.is_none() {
+                slot.value = Some(value);
+            }
+        }
+    }
+
+    // `bring_one` of each value.
+    pub(crate) fn bring_all(&mut self, to: &mut Table<V>)
+        ensures from { (q : ResourceId) → slot_at self.new q ≡ emptied (slot_at self.old q) }
+        ensures to { (q : ResourceId) → slot_at to.new q ≡ brought (slot_at self.old q) (slot_at to.old q) }
+        ensures noted { (q : ResourceId) → noted_in to.new q ≡ noted_in to.old q }
+    {
+        for place in 0..self.count() {
+            let id = self.id_at(place);
+            self.bring_one(id, place, to);
+        }
+    }
+
+    // The first id that has a slot here and none in the hand.
+    fn stray(&self, hand: &Table<V>) -> Option<ResourceId>
+        ensures some { IfSome result (λ id. (is_some (slot_at self.now id) ≡ true) × (slot_at hand.now id ≡ None)) }
+        ensures none { IfNone result ((q : ResourceId) → slot_at hand.now q ≡ None → slot_at self.now q ≡ None) }
+    {
+        for place in 0..self.count() {
+            let id = self.id_at(place);
+            if hand.slot_near(id, place).is_none() {
+                return Some(id);
+            }
+        }
+        None
+    }
+
+    // Takes away the slots that the hand has none for, with their values.
+    pub(crate) fn drop_strays(&mut self, hand: &Table<V>)
+        ensures kept { (q : ResourceId) → IsTrue (is_some (slot_at hand.now q)) → slot_at self.new q ≡ slot_at self.old q }
+        ensures none { (q : ResourceId) → slot_at hand.now q ≡ None → slot_at self.new q ≡ None }
+        ensures noted { (q : ResourceId) → noted_in self.new q ≡ noted_in self.old q }
+    {
+        while let Some(id) = self.stray(hand) {
+            self.close(id);
         }
     }
 }

@@ -1,8 +1,9 @@
 //! A table of slots, each of one id; the value of a slot may be moved out of it and back.
-ghost use Rattle.std.specs.Prelude.{◌≡◌, ℕ, ◌&&◌, ◌≢◌, ◌||◌, false, is_some, IfNone, IfSome, None, Some, MatchOption, OnOk, OnErr, IfOk, IfErr};
+ghost use Rattle.std.specs.Prelude.{◌≡◌, ℕ, ◌<◌, ◌&&◌, ◌≢◌, ◌||◌, length, slice_index_or, IsTrue, false, is_some, IfNone, IfSome, None, Some, MatchOption, OnOk, OnErr, IfOk, IfErr};
 ghost use Rattle.std.specs.Option.{option_copied, option_copied_mut};
 ghost use Rattle.std.specs.Borrow.{sem};
-ghost use Rattle.shred_table.specs.Slots.{slots_of, slot_at, noted_in, among, of_kind, held, slot_held, with_at};
+ghost use Rattle.shred_table.specs.Slots.{slots_of, ids_in, slot_at, noted_in, among, of_kind, held, slot_held, with_at};
+ghost use Rattle.shred_table.specs.AsOne.{as_one};
 ghost use Rattle.shred_table.specs.Counts.{IsCountOf, IsWithinDigits};
 ghost use Rattle.shred_table.specs.Id.{id_kind, same_id};
 ghost use Rattle.shred_table.specs.InOrder.{comes_first};
@@ -17,7 +18,7 @@ use crate::listed::Listed;
 use crate::resource::{Resource, ResourceValue};
 use crate::steps::Steps;
 use std::alloc::Global;
-use std::mem;
+use std::{mem, slice};
 
 /// The place of a value; it stays while the value is moved out.
 #[derive(Drop)]
@@ -158,7 +159,39 @@ impl<V> Table<V> {
         ensures slot { IfSome result (IsCountOf (λ q. is_some (held V.kind_of self.now q) && comes_first q id)) }
         ensures steps { (count : ℕ) × IsCountOf (λ q. is_some (held V.kind_of self.now q)) count × IsWithinDigits count steps.old.count steps.new.count }
     {
-        self.slots.slot_of(id, steps)
+        let (none, _) = slice::from_ref(self).split_at(0);
+        self.slots.slot_of(none, id, steps)
+    }
+
+    // The same of what is held with a hand beside.
+    pub(crate) fn slot_of_both(
+        &self,
+        hand: &Table<V>,
+        id: ResourceId,
+        steps: &mut Steps,
+    ) -> Option<usize>
+    where
+        V: ResourceValue,
+        ensures held { is_some result ≡ is_some (slot_held V.kind_of id (as_one (slot_at self.now id) (slot_at hand.now id))) }
+        ensures slot { IfSome result (IsCountOf (λ q. is_some (slot_held V.kind_of q (as_one (slot_at self.now q) (slot_at hand.now q))) && comes_first q id)) }
+        ensures steps { (count : ℕ) × IsCountOf (λ q. is_some (slot_held V.kind_of q (as_one (slot_at self.now q) (slot_at hand.now q)))) count × IsWithinDigits count steps.old.count steps.new.count }
+    {
+        self.slots.slot_of(slice::from_ref(hand), id, steps)
+    }
+
+    // How many ids have a slot.
+    pub(crate) fn count(&self) -> usize
+        ensures { result ≡ length (ids_in self.now) }
+    {
+        self.slots.len()
+    }
+
+    // The id of the slot at a place.
+    pub(crate) fn id_at(&self, place: usize) -> ResourceId
+        requires { place < length (ids_in self.now) }
+        ensures { (d : ResourceId) → result ≡ slice_index_or (ids_in self.now) place d }
+    {
+        self.slots.id_at(place)
     }
 
     /// The ids that have a slot.
@@ -172,7 +205,9 @@ impl<V> Table<V> {
     pub(crate) fn close(&mut self, id: ResourceId)
     where
         V: Drop,
-        ensures { (q : ResourceId) → slot_at self.new q ≡ with_at (slot_at self.old) id None q }
+        ensures slots { (q : ResourceId) → slot_at self.new q ≡ with_at (slot_at self.old) id None q }
+        ensures fewer { IsTrue (is_some (slot_at self.old id)) → length (ids_in self.new) < length (ids_in self.old) }
+        ensures noted { (q : ResourceId) → noted_in self.new q ≡ noted_in self.old q }
     {
         let _ = self.slots.remove(id);
     }
@@ -288,6 +323,7 @@ pub(crate) fn take_near<V>(table: &mut Table<V>, id: ResourceId, near: usize) ->
     ensures value { result ≡ slot_value (slot_at table.old id) }
     ensures slots { (q : ResourceId) → slot_at table.new q ≡ with_at (slot_at table.old) id (emptied (slot_at table.old id)) q }
     ensures noted { (q : ResourceId) → noted_in table.new q ≡ noted_in table.old q }
+    ensures ids { ids_in table.new ≡ ids_in table.old }
 {
     table.slots.take(id, near, id.likely_place()).0
 }

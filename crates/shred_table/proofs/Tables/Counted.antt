@@ -13,11 +13,12 @@ use Rattle.shred_table.specs.declared.id.Kind.{Kind}
 use Rattle.shred_table.specs.declared.id.ResourceId.{ResourceId}
 use Rattle.shred_table.specs.declared.table.Slot.{Slot}
 use Rattle.shred_table.specs.Counts.{IsCountOf}
-use Rattle.shred_table.specs.Held.{holds, held_slots}
+use Rattle.shred_table.specs.declared.table.Table.{Table}
+use Rattle.shred_table.specs.Held.{beside, holds, held_slots}
 use Rattle.shred_table.specs.Id.{same_id}
 use Rattle.shred_table.specs.InOrder.{id_order, comes_first, ComesBefore}
 use Rattle.shred_table.specs.Listed.{IsPlaceOf}
-use Rattle.shred_table.specs.Slots.{among, of_kind, slot_held}
+use Rattle.shred_table.specs.Slots.{among, slot_held}
 use Rattle.shred_table.proofs.Tables.IdOrder.{id_order-total, same_id-before}
 use Rattle.shred_table.proofs.Tables.InOrder.{lookup-absent, lookup-place, tail}
 use Rattle.shred_table.proofs.Tables.Members.{among-keys}
@@ -89,27 +90,32 @@ module _ {X : Type 0} where
         (λ same. let here : i ≡ place = omega (arith, le, same) in rw (here, at.has_id d) (ap is_lt (tied_itself id_order-total id)))
         (cases_lt place i)
 
-module _ {V : Type 0} (kind : V → Kind) where
+module _ {V : Type 0} (kind : V → Kind) (hand : List (Table V)) where
+  -- no slot, with that of a hand
+  none_beside : (h : List (Table V)) (q : ResourceId) → beside h q None ≡ None
+  none_beside (t ∷ ts) q = refl
+  none_beside [] q = refl
+
   -- an id holds a value where its slot is among those that hold one
-  pub held-lookup : (es : Slots (Slot V)) → AllPairs ComesBefore es → (q : ResourceId) → is_some (lookup (same_id q) (held_slots kind es)) ≡ is_some (slot_held kind q (lookup (same_id q) es))
-  held-lookup [] sorted q = refl
-  held-lookup (e ∷ es) sorted q = told (holds kind e) (same_id q e.0) refl refl (held-lookup es (tail e es sorted) q) where
-    told : (h s : Bool) → holds kind e ≡ h → same_id q e.0 ≡ s → is_some (lookup (same_id q) (held_slots kind es)) ≡ is_some (slot_held kind q (lookup (same_id q) es))
-        → is_some (lookup (same_id q) (cond h (e ∷ held_slots kind es) (held_slots kind es))) ≡ is_some (slot_held kind q (cond s (Some e.1) (lookup (same_id q) es)))
-    told true true is here later = rw here (sym (ap (λ (a : ResourceId). is_some (of_kind kind a e.1.value)) (same_id-true q e.0 here) ∙ is))
+  pub held-lookup : (es : Slots (Slot V)) → AllPairs ComesBefore es → (q : ResourceId) → is_some (lookup (same_id q) (held_slots kind hand es)) ≡ is_some (slot_held kind q (beside hand q (lookup (same_id q) es)))
+  held-lookup [] sorted q = sym (ap (λ (o : Option (Slot V)). is_some (slot_held kind q o)) (none_beside hand q))
+  held-lookup (e ∷ es) sorted q = told (holds kind hand e) (same_id q e.0) refl refl (held-lookup es (tail e es sorted) q) where
+    told : (h s : Bool) → holds kind hand e ≡ h → same_id q e.0 ≡ s → is_some (lookup (same_id q) (held_slots kind hand es)) ≡ is_some (slot_held kind q (beside hand q (lookup (same_id q) es)))
+        → is_some (lookup (same_id q) (cond h (e ∷ held_slots kind hand es) (held_slots kind hand es))) ≡ is_some (slot_held kind q (beside hand q (cond s (Some e.1) (lookup (same_id q) es))))
+    told true true is here later = rw here (sym (ap (λ (a : ResourceId). is_some (slot_held kind a (beside hand a (Some e.1)))) (same_id-true q e.0 here) ∙ is))
     told false true is here later =
         let same : e.0 ≡ q = sym (same_id-true q e.0 here) in
         let none : lookup (same_id q) es ≡ None = lookup-absent es q (λ j f within. rw same at (same_id-before e.0 (get_or es j f).0 (sorted 0 (suc j) f (omega arith) (omega (arith, within))))) in
-        later ∙ ap (λ (o : Option (Slot V)). is_some (slot_held kind q o)) none ∙ sym (ap (λ (a : ResourceId). is_some (of_kind kind a e.1.value)) (same_id-true q e.0 here) ∙ is)
+        later ∙ ap (λ (o : Option (Slot V)). is_some (slot_held kind q (beside hand q o))) none ∙ ap (λ (o : Option (Slot V)). is_some (slot_held kind q o)) (none_beside hand q) ∙ sym (ap (λ (a : ResourceId). is_some (slot_held kind a (beside hand a (Some e.1)))) (same_id-true q e.0 here) ∙ is)
     told true false is here later = rw here later
     told false false is here later = later
 
   -- the place that was found among those that hold a value is the number of held ids before
-  pub numbered : (es : Slots (Slot V)) → AllPairs ComesBefore es → (id : ResourceId) (r : Option ℕ) → IfSome r (IsPlaceOf id (held_slots kind es)) → IfNone r (lookup (same_id id) (held_slots kind es) ≡ None)
-      → record { held : is_some r ≡ is_some (slot_held kind id (lookup (same_id id) es)); slot : IfSome r (IsCountOf (λ q. is_some (slot_held kind q (lookup (same_id q) es)) && comes_first q id)) }
+  pub numbered : (es : Slots (Slot V)) → AllPairs ComesBefore es → (id : ResourceId) (r : Option ℕ) → IfSome r (IsPlaceOf id (held_slots kind hand es)) → IfNone r (lookup (same_id id) (held_slots kind hand es) ≡ None)
+      → record { held : is_some r ≡ is_some (slot_held kind id (beside hand id (lookup (same_id id) es))); slot : IfSome r (IsCountOf (λ q. is_some (slot_held kind q (beside hand q (lookup (same_id q) es))) && comes_first q id)) }
   numbered es sorted id (Some place) at none =
-      let held = held_slots kind es in
-      let in_order : AllPairs ComesBefore held = AllPairs-filter ComesBefore (holds kind) es sorted in
+      let held = held_slots kind hand es in
+      let in_order : AllPairs ComesBefore held = AllPairs-filter ComesBefore (holds kind hand) es sorted in
       let d : ResourceId × Slot V = (id, record { value = None }) in
       record {
         held = sym (ap is_some (lookup-place held place id d in_order at.in_range (at.has_id d))) ∙ held-lookup es sorted id;
@@ -118,8 +124,8 @@ module _ {V : Type 0} (kind : V → Kind) where
   numbered es sorted id None at none = record { held = sym (ap is_some none) ∙ held-lookup es sorted id; slot = tt }
 
   -- there are as many held ids as slots that hold a value
-  pub counted-held : (es : Slots (Slot V)) → AllPairs ComesBefore es → IsCountOf (λ q. is_some (slot_held kind q (lookup (same_id q) es))) (length (held_slots kind es))
-  counted-held es sorted = counted-alike (λ q. is_some (lookup (same_id q) (held_slots kind es))) _ _ (held-lookup es sorted) (counted-all (held_slots kind es) (AllPairs-filter ComesBefore (holds kind) es sorted))
+  pub counted-held : (es : Slots (Slot V)) → AllPairs ComesBefore es → IsCountOf (λ q. is_some (slot_held kind q (beside hand q (lookup (same_id q) es)))) (length (held_slots kind hand es))
+  counted-held es sorted = counted-alike (λ q. is_some (lookup (same_id q) (held_slots kind hand es))) _ _ (held-lookup es sorted) (counted-all (held_slots kind hand es) (AllPairs-filter ComesBefore (holds kind hand) es sorted))
 
 -- where as many as all pass the test, all do
 filter_fewer : {X : Type 0} (test : X → Bool) (xs : List X) → length (filter test xs) ≤ length xs

@@ -31,6 +31,11 @@ pub copied-some : {X : Type 0} (r : Option (Bor X)) → is_none r ≡ false → 
 copied-some (Some r) there = refl
 copied-some None there = absurd (cc)
 
+-- what is found is there, and what is not found is not
+pub copied-is_some : {X : Type 0} (r : Option (Bor X)) → is_some (option_copied r) ≡ is_some r
+copied-is_some (Some r) = refl
+copied-is_some None = refl
+
 -- what is lent of a value is the value
 pub copied-value : {X : Type 0} (r : Option (MutBor X)) (o : Option X) → MatchOption r (o ≡ None) (λ x. o ≡ Some x.now) → option_copied_mut r ≡ o
 copied-value (Some r) o is = sym is

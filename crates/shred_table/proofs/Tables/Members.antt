@@ -1,5 +1,5 @@
 -- The ids that have a slot.
-use Rattle.std.proofs.Common.{◌≡◌, ◌||◌, Bool, true, false, List, [], ◌∷◌, Some, map, cond, refl, sym, ◌∙◌, ap}
+use Rattle.std.proofs.Common.{◌≡◌, ℕ, zero, suc, ◌<◌, length, get_or, set, arith, ◌||◌, Bool, true, false, List, [], ◌∷◌, Some, map, cond, refl, sym, ◌∙◌, ap}
 use Rattle.std.specs.Prelude.{is_some, Result, Ok, Err, IfOk}
 use Rattle.std.specs.Map.{lookup}
 use Rattle.shred_table.specs.declared.id.ResourceId.{ResourceId}
@@ -22,6 +22,12 @@ among-keys (pair ∷ pairs) q = ap (λ (b : Bool). b || among (map (λ p. p.0) p
   told : (t : Bool) → among (map (λ p. p.0) pairs) q ≡ is_some (lookup (same_id q) pairs) → t || among (map (λ p. p.0) pairs) q ≡ is_some (cond t (Some pair.1) (lookup (same_id q) pairs))
   told true rest = refl
   told false rest = rest
+
+-- writing a slot keeps the ids
+pub keys-written : {X : Type 0} (pairs : List (ResourceId × X)) (i : ℕ) (x d : ResourceId × X) → i < length pairs → x.0 ≡ (get_or pairs i d).0 → map (λ pair. pair.0) (set pairs i x) ≡ map (λ pair. pair.0) pairs
+keys-written [] i x d below same = absurd (omega arith)
+keys-written (pair ∷ pairs) zero x d below same = ap (λ (a : ResourceId). a ∷ map (λ p. p.0) pairs) same
+keys-written (pair ∷ pairs) (suc i) x d below same = ap (λ (l : List ResourceId). pair.0 ∷ l) (keys-written pairs i x d (omega arith) same)
 
 -- what follows at `Ok`
 pub IfOk-follows : {A E : Type 0} {P Q : A → Type 0} (r : Result A E) → ((x : A) → P x → Q x) → IfOk r P → IfOk r Q

@@ -7,6 +7,6 @@ use Rattle.shred_table.proofs.held.nth.Given as goal
 -- What is left to be passed over is a number among the slots that are left to be looked at.
 abbrev pub invariant-loop-slot : goal.invariant-loop-slot
 invariant-loop-slot g l = record {
-  some : l.left < length (held_slots g.V.ResourceValue.kind_of (drop l.slot-index l.slots));
-  same : (d : ResourceId × Slot g.row.V.Denot) → slice_index_or (held_slots g.V.ResourceValue.kind_of (drop l.slot-index l.slots)) l.left d ≡ slice_index_or (held_slots g.V.ResourceValue.kind_of l.slots) l.number d;
+  some : l.left < length (held_slots g.V.ResourceValue.kind_of l.hand (drop l.slot-index l.slots));
+  same : (d : ResourceId × Slot g.row.V.Denot) → slice_index_or (held_slots g.V.ResourceValue.kind_of l.hand (drop l.slot-index l.slots)) l.left d ≡ slice_index_or (held_slots g.V.ResourceValue.kind_of l.hand l.slots) l.number d;
 }

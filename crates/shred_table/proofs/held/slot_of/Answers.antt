@@ -16,13 +16,13 @@ loop-low-preserved-in-Less g c =
     let middle = low + (high - low) / 2 in
     let n = c.compare.ensures.counted in
     let kind = g.V.ResourceValue.kind_of in
-    let es = held_slots kind c.args.slots.now in
+    let es = held_slots kind c.args.hand.now c.args.slots.now in
     let d : ResourceId × Slot g.row.V.Denot = (c.args.id, record { value = None }) in
     record {
       count = i.count;
       low = omega (arith, c.loop-low-test.true);
       high = i.high;
-      before = all_before es (AllPairs-filter ComesBefore (holds kind) c.args.slots.now c.requires) c.args.id middle d (omega (arith, c.loop-low-test.true, i.high)) (ap (λ a. id_order a c.args.id) (sym (c.id_of.ensures d)) ∙ sym c.compare.ensures.order ∙ c.in-Less.is);
+      before = all_before es (AllPairs-filter ComesBefore (holds kind c.args.hand.now) c.args.slots.now c.requires) c.args.id middle d (omega (arith, c.loop-low-test.true, i.high)) (ap (λ a. id_order a c.args.id) (sym (c.id_of.ensures d)) ∙ sym c.compare.ensures.order ∙ c.in-Less.is);
       after = i.after;
       halved = halved_more c.args.steps.now.count c.loop-low.steps.count c.compare.new.self.count (high - low) (high - (middle + 1)) _ n i.steps.0 i.halved (omega (arith, c.loop-low-test.true));
       steps = counted c.args.steps.now.count c.loop-low.steps.count c.compare.new.self.count (high - low) _ n i.steps i.halved (omega (arith, c.loop-low-test.true));
@@ -41,14 +41,14 @@ loop-low-preserved g c =
     let middle = low + (high - low) / 2 in
     let n = c.compare.ensures.counted in
     let kind = g.V.ResourceValue.kind_of in
-    let es = held_slots kind c.args.slots.now in
+    let es = held_slots kind c.args.hand.now c.args.slots.now in
     let d : ResourceId × Slot g.row.V.Denot = (c.args.id, record { value = None }) in
     record {
       count = i.count;
       low = omega arith;
       high = omega (arith, c.loop-low-test.true, i.high);
       before = i.before;
-      after = all_after es (AllPairs-filter ComesBefore (holds kind) c.args.slots.now c.requires) c.args.id middle d (omega (arith, c.loop-low-test.true, i.high)) (ap (λ a. id_order a c.args.id) (sym (c.id_of.ensures d)) ∙ sym c.compare.ensures.order ∙ c.in-Greater.is);
+      after = all_after es (AllPairs-filter ComesBefore (holds kind c.args.hand.now) c.args.slots.now c.requires) c.args.id middle d (omega (arith, c.loop-low-test.true, i.high)) (ap (λ a. id_order a c.args.id) (sym (c.id_of.ensures d)) ∙ sym c.compare.ensures.order ∙ c.in-Greater.is);
       halved = halved_more c.args.steps.now.count c.loop-low.steps.count c.compare.new.self.count (high - low) (middle - low) _ n i.steps.0 i.halved (omega (arith, c.loop-low-test.true));
       steps = counted c.args.steps.now.count c.loop-low.steps.count c.compare.new.self.count (high - low) _ n i.steps i.halved (omega (arith, c.loop-low-test.true));
     }

@@ -11,7 +11,7 @@ use Rattle.shred_table.proofs.held.slot_of.Given as goal
 -- is between them, so two to their number, times that, is at most the number of all.
 abbrev pub invariant-loop-low : goal.invariant-loop-low
 invariant-loop-low g l =
-    let slots = held_slots g.V.ResourceValue.kind_of l.slots in
+    let slots = held_slots g.V.ResourceValue.kind_of l.hand l.slots in
     record {
       count : l.count ≡ length slots;
       low : l.low ≤ l.high;

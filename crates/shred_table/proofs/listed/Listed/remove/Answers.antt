@@ -1,4 +1,5 @@
-use Rattle.std.proofs.Common.{Some, None, sym, ◌∙◌, ap}
+use Rattle.std.proofs.Common.{◌≡◌, true, false, Some, None, sym, ◌∙◌, ap}
+use Rattle.std.specs.Prelude.{is_some}
 use Rattle.std.specs.Map.{lookup}
 use Rattle.shred_table.specs.Id.{same_id}
 use Rattle.shred_table.specs.Listed.{listed_at}
@@ -23,3 +24,6 @@ returns-in-Err-clause-value g c = sym (lookup-gap _ _ _ c.in-Err.ensures.gap)
 
 pub returns-in-Err-clause-after : goal.returns-in-Err-clause-after
 returns-in-Err-clause-after g c = λ q. sym (with_at-same (listed_at c.args.self.now) c.args.id None (lookup-gap _ _ _ c.in-Err.ensures.gap) q)
+
+pub returns-in-Err-clause-fewer : goal.returns-in-Err-clause-fewer
+returns-in-Err-clause-fewer g c = λ some. absurd (let no : true ≡ false = sym some ∙ ap is_some (lookup-gap _ _ _ c.in-Err.ensures.gap) in cc)

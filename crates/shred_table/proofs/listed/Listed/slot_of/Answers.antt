@@ -9,5 +9,5 @@ returns g c =
     let es = c.args.self.now.slots.items in
     let sorted = c.args.self.now.sorted in
     let made = rw c.as_slice.ensures.value at c.slot_of.ensures in
-    let told = numbered kind es sorted c.args.id c.slot_of.result made.found made.none in
-    record { held = told.held; slot = told.slot; steps = (length (held_slots kind es), counted-held kind es sorted, made.steps) }
+    let told = numbered kind c.args.hand.now es sorted c.args.id c.slot_of.result made.found made.none in
+    record { held = told.held; slot = told.slot; steps = (length (held_slots kind c.args.hand.now es), counted-held kind c.args.hand.now es sorted, made.steps) }

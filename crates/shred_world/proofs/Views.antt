@@ -1,5 +1,8 @@
 -- What views show, refuse and keep.
 pub mod Shown
+pub mod Lent
+pub mod Settled
+pub mod Filled
 pub mod Refusals
 pub mod HeldKinds
 pub mod KeptIds

@@ -3,6 +3,8 @@ use Rattle.std.specs.Prelude.{true, false, Bool, not, ◌&&◌, ◌||◌, Option
 use Rattle.shred_table.specs.declared.id.Kind.{Kind}
 use Rattle.shred_table.specs.declared.id.ResourceId.{ResourceId}
 use Rattle.shred_table.specs.declared.table.Table.{Table}
+use Rattle.shred_table.specs.declared.twin.Twin.{Twin}
+use Rattle.shred_table.specs.Twins.{twin_slot, twin_held}
 use Rattle.shred_world.specs.declared.world.view.View.{View}
 use Rattle.shred_table.specs.Id.{same_id}
 use Rattle.shred_table.specs.Slots.{slot_at, noted_in, held, with_at}
@@ -32,6 +34,10 @@ is_out_in t id = noted_in t id && is_vacant (slot_at t id)
 -- all of a table, with what is out of it: each id may be read and written, and nothing is shared
 abbrev pub table_grant : {V : Type 0} → (V → Kind) → Table V → Grant V
 table_grant kind t = record { reads = λ q. true; writes = λ q. true; own = λ q. true; out = is_out_in t; held = held kind t }
+
+-- all of a table and the hand beside it, with what is out of the table: each id may be read and written, and nothing is shared
+abbrev pub twin_grant : {V : Type 0} → (V → Kind) → Twin V → Grant V
+twin_grant kind w = record { reads = λ q. true; writes = λ q. true; own = λ q. true; out = λ q. noted_in w.table q && is_vacant (twin_slot w q); held = twin_held kind w }
 
 -- the grant after the value under the id was handed out
 abbrev pub without : {V : Type 0} → Grant V → ResourceId → Grant V

@@ -1,7 +1,8 @@
 -- What a view or a world ends as where a part of it is lent to be written.
 use Rattle.std.specs.Prelude.{◌≡◌, ℕ, Option, Some, OnSome}
 use Rattle.std.specs.Borrow.{Lends, LendsSo, LendsSoOk, MutBor, Fml, RattleType}
-use Rattle.std.specs.Prelude.{Result, []}
+use Rattle.std.proofs.lemmas.Bool.{false≢true}
+use Rattle.std.specs.Prelude.{false, List, [], ◌∷◌, Result}
 use Rattle.shred_world.specs.declared.world.World.{World}
 use Rattle.shred_world.specs.contracts.world.World.{the_row as world_row}
 use Rattle.shred_world.specs.declared.world.local.LocalWorld.{LocalWorld}
@@ -11,6 +12,8 @@ use Rattle.shred_table.specs.declared.id.Kind.{Kind}
 use Rattle.shred_table.specs.declared.id.ResourceId.{ResourceId}
 use Rattle.shred_table.specs.declared.table.Table.{Table}
 use Rattle.shred_table.specs.contracts.table.Table.{the_row as table_row}
+use Rattle.shred_table.specs.declared.twin.Twin.{Twin}
+use Rattle.shred_table.specs.contracts.twin.Twin.{the_row as twin_row}
 use Rattle.shred_world.specs.declared.world.view.View.{View}
 use Rattle.shred_world.specs.contracts.world.view.View.{the_row as view_row}
 use Rattle.shred_table.specs.Slots.{of_kind, with_at}
@@ -31,25 +34,34 @@ LendsWritten V R kind wrapped s id r = LendsSoOk (view_at 1 2 V) R s r
 abbrev pub LendsNarrow : (V : RattleType) → MutBor (View V.Denot) → View V.Denot → Fml
 LendsNarrow V s r = Lends (view_at 1 2 V) (table_row V) s r.own (λ t. record s.now { own = record s.now.own { now = t } })
 
--- the world ends with the table that the view leaves
-abbrev pub LendsWorld : (V : RattleType) → MutBor (World V.Denot) → View V.Denot → Fml
-LendsWorld V s r = Lends (world_row V) (table_row V) s r.own (λ t. record s.now { local = record { table = t } })
+-- the table that a world lends shared, or another one where it lends none
+abbrev pub lent_base : {V : Type 0} → Table V → List (Table V) → Table V
+lent_base other [] = other
+lent_base other (table ∷ rest) = table
 
--- the world ends with the table last written
-abbrev pub LendsTable : (V : RattleType) → MutBor (World V.Denot) → MutBor (Table V.Denot) → Fml
-LendsTable V s r = Lends (world_row V) (table_row V) s r (λ t. record s.now { local = record { table = t } })
+-- a local world of this table and hand, of which it is not known that all values are in the table
+abbrev pub loose : {V : Type 0} → Twin V → LocalWorld V
+loose w = record { twin = w; settled = false; kept = λ e. absurd (false≢true e) }
+
+-- the world ends with the table that the view was lent shared, and with the hand that it leaves
+abbrev pub LendsWorld : (V : RattleType) → MutBor (World V.Denot) → View V.Denot → Fml
+LendsWorld V s r = Lends (world_row V) (table_row V) s r.own (λ h. record s.now { local = loose (record { table = lent_base s.now.local.twin.table r.base.now; hand = h }) })
 
 -- the world ends with the local world last written
 abbrev pub LendsLocal : (V : RattleType) → MutBor (World V.Denot) → MutBor (LocalWorld V.Denot) → Fml
 LendsLocal V s r = Lends (world_row V) (local_row V) s r (λ l. record s.now { local = l })
 
--- the local world ends with the table that the view leaves
+-- the local world ends with the table that the view was lent shared, and with the hand that it leaves
 abbrev pub LendsLocalWorld : (V : RattleType) → MutBor (LocalWorld V.Denot) → View V.Denot → Fml
-LendsLocalWorld V s r = Lends (local_row V) (table_row V) s r.own (λ t. record s.now { table = t })
+LendsLocalWorld V s r = Lends (local_row V) (table_row V) s r.own (λ h. loose (record { table = lent_base s.now.twin.table r.base.now; hand = h }))
 
--- the local world ends with the table last written
-abbrev pub LendsLocalTable : (V : RattleType) → MutBor (LocalWorld V.Denot) → MutBor (Table V.Denot) → Fml
-LendsLocalTable V s r = Lends (local_row V) (table_row V) s r (λ t. record s.now { table = t })
+-- the table and the hand end with the hand that the view leaves
+abbrev pub LendsBeside : (V : RattleType) → MutBor (Twin V.Denot) → View V.Denot → Fml
+LendsBeside V s r = Lends (twin_row V) (table_row V) s r.own (λ h. record s.now { hand = h })
+
+-- the local world ends with the table and the hand last written
+abbrev pub LendsLocalTwin : (V : RattleType) → MutBor (LocalWorld V.Denot) → MutBor (Twin V.Denot) → Fml
+LendsLocalTwin V s r = Lends (local_row V) (twin_row V) s r loose
 
 -- one that holds the value under the id, and all else as the other one
 abbrev pub HoldsWith : {V : Type 0} → (ResourceId → Option V) → ResourceId → V → (ResourceId → Option V) → Type 0
@@ -78,6 +90,12 @@ abbrev pub LendsValueOf : (V : RattleType) → (V.Denot → Kind) → MutBor (Wo
 LendsValueOf V kind s id r = LendsSo (world_row V) V s r
     (λ n w. OnSome r ((q : ResourceId) → world_held kind n q ≡ with_at (world_held kind s.now) id (of_kind kind id (Some w)) q))
     (EndsSame kind s.now)
+
+-- the same of a local world
+abbrev pub LendsLocalValue : (V : RattleType) → (V.Denot → Kind) → MutBor (LocalWorld V.Denot) → ResourceId → Option (MutBor V.Denot) → Fml
+LendsLocalValue V kind s id r = LendsSo (local_row V) V s r
+    (λ n w. OnSome r ((q : ResourceId) → local_held kind n q ≡ with_at (local_held kind s.now) id (of_kind kind id (Some w)) q))
+    (EndsLocalSame kind s.now)
 
 -- the same as of `LendsGot`, or as it was where the call was refused
 abbrev pub LendsGotOk : (V R : RattleType) → (V.Denot → Kind) → (R.Denot → V.Denot) → MutBor (World V.Denot) → ResourceId → {E : Type 0} → Result (MutBor R.Denot) E → Fml

@@ -9,7 +9,7 @@ use Rattle.shred_world.specs.contracts.world.lent.Lent.{the_row as lent_row}
 use Rattle.shred_world.specs.declared.world.local.LocalWorld.{LocalWorld}
 use Rattle.shred_world.specs.declared.world.local_lent.LocalLent.{LocalLent}
 use Rattle.shred_world.specs.contracts.world.local_lent.LocalLent.{the_row as local_lent_row}
-use Rattle.shred_world.specs.Grants.{Grant, table_grant}
+use Rattle.shred_world.specs.Grants.{Grant, twin_grant}
 
 -- the world that the bundle was taken on
 abbrev pub lender : {V D : Type 0} → Lent V D → MutBor (World V)
@@ -25,7 +25,7 @@ with_bundle l bundle = record l { bundle = bundle }
 
 -- what the world grants while the bundle is out
 abbrev pub lent_grant : {V D : Type 0} → (V → Kind) → Lent V D → Grant V
-lent_grant kind l = table_grant kind l.world.now.local.table
+lent_grant kind l = twin_grant kind l.world.now.local.twin
 
 -- the bundle ends as it was last written
 abbrev pub LendsBundle : (V D : RattleType) → MutBor (Lent V.Denot D.Denot) → MutBor D.Denot → Fml
@@ -45,7 +45,7 @@ with_local_bundle l bundle = record l { bundle = bundle }
 
 -- what the local world grants while the bundle is out
 abbrev pub local_grant : {V D : Type 0} → (V → Kind) → LocalLent V D → Grant V
-local_grant kind l = table_grant kind l.world.now.table
+local_grant kind l = twin_grant kind l.world.now.twin
 
 -- the bundle ends as it was last written
 abbrev pub LendsLocalBundle : (V D : RattleType) → MutBor (LocalLent V.Denot D.Denot) → MutBor D.Denot → Fml

@@ -1,5 +1,5 @@
 -- Views that are parted, the views of their parts, and parts that are joined.
-use Rattle.std.specs.Prelude.{◌≡◌, Bool, false, ◌&&◌, cond, is_some, List}
+use Rattle.std.specs.Prelude.{◌≡◌, Bool, false, ◌&&◌, cond, is_some, List, []}
 use Rattle.std.specs.List.{All, AllZip}
 use Rattle.shred_table.specs.declared.id.Kind.{Kind}
 use Rattle.shred_table.specs.declared.id.ResourceId.{ResourceId}
@@ -11,7 +11,7 @@ use Rattle.shred_world.specs.Beside.{lender_of, pairs_of, parted_of, ShowsDeclar
 use Rattle.shred_table.specs.Parting.{emptied}
 use Rattle.shred_table.specs.Parts.{Pair, reads_of, writes_of, written_by, Fits, HasNothingOut, HoldsIdsOf, HoldsSameIds, HoldsWritten, IsHandOf, IsJoined}
 use Rattle.shred_table.specs.Slots.{slot_at}
-use Rattle.shred_world.specs.Views.{is_out, owned_ids, shelves_of, table_in, table_of, view_slot}
+use Rattle.shred_world.specs.Views.{bases_of, is_out, owned_ids, shelves_of, table_in, table_of, view_slot}
 
 -- whether the view's own table has a slot for the id
 abbrev pub has_place : {V : Type 0} → View V → ResourceId → Bool
@@ -54,3 +54,4 @@ pub record IsViewOfPair {V : Type 0} (pair : Pair) (hand : Table V) (behind : Li
   pub writes : view.writes.now ≡ writes_of pair
   pub owned : owned_ids view ≡ writes_of pair
   pub shelf : shelves_of view ≡ behind
+  pub base : bases_of view ≡ []

@@ -6,31 +6,49 @@ use Rattle.shred_table.specs.declared.table.Slot.{Slot}
 use Rattle.shred_table.specs.declared.table.Table.{Table}
 use Rattle.shred_world.specs.declared.world.view.DataError.{DataError}
 use Rattle.shred_world.specs.declared.world.view.DataError.TheVariants.{Missing, Undeclared, Taken, WrongKind}
-use Rattle.shred_world.specs.declared.world.view.Shelf.{Shelf, Last, Before'}
+use Rattle.shred_world.specs.declared.world.view.Shelf.{Shelf, Last, Over, Before'}
 use Rattle.shred_world.specs.declared.world.view.View.{View}
 use Rattle.shred_table.specs.Slots.{among, is_vacant, noted_in, slot_at, slot_held}
 
 -- the slot that a shelf shows for an id: that of the nearest table beside which the id is listed, or else of the last one
 abbrev pub shelf_slot : {V : Type 0} → Shelf V → ResourceId → Option (Slot V)
 shelf_slot (Last table) id = slot_at table.now id
+shelf_slot (Over table owned base) id = cond (among owned.now id) (slot_at table.now id) (slot_at base.now id)
 shelf_slot (Before' table owned p rest) id = cond (among owned.now id) (slot_at table.now id) (shelf_slot rest id)
+
+-- the slot of an id in the table that a world lends shared, where there is one
+abbrev pub base_slot : {V : Type 0} → List (Table V) → ResourceId → Option (Slot V)
+base_slot [] id = None
+base_slot (table ∷ rest) id = slot_at table id
+
+-- the slot that is lent shared for an id: the shelf's, or, where there is no shelf, that of the table that a world lends
+abbrev pub behind_slot : {V : Type 0} → List (Table V) → List (Shelf V) → ResourceId → Option (Slot V)
+behind_slot base [] id = base_slot base id
+behind_slot base (shelf ∷ rest) id = shelf_slot shelf id
 
 -- the slot that is lent shared for an id, where there is a shelf
 abbrev pub lent_slot : {V : Type 0} → List (Shelf V) → ResourceId → Option (Slot V)
-lent_slot [] id = None
-lent_slot (shelf ∷ rest) id = shelf_slot shelf id
+lent_slot shelf id = behind_slot [] shelf id
+
+-- the slot that is lent shared to a view for an id
+abbrev pub lent_to : {V : Type 0} → View V → ResourceId → Option (Slot V)
+lent_to v id = behind_slot v.base.now v.shelf.now id
+
+-- whether nothing lies behind, of tables that a world lends and of shelves
+abbrev pub none_behind : {V : Type 0} → List (Table V) → List (Shelf V) → Bool
+none_behind base shelf = (length base == 0) && (length shelf == 0)
 
 -- whether nothing lies behind the view's own table
 abbrev pub is_alone : {V : Type 0} → View V → Bool
-is_alone v = length v.shelf.now == 0
+is_alone v = none_behind v.base.now v.shelf.now
 
 -- whether the id is the view's own: it is listed so, or nothing lies behind the view's own table
 abbrev pub is_own : {V : Type 0} → View V → ResourceId → Bool
 is_own v id = is_alone v || among v.owned.now id
 
--- the slot that a view shows for an id: that of its own table where the id is its own, or else the shelf's
+-- the slot that a view shows for an id: that of its own table where the id is its own, or else the one that is lent shared
 abbrev pub view_slot : {V : Type 0} → View V → ResourceId → Option (Slot V)
-view_slot v id = cond (is_own v id) (slot_at v.own.now id) (lent_slot v.shelf.now id)
+view_slot v id = cond (is_own v id) (slot_at v.own.now id) (lent_to v id)
 
 -- what a view shows under an id
 abbrev pub view_held : {V : Type 0} → (V → Kind) → View V → ResourceId → Option V
@@ -73,13 +91,14 @@ pub record HasSameLists {V : Type 0} (old new : View V) : Type 0 where
   pub owned : new.owned ≡ old.owned
   pub whole : new.whole ≡ old.whole
   pub shelf : new.shelf ≡ old.shelf
+  pub base : new.base ≡ old.base
 
 -- the same ids are declared, and the same are the view's own; the same tables are lent, no slot came or went, and the slot of each id that is not the view's own is as it was
 pub record IsSameLoan {V : Type 0} (old new : View V) : Type 0 where
   pub reads : new.reads.now ≡ old.reads.now
   pub writes : new.writes.now ≡ old.writes.now
   pub owned : new.owned.now ≡ old.owned.now
-  pub shelf : (id : ResourceId) → lent_slot new.shelf.now id ≡ lent_slot old.shelf.now id
+  pub shelf : (id : ResourceId) → lent_to new id ≡ lent_to old id
   pub own : (id : ResourceId) → is_own new id ≡ is_own old id
   pub whole : is_whole new ≡ is_whole old
   pub table : table_of new ≡ table_of old
@@ -91,7 +110,7 @@ pub record IsSameView {V : Type 0} (old new : View V) : Type 0 where
   pub reads : new.reads.now ≡ old.reads.now
   pub writes : new.writes.now ≡ old.writes.now
   pub owned : new.owned.now ≡ old.owned.now
-  pub shelf : (id : ResourceId) → lent_slot new.shelf.now id ≡ lent_slot old.shelf.now id
+  pub shelf : (id : ResourceId) → lent_to new id ≡ lent_to old id
   pub own : (id : ResourceId) → is_own new id ≡ is_own old id
   pub whole : is_whole new ≡ is_whole old
   pub table : table_of new ≡ table_of old
@@ -110,6 +129,10 @@ owned_ids v = v.owned.now
 -- the tables that are lent shared
 abbrev pub shelves_of : {V : Type 0} → View V → List (Shelf V)
 shelves_of v = v.shelf.now
+
+-- the table that a world lends shared to the view, where there is one
+abbrev pub bases_of : {V : Type 0} → View V → List (Table V)
+bases_of v = v.base.now
 
 -- whether the view has noted that the id's value may be out
 abbrev pub noted : {V : Type 0} → View V → ResourceId → Bool

@@ -2,36 +2,42 @@
 use Rattle.std.specs.Prelude.{◌≡◌, false, List, Option, Some, None, MatchOption, Result, Ok, Err}
 use Rattle.shred_table.specs.declared.id.Kind.{Kind}
 use Rattle.shred_table.specs.declared.id.ResourceId.{ResourceId}
-use Rattle.shred_table.specs.declared.table.Table.{Table}
+use Rattle.shred_table.specs.declared.table.Slot.{Slot}
+use Rattle.shred_table.specs.declared.twin.Twin.{Twin}
+use Rattle.shred_table.specs.Twins.{twin_slot, twin_held}
 use Rattle.shred_world.specs.declared.world.World.{World}
 use Rattle.shred_world.specs.declared.world.local.LocalWorld.{LocalWorld}
 use Rattle.shred_world.specs.declared.world.WorldError.{WorldError}
 use Rattle.shred_world.specs.declared.world.WorldError.TheVariants.{OutOfMemory}
-use Rattle.shred_table.specs.Slots.{among, held, with_at}
+use Rattle.shred_table.specs.Slots.{among, with_at}
 
 -- what a world lends to be read and written while the ids stay
 abbrev pub local_of : {V : Type 0} → World V → LocalWorld V
 local_of w = w.local
 
--- the table behind a local world
-abbrev pub table_of_local : {V : Type 0} → LocalWorld V → Table V
-table_of_local l = l.table
+-- the table of a local world and the hand beside it
+abbrev pub twin_of_local : {V : Type 0} → LocalWorld V → Twin V
+twin_of_local l = l.twin
 
--- the table behind a world
-abbrev pub table_of_world : {V : Type 0} → World V → Table V
-table_of_world w = w.local.table
+-- the slot that a local world has for an id
+abbrev pub local_slot : {V : Type 0} → LocalWorld V → ResourceId → Option (Slot V)
+local_slot l id = twin_slot l.twin id
 
--- the world over a table
-abbrev pub world_over : {V : Type 0} → Table V → World V
-world_over t = record { local = record { table = t } }
+-- the slot that a world has for an id
+abbrev pub world_slot : {V : Type 0} → World V → ResourceId → Option (Slot V)
+world_slot w id = twin_slot w.local.twin id
 
 -- what a local world holds under an id
 abbrev pub local_held : {V : Type 0} → (V → Kind) → LocalWorld V → ResourceId → Option V
-local_held kind l id = held kind l.table id
+local_held kind l id = twin_held kind l.twin id
 
 -- what a world holds under an id
 abbrev pub world_held : {V : Type 0} → (V → Kind) → World V → ResourceId → Option V
-world_held kind w id = held kind w.local.table id
+world_held kind w id = twin_held kind w.local.twin id
+
+-- the two worlds have the same slot for each id
+abbrev pub IsSameMap : {V : Type 0} → World V → World V → Type 0
+IsSameMap first later = (id : ResourceId) → world_slot later id ≡ world_slot first id
 
 -- some list has every id under which a value is held
 abbrev pub IsFinite : {V : Type 0} → (ResourceId → Option V) → Type 0

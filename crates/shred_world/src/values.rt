@@ -3,21 +3,23 @@ ghost use Rattle.std.specs.Prelude.{◌≡◌};
 ghost use Rattle.std.specs.Borrow.{sem};
 ghost use Rattle.std.specs.Option.{option_copied, option_copied_mut};
 ghost use Rattle.shred_world.specs.Lent.{LendsValueOf};
-ghost use Rattle.shred_world.specs.Worlds.{table_of_world, world_held, world_over};
+ghost use Rattle.shred_table.specs.Slots.{slot_at};
+ghost use Rattle.shred_table.specs.Twins.{IsSettled, twin_slot};
+ghost use Rattle.shred_table.specs.declared.id.ResourceId.{ResourceId};
+ghost use Rattle.shred_world.specs.Worlds.{world_held, world_slot};
 
-use crate::parting::table_of;
 use crate::world::World;
 use crate::world::local::LocalWorld;
 use shred_table::id::ResourceId;
 use shred_table::resource::ResourceValue;
-use shred_table::table::{Table, value_mut};
+use shred_table::twin::Twin;
 
 /// The value that is held under the id. `shred` gives none of these functions again, so by its names alone no value of
 /// another kind comes into a world.
 pub fn value_of<V: ResourceValue>(world: &World<V>, id: ResourceId) -> Option<&V>
     ensures { option_copied result ≡ world_held V.kind_of world.now id }
 {
-    world.local.table.get(id)
+    world.local.get(id)
 }
 
 /// The value that is held under the id, to write.
@@ -25,21 +27,28 @@ pub fn value_of_mut<V: ResourceValue>(world: &mut World<V>, id: ResourceId) -> O
     ensures shown { option_copied_mut result ≡ world_held V.kind_of world.old id }
     ensures* written { sem 𝓛 (LendsValueOf V.row V.kind_of world.entry id result) }
 {
-    value_mut(table_of(world), id)
+    world.local.value_mut(id)
 }
 
-/// The table behind a world.
-pub fn into_table<V>(world: World<V>) -> Table<V>
-    ensures { result ≡ table_of_world world }
+/// The table behind a world, in which all its values are, and the hand beside it.
+pub fn into_twin<V: Drop>(world: World<V>) -> Twin<V>
+    ensures table { (q : ResourceId) → slot_at result.table q ≡ world_slot world q }
+    ensures settled { IsSettled result }
 {
-    world.local.table
+    let World { mut local } = world;
+    local.settle();
+    let LocalWorld { twin, settled: _ } = local;
+    twin
 }
 
-/// The world over a table.
-pub fn from_table<V>(table: Table<V>) -> World<V>
-    ensures { result ≡ world_over table }
+/// The world over a table and the hand beside it.
+pub fn from_twin<V>(twin: Twin<V>) -> World<V>
+    ensures { (q : ResourceId) → world_slot result q ≡ twin_slot twin q }
 {
     World {
-        local: LocalWorld { table },
+        local: LocalWorld {
+            twin,
+            settled: false,
+        },
     }
 }

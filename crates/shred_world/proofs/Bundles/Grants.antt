@@ -1,6 +1,6 @@
 -- What a view grants after a value was moved out of it, and after one was put back.
 use Rattle.std.proofs.Common.{◌≡◌, Bool, true, false, not, ◌&&◌, ◌||◌, Option, Some, None, cond, nat_eq, refl, sym, ◌∙◌, ap}
-use Rattle.std.specs.Prelude.{IsSome, is_some, is_none, length, ◌==◌}
+use Rattle.std.specs.Prelude.{IsSome, is_some, is_none}
 use Rattle.std.specs.Borrow.{Bor}
 use Rattle.std.specs.Option.{option_copied}
 use Rattle.shred_table.specs.declared.id.Kind.{Kind}
@@ -12,7 +12,7 @@ use Rattle.shred_world.specs.Grants.{grant_of, without, with_back}
 use Rattle.shred_table.specs.Id.{same_id}
 use Rattle.shred_table.specs.Parting.{emptied, filled}
 use Rattle.shred_table.specs.Slots.{slot_at, slot_held, of_kind, held, with_at, among}
-use Rattle.shred_world.specs.Views.{lent_slot, view_held, is_own, is_out, noted, IsSameLoan}
+use Rattle.shred_world.specs.Views.{behind_slot, lent_to, none_behind, view_held, is_own, is_out, noted, IsSameLoan}
 use Rattle.shred_table.specs.Slots.{is_vacant}
 use Rattle.shred_table.proofs.Tables.Slots.{same_id-true}
 use Rattle.shred_world.proofs.Views.Refusals.{slot-held}
@@ -65,7 +65,7 @@ filled-some v (Some s) = refl
 filled-some v None = refl
 
 module _ {V : Type 0} (kind : V → Kind) (s n : View V) (reads : n.reads ≡ s.reads) (writes : n.writes ≡ s.writes) (owned : n.owned ≡ s.owned)
-    (whole : n.whole ≡ s.whole) (shelf : n.shelf ≡ s.shelf) (table : n.own.ghost_name ≡ s.own.ghost_name)
+    (whole : n.whole ≡ s.whole) (shelf : n.shelf ≡ s.shelf) (base : n.base ≡ s.base) (table : n.own.ghost_name ≡ s.own.ghost_name)
     (slots : (q : ResourceId) → is_some (slot_at n.own.now q) ≡ is_some (slot_at s.own.now q)) where
   -- the lists and the tables are as they were, and the slot of each id that is not the view's own
   pub same_loan : ((q : ResourceId) → is_own s q ≡ false → slot_at n.own.now q ≡ slot_at s.own.now q) → IsSameLoan s n
@@ -73,9 +73,9 @@ module _ {V : Type 0} (kind : V → Kind) (s n : View V) (reads : n.reads ≡ s.
     reads = λ i. (reads i).now;
     writes = λ i. (writes i).now;
     owned = λ i. (owned i).now;
-    shelf = λ id i. lent_slot (shelf i).now id;
-    own = λ id i. (length (shelf i).now == 0) || among (owned i).now id;
-    whole = λ i. whole i && (length (shelf i).now == 0);
+    shelf = λ id i. behind_slot (base i).now (shelf i).now id;
+    own = λ id i. none_behind (base i).now (shelf i).now || among (owned i).now id;
+    whole = λ i. whole i && none_behind (base i).now (shelf i).now;
     table = table;
     slots = slots;
     others = others;
@@ -85,20 +85,20 @@ module _ {V : Type 0} (kind : V → Kind) (s n : View V) (reads : n.reads ≡ s.
   granted : (out : ResourceId → Bool) (held : ResourceId → Option V) → ((q : ResourceId) → is_out n q ≡ out q) → ((q : ResourceId) → view_held kind n q ≡ held q)
       → grant_of kind n ≡ record (grant_of kind s) { out = out; held = held }
   granted out held o h = λ i. record {
-    reads = λ q. among (reads i).now q || ((whole i && (length (shelf i).now == 0)) || (among (writes i).now q && among (owned i).now q));
-    writes = λ q. (whole i && (length (shelf i).now == 0)) || (among (writes i).now q && among (owned i).now q);
-    own = λ q. (length (shelf i).now == 0) || among (owned i).now q;
+    reads = λ q. among (reads i).now q || ((whole i && none_behind (base i).now (shelf i).now) || (among (writes i).now q && among (owned i).now q));
+    writes = λ q. (whole i && none_behind (base i).now (shelf i).now) || (among (writes i).now q && among (owned i).now q);
+    own = λ q. none_behind (base i).now (shelf i).now || among (owned i).now q;
     out = λ q. o q i;
     held = λ q. h q i;
   }
 
   -- what a slot shows before what lies behind it
-  shows_slot : (q : ResourceId) (o : Option (Slot V)) → slot_at n.own.now q ≡ o → view_held kind n q ≡ slot_held kind q (cond (is_own s q) o (lent_slot s.shelf.now q))
-  shows_slot q o is = λ i. slot_held kind q (cond ((length (shelf i).now == 0) || among (owned i).now q) (is i) (lent_slot (shelf i).now q))
+  shows_slot : (q : ResourceId) (o : Option (Slot V)) → slot_at n.own.now q ≡ o → view_held kind n q ≡ slot_held kind q (cond (is_own s q) o (lent_to s q))
+  shows_slot q o is = λ i. slot_held kind q (cond (none_behind (base i).now (shelf i).now || among (owned i).now q) (is i) (behind_slot (base i).now (shelf i).now q))
 
   -- what is noted in the view's own slots
   noted_out : (q : ResourceId) (m : Bool) (o : Option (Slot V)) → noted n q ≡ m → slot_at n.own.now q ≡ o → is_out n q ≡ (is_own s q && (m && is_vacant o))
-  noted_out q m o notes is = λ i. ((length (shelf i).now == 0) || among (owned i).now q) && (notes i && is_vacant (is i))
+  noted_out q m o notes is = λ i. (none_behind (base i).now (shelf i).now || among (owned i).now q) && (notes i && is_vacant (is i))
 
   module _ (id : ResourceId) (v : V) (own : is_own s id ≡ true) where
     own_at : (q : ResourceId) → same_id id q ≡ true → is_own s q ≡ true
@@ -116,7 +116,7 @@ module _ {V : Type 0} (kind : V → Kind) (s n : View V) (reads : n.reads ≡ s.
       out q false e = noted_out q (noted s q) _ (notes q ∙ ap (λ b. b || noted s q) e) (after q false e)
 
       shown : (q : ResourceId) (b : Bool) → same_id id q ≡ b → view_held kind n q ≡ cond b None (view_held kind s q)
-      shown q true e = shows_slot q _ (after q true e) ∙ ap (λ (b : Bool). slot_held kind q (cond b (Some (record { value = None })) (lent_slot s.shelf.now q))) (own_at q e)
+      shown q true e = shows_slot q _ (after q true e) ∙ ap (λ (b : Bool). slot_held kind q (cond b (Some (record { value = None })) (lent_to s q))) (own_at q e)
       shown q false e = shows_slot q _ (after q false e)
 
     -- a value of the id's kind was put into the id's slot, out of which one had been moved
@@ -140,7 +140,7 @@ module _ {V : Type 0} (kind : V → Kind) (s n : View V) (reads : n.reads ≡ s.
       out q false e = noted_out q (noted s q) _ (notes q) (after q false e)
 
       shown : (q : ResourceId) (b : Bool) → same_id id q ≡ b → view_held kind n q ≡ cond b (Some v) (view_held kind s q)
-      shown q true e = shows_slot q _ (after q true e) ∙ ap (λ (b : Bool). slot_held kind q (cond b (Some (record { value = Some v })) (lent_slot s.shelf.now q))) (own_at q e) ∙ slot-held kind q v (of ∙ (λ i. (same_id-true id q e i).kind))
+      shown q true e = shows_slot q _ (after q true e) ∙ ap (λ (b : Bool). slot_held kind q (cond b (Some (record { value = Some v })) (lent_to s q))) (own_at q e) ∙ slot-held kind q v (of ∙ (λ i. (same_id-true id q e i).kind))
       shown q false e = shows_slot q _ (after q false e)
 
   -- what was held in the view's own slot of the id was moved out of it

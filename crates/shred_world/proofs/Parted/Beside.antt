@@ -8,7 +8,7 @@ use Rattle.shred_table.specs.declared.id.Kind.{Kind}
 use Rattle.shred_table.specs.declared.table.Slot.{Slot}
 use Rattle.shred_table.specs.declared.table.Table.{Table}
 use Rattle.shred_world.specs.declared.world.view.View.{View}
-use Rattle.shred_world.specs.Views.{lent_slot, view_held, is_own, is_out, IsSameLoan, IsSameView}
+use Rattle.shred_world.specs.Views.{lent_to, view_held, is_own, is_out, IsSameLoan, IsSameView}
 use Rattle.shred_table.specs.Slots.{slot_at, slot_held, held, among}
 use Rattle.shred_table.specs.Parting.{emptied}
 use Rattle.shred_table.specs.Parts.{Pair, writes_of, declares, AreBeside, DoNotConflict, written_by, HoldsWritten, HoldsSameIds, HoldsIdsOf, IsJoined}
@@ -100,6 +100,6 @@ module _ {V : Type 0} (kind : V → Kind) where
         at true e = held-again u.own.now w.own.now ps hs q holds ids e
         at false e = ap (λ (o : Option (Slot V)). is_some (slot_held kind q o)) (rest q e ∙ left q ∙ ap (λ (b : Bool). cond b (emptied (slot_at u.own.now q)) (slot_at u.own.now q)) e)
 
-        by_own : (b : Bool) → is_some (slot_held kind q (cond b (slot_at w.own.now q) (lent_slot u.shelf.now q))) ≡ is_some (slot_held kind q (cond b (slot_at u.own.now q) (lent_slot u.shelf.now q)))
+        by_own : (b : Bool) → is_some (slot_held kind q (cond b (slot_at w.own.now q) (lent_to u q))) ≡ is_some (slot_held kind q (cond b (slot_at u.own.now q) (lent_to u q)))
         by_own true = at (written_by ps q) refl
         by_own false = refl

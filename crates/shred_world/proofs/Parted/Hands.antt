@@ -11,7 +11,7 @@ use Rattle.shred_table.specs.Parting.{emptied}
 use Rattle.shred_table.specs.Parts.{Pair, writes_of, written_by, DoNotConflict, HoldsWritten, Fits, IsHandOf}
 use Rattle.shred_table.specs.Shown.{Lent, IsSameSlots}
 use Rattle.shred_table.specs.Slots.{slot_at, noted_in, among}
-use Rattle.shred_world.specs.Views.{lent_slot, is_own, is_out, may_write, view_slot}
+use Rattle.shred_world.specs.Views.{lent_to, is_own, is_out, may_write, view_slot}
 use Rattle.shred_table.specs.Slots.{is_vacant}
 use Rattle.shred_world.proofs.Parted.Beside.{written-none, shown-over, hand-of, fit-over}
 use Rattle.shred_table.proofs.Parted.Pairs.{zip-map, zip-through}
@@ -42,14 +42,14 @@ no_slots (Some u) (Some v) same none = absurd (cc)
 module _ {V : Type 0} (pairs : List Pair) where
   -- what a view shows once another table is there in the place of its own
   abbrev pub left_slot : View V → Table V → Lent V
-  left_slot was now q = cond (is_own was q) (slot_at now q) (lent_slot was.shelf.now q)
+  left_slot was now q = cond (is_own was q) (slot_at now q) (lent_to was q)
 
   -- over what the view shows that was parted, each hand is the pair's
   pub parted-hands : (was : View V) (now : Table V) (hands : List (Table V)) → ((q : ResourceId) → slot_at now q ≡ cond (written_by pairs q) (emptied (slot_at was.own.now q)) (slot_at was.own.now q))
       → All (λ p. (q : ResourceId) → IsTrue (among (writes_of p) q) → IsTrue (may_write was q)) pairs → AllZip (HoldsWritten was.own.now) pairs hands → AllZip (IsHandOf (left_slot was now)) pairs hands
   parted-hands was now hands left within holds =
       zip-map (HoldsWritten was.own.now) (IsHandOf (left_slot was now)) pairs hands
-      (λ i d h below held q. hand-of (among (writes_of (get_or pairs i d)) q) (written_by pairs q) (is_own was q) (slot_at h q) (slot_at was.own.now q) (slot_at now q) (lent_slot was.shelf.now q) (held q) (left q)
+      (λ i d h below held q. hand-of (among (writes_of (get_or pairs i d)) q) (written_by pairs q) (is_own was q) (slot_at h q) (slot_at was.own.now q) (slot_at now q) (lent_to was q) (held q) (left q)
       (λ w. written-own was q (within i d below q w)))
       holds
 
@@ -65,7 +65,7 @@ module _ {V : Type 0} (pairs : List Pair) where
       → All (λ p. (q : ResourceId) → IsTrue (among (writes_of p) q) → IsTrue (may_write was q)) pairs → AllZip (HoldsWritten was.own.now) pairs hands → AllZip (ShowsDeclared (left_slot was now) (view_slot was)) pairs hands
   parted-shown was now hands left apart within holds =
       zip-map (HoldsWritten was.own.now) (ShowsDeclared (left_slot was now) (view_slot was)) pairs hands
-      (λ i d h below held q declared. shown-over (among (writes_of (get_or pairs i d)) q) (written_by pairs q) (is_own was q) (slot_at was.own.now q) (slot_at now q) (slot_at h q) (lent_slot was.shelf.now q)
+      (λ i d h below held q declared. shown-over (among (writes_of (get_or pairs i d)) q) (written_by pairs q) (is_own was q) (slot_at was.own.now q) (slot_at now q) (slot_at h q) (lent_to was q)
       (held q) (left q) (λ w. written-own was q (within i d below q w)) (λ out. written-none i pairs d q apart below declared out))
       holds
 

@@ -4,6 +4,7 @@ ghost use Rattle.shred_world.specs.Executed.{IsCalled, IsHeldAfter, IsExecuted, 
 ghost use Rattle.shred_world.specs.Grants.{grant_of, map_grant};
 ghost use Rattle.shred_world.specs.KeptViews.{KeepsView};
 ghost use Rattle.shred_world.specs.OwnViews.{IsLent};
+ghost use Rattle.shred_table.specs.Shown.{IsSameSlots};
 ghost use Rattle.shred_table.specs.Slots.{held};
 ghost use Rattle.shred_world.specs.Views.{table_of, IsSameLoan};
 ghost use Rattle.shred_world.specs.Worlds.{world_held};
@@ -33,7 +34,7 @@ impl<V: ResourceValue> World<V> {
         run: F,
     ) -> Result<A, DataError>
     where
-        V: 's,
+        V: Drop + 's,
         F: Drop,
         requires callable { (middle : ResourceId → Option V) → D.sets_up (world_held V.kind_of self.old) (Ok tt) middle → MayCall F.FnOnce run D.shows D.moved (map_grant middle) D.parts }
         requires kept { (middle : ResourceId → Option V) → D.sets_up (world_held V.kind_of self.old) (Ok tt) middle → KeepsIds F.FnOnce run D.shows D.moved (map_grant middle) D.parts }
@@ -42,7 +43,8 @@ impl<V: ResourceValue> World<V> {
         if let Err(error) = self.setup::<D>() {
             return Err(DataError::from(error));
         }
-        call_with::<V, D, A, F>(&mut self.local.table, run)
+        self.local.settle();
+        call_with::<V, D, A, F>(&mut self.local.twin.table, run)
     }
 }
 
@@ -55,7 +57,8 @@ where
     F: Drop,
     requires callable { MayCall F.FnOnce run D.shows D.moved (map_grant (held V.kind_of own.old)) D.parts }
     requires kept { KeepsIds F.FnOnce run D.shows D.moved (map_grant (held V.kind_of own.old)) D.parts }
-    ensures { IsHeldAfter F.FnOnce run D.shows D.moved D.parts (held V.kind_of own.old) result (held V.kind_of own.new) }
+    ensures called { IsHeldAfter F.FnOnce run D.shows D.moved D.parts (held V.kind_of own.old) result (held V.kind_of own.new) }
+    ensures slots { IsSameSlots own.old own.new }
 {
     let mut view = View::whole(own);
     view.exec(run)

@@ -5,6 +5,7 @@ ghost use Rattle.shred_world.specs.Bundles.{AreOut, AreAllOut, IsRefused, after_
 ghost use Rattle.shred_world.specs.Executed.{IsTaken};
 ghost use Rattle.shred_world.specs.Grants.{is_out_in, map_grant, table_grant, given_back};
 ghost use Rattle.shred_world.specs.Lent.{EndsSame};
+ghost use Rattle.shred_table.specs.Shown.{IsSameSlots};
 ghost use Rattle.shred_table.specs.Slots.{held};
 ghost use Rattle.shred_world.specs.Worlds.{world_held};
 ghost use Rattle.shred_world.specs.contracts.world.World.{the_row as world_row};
@@ -55,12 +56,13 @@ impl<V: ResourceValue, D> Lent<'_, V, D> {
     pub fn give_back<'s>(self)
     where
         D: SystemData<'s, V>,
-        V: 's,
+        V: Drop + 's,
         requires { AreAllOut (lent_grant V.kind_of self).out (ids_of (D.moved (lent_bundle self))) }
         ensures { world_held V.kind_of self.exit.0.now ≡ (given_back (lent_grant V.kind_of self.entry) (D.moved (lent_bundle self.entry))).held }
     {
         let Lent { world, bundle } = self;
-        put_into(&mut world.local.table, bundle);
+        world.local.settle();
+        put_into(&mut world.local.twin.table, bundle);
     }
 }
 
@@ -71,7 +73,7 @@ impl<V: ResourceValue> World<V> {
     /// `View::system_data` is, and the world then holds what it held.
     pub fn system_data<'s, D: SystemData<'s, V>>(&mut self) -> Result<Lent<'_, V, D>, DataError>
     where
-        V: 's,
+        V: Drop + 's,
         ensures refused { IfErr result (IsRefused (map_grant (world_held V.kind_of self.old)) D.parts) }
         ensures taken { IfOk result (λ lent. IsTaken D.shows D.moved (map_grant (world_held V.kind_of self.old)) D.parts (lent_bundle lent)) }
         ensures left { IfOk result (λ lent. lent_grant V.kind_of lent ≡ after_parts (map_grant (world_held V.kind_of self.old)) D.parts) }
@@ -79,7 +81,8 @@ impl<V: ResourceValue> World<V> {
         ensures name { IfOk result (λ lent. (lender lent).ghost_name ≡ self.entry.ghost_name) }
         ensures* unchanged { sem 𝓛 (RestsIfErr (world_row V.row) self.entry (λ lent. (lender lent).ghost_name) result (EndsSame V.kind_of self.old)) }
     {
-        match take_of(&mut self.local.table) {
+        self.local.settle();
+        match take_of(&mut self.local.twin.table) {
             Ok(bundle) => Ok(Lent {
                 world: self,
                 bundle,
@@ -97,6 +100,7 @@ pub(crate) fn take_of<'s, V: ResourceValue + 's, D: SystemData<'s, V>>(
     ensures taken { IfOk result (IsTaken D.shows D.moved (map_grant (held V.kind_of own.old)) D.parts) }
     ensures left { OnOk result (table_grant V.kind_of own.new ≡ after_parts (map_grant (held V.kind_of own.old)) D.parts) }
     ensures unchanged { OnErr result (held V.kind_of own.new ≡ held V.kind_of own.old) }
+    ensures slots { IsSameSlots own.old own.new }
 {
     let mut view = View::whole(own);
     view.system_data()
@@ -108,7 +112,8 @@ pub(crate) fn put_into<'s, V: ResourceValue + 's, D: SystemData<'s, V>>(
     bundle: D,
 )
     requires { AreOut (is_out_in own.old) (ids_of (D.moved bundle)) }
-    ensures { held V.kind_of own.new ≡ (given_back (table_grant V.kind_of own.old) (D.moved bundle)).held }
+    ensures held { held V.kind_of own.new ≡ (given_back (table_grant V.kind_of own.old) (D.moved bundle)).held }
+    ensures slots { IsSameSlots own.old own.new }
 {
     let mut view = View::whole_as_left(own);
     view.give_back(bundle);

@@ -1,44 +1,139 @@
 //! What a world holds, lent to be read and written while the ids stay.
-ghost use Rattle.std.specs.Prelude.{◌≡◌, ◌≢◌, ◌||◌, false, None, Some, Err, OnOk, OnErr, IfOk, IfErr, is_some};
+ghost use Rattle.std.specs.Prelude.{◌≡◌, ◌≢◌, ◌||◌, ◌&&◌, ℕ, false, IsTrue, IfSome, None, Some, Err, OnOk, OnErr, IfOk, IfErr, is_some};
 ghost use Rattle.std.specs.Borrow.{sem, RestsIfErr};
-ghost use Rattle.std.specs.Option.{option_map};
+ghost use Rattle.std.specs.Option.{option_map, option_copied, option_copied_mut};
 ghost use Rattle.shred_table.specs.declared.id.ResourceId.{ResourceId};
 ghost use Rattle.shred_world.specs.Fetched.{fetched};
 ghost use Rattle.shred_table.specs.Id.{id_kind};
+ghost use Rattle.shred_table.specs.Slots.{slot_at, noted_in};
+ghost use Rattle.shred_table.specs.Twins.{IsSettled, twin_slot};
 
 use crate::world::bundle::SystemData;
 use crate::world::fetch::{Fetch, FetchMut};
 use crate::world::view::{DataError, View};
 use crate::world::{ReplaceError, WorldError, test_kind};
 use shred_table::id::ResourceId;
+use shred_table::parting::move_each;
 use shred_table::resource::{Resource, ResourceValue};
-use shred_table::table::{self, Table};
+use shred_table::steps::Steps;
+use shred_table::twin::Twin;
 use std::alloc::Global;
 
 /// What a world holds. It has the world's calls that keep the ids under which values are held.
 #[derive(Drop)]
 pub struct LocalWorld<V> {
-    pub(crate) table: Table<V>,
+    pub(crate) twin: Twin<V>,
+    // Whether it is known that all values are in the table.
+    pub(crate) settled: bool,
+    ghost kept: { IsTrue settled → IsSettled twin },
+}
+
+impl<V> LocalWorld<V> {
+    ghost use Rattle.shred_world.specs.Worlds.{local_slot, twin_of_local};
+    ghost use Rattle.shred_world.specs.Lent.{LendsLocalTwin};
+
+    // Holds nothing.
+    pub(crate) fn empty(alloc: Global) -> Self
+        ensures { (id : ResourceId) → local_slot result id ≡ None }
+    {
+        LocalWorld {
+            twin: Twin::new(alloc),
+            settled: true,
+        }
+    }
+
+    // Moves all values into the table, where it is not known that they are there.
+    #[inline(always)]
+    pub(crate) fn settle(&mut self)
+    where
+        V: Drop,
+        ensures table { (q : ResourceId) → slot_at (twin_of_local self.new).table q ≡ local_slot self.old q }
+        ensures same { (q : ResourceId) → local_slot self.new q ≡ local_slot self.old q }
+        ensures settled { IsSettled (twin_of_local self.new) }
+        ensures noted { (q : ResourceId) → noted_in (twin_of_local self.new).table q ≡ noted_in (twin_of_local self.old).table q }
+    {
+        if !self.settled {
+            self.twin.settle();
+            self.settled = true;
+        }
+    }
+
+    // The table, in which all values are, and the hand beside it. From now on this is not known of the table.
+    #[inline(always)]
+    pub(crate) fn opened(&mut self) -> &mut Twin<V>
+    where
+        V: Drop,
+        ensures table { (q : ResourceId) → slot_at result.now.table q ≡ local_slot self.old q }
+        ensures same { (q : ResourceId) → twin_slot result.now q ≡ local_slot self.old q }
+        ensures settled { IsSettled result.now }
+        ensures* back { sem 𝓛 (LendsLocalTwin V.row self.entry result) }
+    {
+        self.settle();
+        self.settled = false;
+        &mut self.twin
+    }
+
+    // The table and the hand. From now on it is not known that all values are in the table.
+    #[inline(always)]
+    fn loosened(&mut self) -> &mut Twin<V>
+        ensures shown { result.now ≡ twin_of_local self.old }
+        ensures* back { sem 𝓛 (LendsLocalTwin V.row self.entry result) }
+    {
+        self.settled = false;
+        &mut self.twin
+    }
+
+    // Notes that all values are in the table.
+    #[inline(always)]
+    pub(crate) fn keep(&mut self)
+        requires { IsSettled (twin_of_local self.old) }
+        ensures { (q : ResourceId) → local_slot self.new q ≡ local_slot self.old q }
+    {
+        self.settled = true;
+    }
 }
 
 impl<V: ResourceValue> LocalWorld<V> {
     ghost use Rattle.shred_world.specs.Worlds.{local_held};
+    ghost use Rattle.shred_table.specs.Counts.{IsCountOf, IsWithinDigits};
+    ghost use Rattle.shred_table.specs.InOrder.{comes_first};
     ghost use Rattle.shred_table.specs.Id.{id_of, id_kind};
     ghost use Rattle.shred_table.specs.Slots.{with_at, among};
     ghost use Rattle.shred_world.specs.Views.{view_held, may_read, may_write, is_out};
     ghost use Rattle.shred_world.specs.Lending.{IsOverLocal};
-    ghost use Rattle.shred_world.specs.Lent.{LendsLocalWorld, LendsLocalGot, LendsLocalGotOk};
+    ghost use Rattle.shred_world.specs.Lent.{LendsLocalWorld, LendsLocalGot, LendsLocalGotOk, LendsLocalValue};
+    ghost use Rattle.shred_world.specs.OwnViews.{IsLent};
 
     /// The allocator that the world was made with.
     pub fn allocator(&self) -> Global {
-        self.table.allocator()
+        self.twin.table.allocator()
     }
 
     /// Whether a value is held under the id.
     pub fn has_value_raw(&self, id: ResourceId) -> bool
         ensures { result ≡ is_some (local_held V.kind_of self.now id) }
     {
-        self.table.get(id).is_some()
+        self.get(id).is_some()
+    }
+
+    // The value that is held under the id.
+    pub(crate) fn get(&self, id: ResourceId) -> Option<&V>
+        ensures { option_copied result ≡ local_held V.kind_of self.now id }
+    {
+        if self.settled {
+            self.twin.table.get(id)
+        } else {
+            self.twin.get(id)
+        }
+    }
+
+    // How many held ids come before this one, where it is held.
+    pub(crate) fn slot_of(&self, id: ResourceId, steps: &mut Steps) -> Option<usize>
+        ensures held { is_some result ≡ is_some (local_held V.kind_of self.now id) }
+        ensures slot { IfSome result (IsCountOf (λ q. is_some (local_held V.kind_of self.now q) && comes_first q id)) }
+        ensures steps { (count : ℕ) × IsCountOf (λ q. is_some (local_held V.kind_of self.now q)) count × IsWithinDigits count steps.old.count steps.new.count }
+    {
+        self.twin.slot_of(self.settled, id, steps)
     }
 
     /// Whether a resource of the type is held.
@@ -67,7 +162,7 @@ impl<V: ResourceValue> LocalWorld<V> {
         if !self.has_value_raw(id) {
             return Err(ReplaceError::Missing { id, value });
         }
-        match table::replace(&mut self.table, id, value) {
+        match self.twin.replace(id, value) {
             Ok(old) => Ok(old),
             Err(value) => Err(ReplaceError::Missing { id, value }),
         }
@@ -103,7 +198,7 @@ impl<V: ResourceValue> LocalWorld<V> {
         ensures wrong_kind { IfErr result (λ e. (R.KIND ≢ id_kind id) × (e ≡ WorldError.WrongKind R.KIND (id_kind id))) }
     {
         test_kind::<V, R>(id)?;
-        let Some(value) = self.table.get(id) else {
+        let Some(value) = self.get(id) else {
             return Ok(None);
         };
         match R::view(value) {
@@ -118,7 +213,15 @@ impl<V: ResourceValue> LocalWorld<V> {
         ensures shown { option_map (λ r. R.wrapped r.now) result ≡ local_held V.kind_of self.old id }
         ensures* written { sem 𝓛 (LendsLocalGot V.row R.row V.kind_of R.wrapped self.entry id result) }
     {
-        table::resource_mut(&mut self.table, id)
+        self.loosened().resource_mut(id)
+    }
+
+    // The value that is held under the id, to write.
+    pub(crate) fn value_mut(&mut self, id: ResourceId) -> Option<&mut V>
+        ensures shown { option_copied_mut result ≡ local_held V.kind_of self.old id }
+        ensures* written { sem 𝓛 (LendsLocalValue V.row V.kind_of self.entry id result) }
+    {
+        self.loosened().value_mut(id)
     }
 
     /// The resource that is held, if one is, to write.
@@ -173,13 +276,18 @@ impl<V: ResourceValue> LocalWorld<V> {
         reads: &'b [ResourceId],
         writes: &'b [ResourceId],
     ) -> View<'b, 'b, V>
+    where
+        V: Drop,
         ensures reads { (id : ResourceId) → may_read result id ≡ (among reads.now id || among writes.now id) }
         ensures writes { (id : ResourceId) → may_write result id ≡ among writes.now id }
         ensures nothing_out { (id : ResourceId) → is_out result id ≡ false }
         ensures shown { (id : ResourceId) → view_held V.kind_of result id ≡ local_held V.kind_of self.old id }
-        ensures over { IsOverLocal self.old result }
+        ensures lent { IsLent result reads.now writes.now }
+        ensures over { IsOverLocal self.old writes.now result }
         ensures* back { sem 𝓛 (LendsLocalWorld V.row self.entry result) }
     {
-        View::over(reads, writes, &[], &mut self.table)
+        let twin = self.opened();
+        move_each(&mut twin.table, writes, &mut twin.hand);
+        View::of_twin(twin, reads, writes)
     }
 }

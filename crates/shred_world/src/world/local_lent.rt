@@ -53,12 +53,13 @@ impl<V: ResourceValue, D> LocalLent<'_, V, D> {
     pub fn give_back<'s>(self)
     where
         D: SystemData<'s, V>,
-        V: 's,
+        V: Drop + 's,
         requires { AreAllOut (local_grant V.kind_of self).out (ids_of (D.moved (local_bundle self))) }
         ensures { local_held V.kind_of self.exit.0.now ≡ (given_back (local_grant V.kind_of self.entry) (D.moved (local_bundle self.entry))).held }
     {
         let LocalLent { world, bundle } = self;
-        put_into(&mut world.table, bundle);
+        world.settle();
+        put_into(&mut world.twin.table, bundle);
     }
 }
 
@@ -70,7 +71,7 @@ impl<V: ResourceValue> LocalWorld<V> {
         &mut self,
     ) -> Result<LocalLent<'_, V, D>, DataError>
     where
-        V: 's,
+        V: Drop + 's,
         ensures refused { IfErr result (IsRefused (map_grant (local_held V.kind_of self.old)) D.parts) }
         ensures taken { IfOk result (λ lent. IsTaken D.shows D.moved (map_grant (local_held V.kind_of self.old)) D.parts (local_bundle lent)) }
         ensures left { IfOk result (λ lent. local_grant V.kind_of lent ≡ after_parts (map_grant (local_held V.kind_of self.old)) D.parts) }
@@ -78,7 +79,8 @@ impl<V: ResourceValue> LocalWorld<V> {
         ensures name { IfOk result (λ lent. (local_lender lent).ghost_name ≡ self.entry.ghost_name) }
         ensures* unchanged { sem 𝓛 (RestsIfErr (local_row V.row) self.entry (λ lent. (local_lender lent).ghost_name) result (EndsLocalSame V.kind_of self.old)) }
     {
-        match take_of(&mut self.table) {
+        self.settle();
+        match take_of(&mut self.twin.table) {
             Ok(bundle) => Ok(LocalLent {
                 world: self,
                 bundle,

@@ -14,7 +14,6 @@ use shred_table::accessor::OutOfMemory;
 use shred_table::id::{Kind, ResourceId};
 use shred_table::resource::{Resource, ResourceValue};
 use shred_table::steps::Steps;
-use shred_table::table::{self, Table};
 use std::alloc::Global;
 use thiserror::Error;
 
@@ -117,6 +116,7 @@ impl<V: ResourceValue> World<V> {
     ghost use Rattle.shred_world.specs.Entries.{lent_world, entry_world};
     ghost use Rattle.shred_world.specs.Views.{view_held, may_read, may_write, is_out};
     ghost use Rattle.shred_world.specs.Lending.{IsOverWorld};
+    ghost use Rattle.shred_world.specs.OwnViews.{IsLent};
     ghost use Rattle.shred_world.specs.Lent.{LendsWorld, LendsGot, LendsGotOk};
 
     /// Holds nothing.
@@ -124,9 +124,7 @@ impl<V: ResourceValue> World<V> {
         ensures { (id : ResourceId) → world_held V.kind_of result id ≡ None }
     {
         World {
-            local: LocalWorld {
-                table: Table::new(alloc),
-            },
+            local: LocalWorld::empty(alloc),
         }
     }
 
@@ -144,14 +142,15 @@ impl<V: ResourceValue> World<V> {
         self.local.has_value_raw(id)
     }
 
-    /// How many held ids come before this one, where it is held. It takes no more comparisons of ids than the number of held
-    /// ids has binary digits.
+    /// How many held ids come before this one, where it is held. The search takes no more comparisons of ids than the number of
+    /// held ids has binary digits. Between the loan of a view and the next dispatch each id is looked for in the hand besides,
+    /// to tell whether it is held, which is not counted.
     pub fn slot_of(&self, id: ResourceId, steps: &mut Steps) -> Option<usize>
         ensures held { is_some result ≡ is_some (world_held V.kind_of self.now id) }
         ensures slot { IfSome result (IsCountOf (λ q. is_some (world_held V.kind_of self.now q) && comes_first q id)) }
         ensures steps { (count : ℕ) × IsCountOf (λ q. is_some (world_held V.kind_of self.now q)) count × IsWithinDigits count steps.old.count steps.new.count }
     {
-        self.local.table.slot_of(id, steps)
+        self.local.slot_of(id, steps)
     }
 
     /// Whether a resource of the type is held.
@@ -190,7 +189,7 @@ impl<V: ResourceValue> World<V> {
         ensures out_of_memory { IfErr result (λ e. (R.KIND ≡ id_kind id) → (e ≡ WorldError.OutOfMemory) × (world_held V.kind_of self.old id ≡ None)) }
     {
         test_kind::<V, R>(id)?;
-        table::put(&mut self.local.table, id, resource.wrap())?;
+        self.local.twin.put(id, resource.wrap())?;
         Ok(())
     }
 
@@ -213,8 +212,8 @@ impl<V: ResourceValue> World<V> {
         if self.has_value_raw(id) {
             return Ok(());
         }
-        table::open(&mut self.local.table, id)?;
-        table::put(&mut self.local.table, id, make().wrap())?;
+        self.local.twin.open(id)?;
+        self.local.twin.put(id, make().wrap())?;
         Ok(())
     }
 
@@ -250,7 +249,7 @@ impl<V: ResourceValue> World<V> {
         ensures removed { option_map R.wrapped result ≡ world_held V.kind_of self.old id }
         ensures after { (q : ResourceId) → world_held V.kind_of self.new q ≡ without_at (world_held V.kind_of self.old) id q }
     {
-        let Some(slot) = table::remove(&mut self.local.table, id) else {
+        let Some(slot) = self.local.twin.remove(id) else {
             return None;
         };
         slot.into_resource()
@@ -369,11 +368,14 @@ impl<V: ResourceValue> World<V> {
         reads: &'b [ResourceId],
         writes: &'b [ResourceId],
     ) -> View<'b, 'b, V>
+    where
+        V: Drop,
         ensures reads { (id : ResourceId) → may_read result id ≡ (among reads.now id || among writes.now id) }
         ensures writes { (id : ResourceId) → may_write result id ≡ among writes.now id }
         ensures nothing_out { (id : ResourceId) → is_out result id ≡ false }
         ensures shown { (id : ResourceId) → view_held V.kind_of result id ≡ world_held V.kind_of self.old id }
-        ensures over { IsOverWorld self.old result }
+        ensures lent { IsLent result reads.now writes.now }
+        ensures over { IsOverWorld self.old writes.now result }
         ensures* back { sem 𝓛 (LendsWorld V.row self.entry result) }
     {
         self.local.lend(reads, writes)

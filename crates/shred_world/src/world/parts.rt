@@ -114,7 +114,7 @@ impl<'p, 'a, V: ResourceValue + Drop> Parts<'p, 'a, V> {
     {
         Behind {
             pairs: self.pairs,
-            shelf: [Shelf::before(lender.own, lender.owned, lender.shelf)],
+            shelf: [Shelf::before_all(lender.own, lender.owned, lender.base, lender.shelf)],
         }
     }
 

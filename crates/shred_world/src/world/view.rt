@@ -1,14 +1,14 @@
 //! Views: what a system is lent of a world.
-ghost use Rattle.std.specs.Prelude.{◌≡◌, ◌==◌, ◌&&◌, ◌||◌, Bool, None, Some, IfOk, IsTrue, true, false, cond, is_some, length};
+ghost use Rattle.std.specs.Prelude.{◌≡◌, ◌==◌, ◌&&◌, ◌||◌, Bool, None, Some, IfOk, IsTrue, true, false, cond, is_some, length, [], ◌∷◌};
 ghost use Rattle.std.specs.Borrow.{sem};
 ghost use Rattle.shred_table.specs.declared.id.ResourceId.{ResourceId};
 ghost use Rattle.shred_world.specs.Lending.{IsNarrowed};
-ghost use Rattle.shred_world.specs.Lent.{LendsWritten, LendsNarrow};
+ghost use Rattle.shred_world.specs.Lent.{LendsWritten, LendsNarrow, LendsBeside};
 ghost use Rattle.std.specs.Option.{option_copied, option_map};
 ghost use Rattle.std.specs.Result.{result_err};
 ghost use Rattle.shred_world.specs.Grants.{grant_of, map_grant, table_grant};
 ghost use Rattle.shred_table.specs.Slots.{among, slots_of, slot_at, held};
-ghost use Rattle.shred_world.specs.Views.{shelf_slot, lent_slot, view_slot, view_held, is_whole, is_own, may_read, may_write, is_out, refusal};
+ghost use Rattle.shred_world.specs.Views.{shelf_slot, base_slot, behind_slot, lent_slot, lent_to, none_behind, view_slot, view_held, is_alone, is_whole, is_own, may_read, may_write, is_out, refusal};
 ghost use Rattle.shred_table.specs.Id.{id_kind};
 ghost use Rattle.shred_table.specs.Slots.{is_vacant};
 
@@ -16,6 +16,8 @@ use shred_table::accessor::OutOfMemory;
 use shred_table::id::{Kind, ResourceId};
 use shred_table::resource::{Resource, ResourceValue};
 use shred_table::table::{self, Slot, Table};
+use shred_table::twin::Twin;
+use std::slice;
 use thiserror::Error;
 
 /// Why a part of the data is not handed out.
@@ -52,6 +54,7 @@ impl From<OutOfMemory> for DataError {
 #[derive(Drop)]
 pub enum Shelf<'s, V> {
     Last(&'s Table<V>),
+    Over(&'s Table<V>, &'s [ResourceId], &'s Table<V>),
     Before(&'s Table<V>, &'s [ResourceId], &'s Shelf<'s, V>),
 }
 
@@ -67,12 +70,37 @@ impl<'s, V> Shelf<'s, V> {
         }
     }
 
+    // The same, where a world's table may lie behind in place of a shelf.
+    pub(crate) fn before_all(
+        table: &'s Table<V>,
+        owned: &'s [ResourceId],
+        base: &'s [Table<V>],
+        behind: &'s [Shelf<'s, V>],
+    ) -> Self
+        ensures { (q : ResourceId) → shelf_slot result q ≡ cond (none_behind base.now behind.now || among owned.now q) (slot_at table.now q) (behind_slot base.now behind.now q) }
+    {
+        match behind.first() {
+            Some(rest) => Shelf::Before(table, owned, rest),
+            None => match base.first() {
+                Some(base) => Shelf::Over(table, owned, base),
+                None => Shelf::Last(table),
+            },
+        }
+    }
+
     /// The slot that is shown for an id.
     pub fn slot(&self, id: ResourceId) -> Option<&'s Slot<V>>
         ensures { option_copied result ≡ shelf_slot self.now id }
     {
         match self {
             Shelf::Last(table) => table.slot(id),
+            Shelf::Over(table, owned, base) => {
+                if owned.contains(&id) {
+                    table.slot(id)
+                } else {
+                    base.slot(id)
+                }
+            }
             Shelf::Before(table, owned, rest) => {
                 if owned.contains(&id) {
                     table.slot(id)
@@ -100,18 +128,37 @@ pub struct View<'s, 'a, V> {
     pub(crate) owned: &'s [ResourceId],
     pub(crate) whole: bool,
     pub(crate) shelf: &'s [Shelf<'s, V>],
+    // The table that a world lends, behind an empty shelf.
+    pub(crate) base: &'s [Table<V>],
     pub(crate) own: &'a mut Table<V>,
 }
 
 impl<'s, 'a, V: ResourceValue> View<'s, 'a, V> {
     // The slot that is lent shared for an id.
     pub(crate) fn lent_slot(&self, id: ResourceId) -> Option<&'s Slot<V>>
-        ensures { option_copied result ≡ lent_slot self.now.shelf.now id }
+        ensures { option_copied result ≡ lent_to self.now id }
     {
         match self.shelf.first() {
             Some(shelf) => shelf.slot(id),
+            None => self.base_slot(id),
+        }
+    }
+
+    // The slot that an id has in the table that a world lends.
+    fn base_slot(&self, id: ResourceId) -> Option<&'s Slot<V>>
+        ensures { option_copied result ≡ base_slot self.now.base.now id }
+    {
+        match self.base.first() {
+            Some(table) => table.slot(id),
             None => None,
         }
+    }
+
+    // Whether nothing lies behind the view's own table.
+    fn is_alone(&self) -> bool
+        ensures { result ≡ is_alone self.now }
+    {
+        self.shelf.is_empty() && self.base.is_empty()
     }
 
     // Where the id is listed as the view's own.
@@ -134,7 +181,7 @@ impl<'s, 'a, V: ResourceValue> View<'s, 'a, V> {
     {
         match place {
             Some(near) => self.own.slot_near(id, near),
-            None if self.shelf.is_empty() => self.own.slot(id),
+            None if self.is_alone() => self.own.slot(id),
             None => self.lent_slot(id),
         }
     }
@@ -143,13 +190,13 @@ impl<'s, 'a, V: ResourceValue> View<'s, 'a, V> {
     pub(crate) fn is_own(&self, id: ResourceId) -> bool
         ensures { result ≡ is_own self.now id }
     {
-        self.shelf.is_empty() || self.owned.contains(&id)
+        self.is_alone() || self.owned.contains(&id)
     }
 
     pub(crate) fn is_whole(&self) -> bool
         ensures { result ≡ is_whole self.now }
     {
-        self.whole && self.shelf.is_empty()
+        self.whole && self.is_alone()
     }
 
     // Whether an id may be written that is listed at this place.
@@ -315,6 +362,7 @@ impl<'s, 'a, V: ResourceValue> View<'s, 'a, V> {
             owned,
             whole: false,
             shelf: self.shelf,
+            base: self.base,
             own: &mut *self.own,
         }
     }
@@ -344,6 +392,7 @@ impl<'s, 'a, V: ResourceValue> View<'s, 'a, V> {
             owned: none,
             whole: true,
             shelf: &[],
+            base: &[],
             own,
         }
     }
@@ -367,6 +416,7 @@ impl<'s, 'a, V> View<'s, 'a, V> {
         ensures not_whole { is_whole result ≡ false }
         ensures nothing_out { (id : ResourceId) → is_out result id ≡ false }
         ensures shelf { result.shelf.now ≡ shelf.now }
+        ensures base { result.base.now ≡ [] }
     {
         table::forget_notes(own);
         View {
@@ -375,6 +425,56 @@ impl<'s, 'a, V> View<'s, 'a, V> {
             owned: writes,
             whole: false,
             shelf,
+            base: &[],
+            own,
+        }
+    }
+
+    // The view of these ids over a world's table and the hand beside it, into which what is written was moved.
+    pub(crate) fn of_twin(
+        twin: &'a mut Twin<V>,
+        reads: &'a [ResourceId],
+        writes: &'a [ResourceId],
+    ) -> View<'a, 'a, V>
+        ensures slots { slots_of result.own.now ≡ slots_of twin.old.hand }
+        ensures reads { result.reads.now ≡ reads.now }
+        ensures writes { result.writes.now ≡ writes.now }
+        ensures owned { result.owned.now ≡ writes.now }
+        ensures not_whole { is_whole result ≡ false }
+        ensures nothing_out { (id : ResourceId) → is_out result id ≡ false }
+        ensures shelf { result.shelf.now ≡ [] }
+        ensures base { result.base.now ≡ twin.old.table ∷ [] }
+        ensures* back { sem 𝓛 (LendsBeside V.row twin.entry result) }
+    {
+        View::beside(reads, writes, slice::from_ref(&twin.table), &mut twin.hand)
+    }
+
+    // The view of these ids over a world: over a hand, where the written ids are looked for, and over the table that is lent
+    // shared, where all others are.
+    pub(crate) fn beside(
+        reads: &'s [ResourceId],
+        writes: &'s [ResourceId],
+        base: &'s [Table<V>],
+        own: &'a mut Table<V>,
+    ) -> Self
+        ensures name { result.own.ghost_name ≡ own.entry.ghost_name }
+        ensures slots { slots_of result.own.now ≡ slots_of own.old }
+        ensures reads { result.reads.now ≡ reads.now }
+        ensures writes { result.writes.now ≡ writes.now }
+        ensures owned { result.owned.now ≡ writes.now }
+        ensures not_whole { is_whole result ≡ false }
+        ensures nothing_out { (id : ResourceId) → is_out result id ≡ false }
+        ensures shelf { result.shelf.now ≡ [] }
+        ensures base { result.base.now ≡ base.now }
+    {
+        table::forget_notes(own);
+        View {
+            reads,
+            writes,
+            owned: writes,
+            whole: false,
+            shelf: &[],
+            base,
             own,
         }
     }

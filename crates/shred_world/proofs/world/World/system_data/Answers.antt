@@ -1,24 +1,44 @@
-use Rattle.std.proofs.Common.{refl, ap}
+use Rattle.std.proofs.Common.{◌≡◌, refl, sym, ◌∙◌, ap, subst}
+use Rattle.std.proofs.Common.{Option}
+use Rattle.shred_table.specs.declared.id.ResourceId.{ResourceId}
+use Rattle.shred_table.specs.declared.twin.Twin.{Twin}
+use Rattle.shred_table.specs.Slots.{held, slot_held}
+use Rattle.shred_world.specs.Bundles.{IsRefused, after_parts}
+use Rattle.shred_world.specs.Executed.{IsTaken}
+use Rattle.shred_world.specs.Grants.{map_grant}
 use Rattle.shred_world.specs.Worlds.{world_held}
+use Rattle.shred_world.proofs.Views.Settled.{same-settled, settled-grant, settled-held}
 use Rattle.shred_world.proofs.Views.Whole.{all_moved_out}
 use Rattle.shred_world.proofs.world.World.system_data.Goals as goal
 
 pub returns-in-Ok : goal.returns-in-Ok
 returns-in-Ok g c =
-    let is = c.in-Ok.ensures in (
+    let kind = g.V.ResourceValue.kind_of in
+    let D = g.D.SystemData in
+    let is = c.in-Ok.ensures in
+    let same : held kind c.settle.new.self.twin.table ≡ world_held kind c.args.self.now = λ i q. slot_held kind q (c.settle.ensures.table q i) in
+    let now : Twin g.row.V.Denot = record { table = c.take_of.new.own; hand = c.settle.new.self.twin.hand } in
+    let settled = same-settled c.settle.new.self.twin.table now.table now.hand c.settle.ensures.settled c.take_of.ensures.slots in
+    let left = sym (settled-grant kind now settled) ∙ is.left ∙ ap (λ (m : ResourceId → Option g.row.V.Denot). after_parts (map_grant m) D.parts) same in
+    let taken = subst (λ (m : ResourceId → Option g.row.V.Denot). IsTaken D.shows D.moved (map_grant m) D.parts c.in-Ok.bundle) same is.taken in (
       (refl, (λ w. refl), tt),
       record {
         refused = tt;
-        taken = is.taken;
-        left = is.left;
-        out = all_moved_out (world_held g.V.ResourceValue.kind_of c.args.self.now) _ g.D.SystemData.parts (g.D.SystemData.moved c.in-Ok.bundle) is.left is.taken.2 is.taken.0;
+        taken = taken;
+        left = left;
+        out = all_moved_out (world_held kind c.args.self.now) _ D.parts (D.moved c.in-Ok.bundle) left taken.2 taken.0;
         name = refl;
         unchanged = tt;
       },
     )
 
 pub returns-in-Err : goal.returns-in-Err
-returns-in-Err g c = (
-  (refl, (λ w. tt), (λ q. ap (λ held. held q) c.in-Err.ensures.unchanged)),
-  record { refused = c.in-Err.ensures.refused; taken = tt; left = tt; out = tt; name = tt; unchanged = tt },
-)
+returns-in-Err g c =
+    let kind = g.V.ResourceValue.kind_of in
+    let D = g.D.SystemData in
+    let same : held kind c.settle.new.self.twin.table ≡ world_held kind c.args.self.now = λ i q. slot_held kind q (c.settle.ensures.table q i) in
+    let now : Twin g.row.V.Denot = record { table = c.take_of.new.own; hand = c.settle.new.self.twin.hand } in
+    let settled = same-settled c.settle.new.self.twin.table now.table now.hand c.settle.ensures.settled c.take_of.ensures.slots in (
+      (refl, (λ w. tt), (λ q. ap (λ (h : ResourceId → Option g.row.V.Denot). h q) (settled-held kind now settled ∙ c.in-Err.ensures.unchanged ∙ same))),
+      record { refused = subst (λ (m : ResourceId → Option g.row.V.Denot). IsRefused (map_grant m) D.parts c.in-Err.error) same c.in-Err.ensures.refused; taken = tt; left = tt; out = tt; name = tt; unchanged = tt },
+    )

@@ -16,8 +16,8 @@ exec-requires g c κs =
       ),
     )
 
-pub returns : goal.returns
-returns g c =
+pub returns-clause-called : goal.returns-clause-called
+returns-clause-called g c =
     let kind = g.V.ResourceValue.kind_of in
     let view = c.exec.new.self in
     let D = g.D.SystemData in (

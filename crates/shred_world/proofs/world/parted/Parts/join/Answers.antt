@@ -19,5 +19,5 @@ returns-clause-joined g c =
 pub returns-clause-loan : goal.returns-clause-loan
 returns-clause-loan g c =
     let slots = c.move_all_back.ensures.slots in
-    same_loan g.V.ResourceValue.kind_of c.args.lender.now _ refl refl refl refl refl refl slots
+    same_loan g.V.ResourceValue.kind_of c.args.lender.now _ refl refl refl refl refl refl refl slots
     (joined-others c.args.self.pairs.now c.args.lender.now c.move_all_back.new.table c.requires.out c.move_all_back.ensures.rest slots)

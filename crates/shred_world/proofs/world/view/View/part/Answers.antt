@@ -41,6 +41,6 @@ pub returns-clause-loan : goal.returns-clause-loan
 returns-clause-loan g c =
     let s = c.args.self.now in
     let left = λ (q : ResourceId). ap (λ slots. listed_at slots q) c.note_all.ensures.slots ∙ c.move_all_out.ensures.left q in
-    same_loan g.V.ResourceValue.kind_of s _ refl refl refl refl refl refl
+    same_loan g.V.ResourceValue.kind_of s _ refl refl refl refl refl refl refl
     (λ q. left-slots (written_by c.args.pairs.now q) (slot_at s.own.now q) (slot_at c.note_all.new.table q) (left q))
     (parted-others c.args.pairs.now s c.note_all.new.table left c.requires.writes_within)

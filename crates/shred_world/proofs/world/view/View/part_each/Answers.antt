@@ -4,7 +4,7 @@ use Rattle.std.specs.List.{AllZip}
 use Rattle.shred_table.specs.declared.table.Table.{Table}
 use Rattle.shred_table.specs.Parts.{Pair, written_by, HoldsSameIds, HoldsIdsOf, Fits, IsHandOf, IsJoined}
 use Rattle.shred_table.specs.Slots.{slot_at}
-use Rattle.shred_world.specs.Views.{lent_slot, view_slot}
+use Rattle.shred_world.specs.Views.{lent_to, view_slot}
 use Rattle.shred_world.specs.Worked.{IsWorkedEach}
 use Rattle.shred_world.proofs.Parted.Beside.{held-kept, same-again}
 use Rattle.shred_world.proofs.Parted.Hands.{fit-again}
@@ -55,7 +55,7 @@ returns-clause-worked g c =
     worked-apart kind works (view_slot now) (view_slot was) (view_slot new) new.own.now pairs hands c.args.work.now left c.work_parted.new.work
     c.in-Ok.ensures.parted.shown
     (subst (λ (ps : List Pair). AllZip (IsJoined new.own.now) ps left) (c.work_parted.ensures.pairs ∙ c.in-Ok.ensures.parted.pairs) c.join.ensures.joined.joined)
-    (λ i d below q w. ap (λ (b : Bool). cond b (slot_at new.own.now q) (lent_slot new.shelf.now q)) (c.join.ensures.loan.own q ∙ c.in-Ok.ensures.loan.own q ∙ written-own was q (c.requires.writes_within i d below q w)))
+    (λ i d below q w. ap (λ (b : Bool). cond b (slot_at new.own.now q) (lent_to new q)) (c.join.ensures.loan.own q ∙ c.in-Ok.ensures.loan.own q ∙ written-own was q (c.requires.writes_within i d below q w)))
     (subst (λ (ps : List Pair). IsWorkedEach kind works (view_slot now) ps hands c.args.work.now left c.work_parted.new.work) c.in-Ok.ensures.parted.pairs c.work_parted.ensures.worked)
 
 pub returns-clause-ids : goal.returns-clause-ids

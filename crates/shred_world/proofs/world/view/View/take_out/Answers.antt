@@ -22,7 +22,7 @@ returns-in-Ok-clause-after g c =
     let own : is_own s id ≡ true = sym c.is_own.ensures ∙ c.if-not-is_own.false in
     let notes : (q : _) → noted n q ≡ (same_id id q || noted s q) =
     λ q. c.take_noted.ensures.noted q ∙ c.in-Ok.ensures.ok q in
-    grant_after kind s n two.reads two.writes two.owned two.whole two.shelf c.take_noted.ensures.name
+    grant_after kind s n two.reads two.writes two.owned two.whole two.shelf two.base c.take_noted.ensures.name
     (slots_with (slot_at s.own.now) _ id _ (emptied-some (slot_at s.own.now id)) is)
     id (moved_value kind s id) own (sym (own_held kind s id own)) (ap is_some (own_held kind s id own) ∙ some-found c.get.result _ c.get.ensures (c.is_none.ensures ∙ ap not c.if-is_none.false)) notes is
 
@@ -37,6 +37,6 @@ returns-in-Ok-clause-loan g c =
     λ q. c.take_noted.ensures.own q ∙ (λ i. with_at (λ x. slots x i) id (emptied (slots id i)) q) in
     let own : is_own s id ≡ true = sym c.is_own.ensures ∙ c.if-not-is_own.false in
     let same = emptied-some (slot_at s.own.now id) in
-    same_loan g.V.ResourceValue.kind_of s n two.reads two.writes two.owned two.whole two.shelf c.take_noted.ensures.name
+    same_loan g.V.ResourceValue.kind_of s n two.reads two.writes two.owned two.whole two.shelf two.base c.take_noted.ensures.name
     (slots_with (slot_at s.own.now) _ id _ same is)
     (others_with (slot_at s.own.now) _ id _ same is (is_own s) own)

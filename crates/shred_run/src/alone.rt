@@ -79,6 +79,7 @@ fn step_in<V: ResourceValue + Drop, S: System<V>>(
     requires writes { room.old.writes.items ≡ S.writes system.old }
     requires hand { IsEmptyHand room.old.writes.items room.old.hand }
     ensures lists { KeepsLists S.reads S.writes system.old system.new }
+    ensures slots { IsSameSlots table.old table.new }
     ensures step { IsStepOver V.kind_of S.step (record { reads = S.reads system.old; writes = S.writes system.old }) system.old (held V.kind_of table.old) result system.new (held V.kind_of table.new) }
 {
     move_each(table, room.writes.as_slice(), &mut room.hand);
@@ -102,6 +103,7 @@ pub fn run_alone<V: ResourceValue + Drop, S: System<V>>(
 ) -> Result<(), Fault<S::Error>>
     ensures ran { StepsAlone V.kind_of S.step S.reads S.writes system.old (held V.kind_of table.old) result system.new (held V.kind_of table.new) }
     ensures kinds { KeepsKinds V.kind_of (held V.kind_of table.old) (held V.kind_of table.new) }
+    ensures slots { IsSameSlots table.old table.new }
 {
     let mut room = room_for(alloc, system)?;
     step_in(&mut room, system, table)

@@ -22,7 +22,7 @@ ghost use Rattle.shred_run.specs.TurnsOver.{TookTurnOver};
 ghost use Rattle.shred_run.specs.Works.{InnerRun, IsBatchWithin, IsTierWithin};
 ghost use Rattle.shred_run.specs.Rules.{RuleOwns, RuleStep};
 ghost use Rattle.shred_table.specs.declared.id.ResourceId.{ResourceId};
-ghost use Rattle.shred_table.specs.Shown.{shown, HasOwnSlots};
+ghost use Rattle.shred_table.specs.Shown.{shown, HasOwnSlots, IsSameSlots};
 ghost use Rattle.shred_world.specs.Views.{lent_slot};
 
 use crate::calls::{Ask, Begin, Run, call_over};
@@ -410,7 +410,8 @@ pub fn turn_in_order<
     requires own_lists { All (IsGroupOf (OwnsItself (lists_of S.reads S.writes C.reads C.writes))) groups.old }
     requires room { All KeepsRoom groups.old }
     requires apart { AreApart group_access (groups_plan groups.old) }
-    ensures { TookTurn V.kind_of (OwnStep V.kind_of (relations_of (lists_of S.reads S.writes C.reads C.writes) S.step C.begins C.asks)) (OwnsItself (lists_of S.reads S.writes C.reads C.writes)) groups.old (held V.kind_of table.old) result groups.new (held V.kind_of table.new) }
+    ensures took { TookTurn V.kind_of (OwnStep V.kind_of (relations_of (lists_of S.reads S.writes C.reads C.writes) S.step C.begins C.asks)) (OwnsItself (lists_of S.reads S.writes C.reads C.writes)) groups.old (held V.kind_of table.old) result groups.new (held V.kind_of table.new) }
+    ensures slots { IsSameSlots table.old table.new }
 {
     turn_groups(None, groups, &[], &[], table)
 }

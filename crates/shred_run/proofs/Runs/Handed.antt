@@ -24,6 +24,15 @@ use Rattle.shred_run.proofs.Circle.Tiers.{emptied-is, given-first, left-before}
 use Rattle.shred_world.specs.Worked.{Held}
 use Rattle.shred_run.specs.Steppers.{IsStepBy}
 
+-- a slot out of which a value was moved, and into which one was moved then, is a slot still
+pub home-slots : {V : Type 0} (a b : Bool) (t m n : Option (Slot V)) (v : Option V) → m ≡ cond a (emptied t) t → n ≡ cond b (given v m) m → is_some n ≡ is_some t
+home-slots {V} a b t m n v from to = ap is_some to ∙ given-is b v m ∙ ap is_some from ∙ emptied-is a t where
+  given-is : (b : Bool) (v : Option V) (m : Option (Slot V)) → is_some (cond b (given v m) m) ≡ is_some m
+  given-is true (Some v) (Some s) = refl
+  given-is true (Some v) None = refl
+  given-is true None m = refl
+  given-is false v m = refl
+
 -- One step over a hand, with what it writes moved out of the slots before and back after.
 
 module _ {V : Type 0} (before after : Lent V) (writes : List ResourceId) (room hand : Table V)

@@ -10,7 +10,7 @@ use Rattle.shred_world.specs.declared.world.view.Shelf.{Shelf}
 use Rattle.shred_world.specs.declared.world.view.View.{View}
 use Rattle.shred_table.specs.Shown.{Lent, shown, HasOwnSlots, IsSameSlots}
 use Rattle.shred_table.specs.Slots.{slot_at, slot_held, or_slot, among, of_kind}
-use Rattle.shred_world.specs.Views.{lent_slot, shelf_slot, is_whole, is_own, may_read, view_held, declared_held}
+use Rattle.shred_world.specs.Views.{lent_slot, lent_to, shelf_slot, is_whole, is_own, may_read, view_held, declared_held}
 use Rattle.shred_run.specs.OwnSlots.{HasOnlySlots, LiesBefore}
 use Rattle.shred_run.specs.Steps.{declared_of}
 use Rattle.std.specs.Option.{option_map}
@@ -26,7 +26,7 @@ use Rattle.shred_run.specs.declared.entry.Group.{Group}
 
 module _ {V : Type 0} (kind : V → Kind) (v : View V) (reads writes : List ResourceId) (lent : Lent V) (own : Table V)
     (reads_are : v.reads.now ≡ reads) (writes_are : v.writes.now ≡ writes) (owned_are : v.owned.now ≡ writes) (not_whole : is_whole v ≡ false)
-    (shelf_is : (q : ResourceId) → lent_slot v.shelf.now q ≡ lent q) (slots_are : (q : ResourceId) → slot_at v.own.now q ≡ slot_at own q) (has : HasOwnSlots writes lent own)
+    (shelf_is : (q : ResourceId) → lent_to v q ≡ lent q) (slots_are : (q : ResourceId) → slot_at v.own.now q ≡ slot_at own q) (has : HasOwnSlots writes lent own)
     (own_are : (q : ResourceId) → is_own v q ≡ among writes q) (only : HasOnlySlots writes own) where
   readable : (q : ResourceId) → may_read v q ≡ (among reads q || among writes q)
   readable q = (λ i. among (reads_are i) q || (not_whole i || (among (writes_are i) q && among (owned_are i) q))) ∙ twice (among reads q) (among writes q) where

@@ -4,7 +4,7 @@ use Rattle.shred_table.specs.declared.id.ResourceId.{ResourceId}
 use Rattle.shred_table.specs.Shown.{shown}
 use Rattle.shred_table.specs.Slots.{slot_at, held, among}
 use Rattle.shred_run.specs.Steps.{declared_of}
-use Rattle.shred_run.proofs.Runs.Handed.{shows-held, held-shows}
+use Rattle.shred_run.proofs.Runs.Handed.{home-slots, shows-held, held-shows}
 use Rattle.shred_run.proofs.alone.step_in.Goals as goal
 
 pub returns-clause-step : goal.returns-clause-step
@@ -28,3 +28,6 @@ returns-clause-step g c =
       frame = λ q out. sym (ends q) ∙ ran.ensures.frame q (ap (λ (ids : List ResourceId). among ids q) w ∙ out) ∙ shows q;
       keeps_kinds = λ q. ap (option_map kind) (sym (ends q)) ∙ ran.ensures.kinds q ∙ ap (option_map kind) (shows q);
     }
+
+pub returns-clause-slots : goal.returns-clause-slots
+returns-clause-slots g c = λ q. home-slots _ _ (slot_at c.args.table.now q) (slot_at c.move_each.new.from q) (slot_at c.move_home.new.to q) _ (c.move_each.ensures.from q) (c.move_home.ensures.to q)

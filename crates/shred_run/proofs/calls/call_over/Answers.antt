@@ -5,8 +5,8 @@ use Rattle.shred_run.proofs.Runs.Hands.{declared_shown, still_has_slots, still_o
 use Rattle.shred_table.specs.Shown.{shown}
 use Rattle.shred_table.specs.Listed.{listed_at}
 use Rattle.shred_table.specs.Slots.{among, slot_at}
-use Rattle.shred_world.specs.Views.{lent_slot, is_own, declared_held}
-use Rattle.shred_run.proofs.calls.call_over.Goals as goal
+use Rattle.shred_world.specs.Views.{behind_slot, lent_slot, none_behind, is_own, declared_held}
+use Rattle.shred_run.proofs.calls.run_system.Goals as goal
 
 pub returns : goal.returns
 returns g c =
@@ -23,10 +23,10 @@ returns g c =
     let slots : (q : _) → slot_at v.own.now q ≡ slot_at own q = λ q i. listed_at (made.slots i) q in
     let kept : (q : _) → is_some (slot_at c.own-1.given.0 q) ≡ is_some (slot_at own q) = λ q. (λ i. is_some (slot_at (tie i) q)) ∙ same.slots q ∙ ap is_some (slots q) in
     let some : (length c.args.loan.now.shelf.now == 0) ≡ false = c.requires.behind in
-    let own_are : (q : _) → is_own v q ≡ among writes q = λ q. (λ i. (length (made.shelf i) == 0) || among (made.owned i) q) ∙ ap (λ (b : Bool). b || among writes q) some in
-    let before = declared_shown kind v reads writes lent own made.reads made.writes made.owned made.not_whole (λ q i. lent_slot (made.shelf i) q) slots c.requires.has.own_slots own_are (c.requires.has.only_own some) in
+    let own_are : (q : _) → is_own v q ≡ among writes q = λ q. (λ i. none_behind (made.base i) (made.shelf i) || among (made.owned i) q) ∙ ap (λ (b : Bool). b || among writes q) some in
+    let before = declared_shown kind v reads writes lent own made.reads made.writes made.owned made.not_whole (λ q i. behind_slot (made.base i) (made.shelf i) q) slots c.requires.has.own_slots own_are (c.requires.has.only_own some) in
     let after = declared_shown kind w reads writes lent c.own-1.given.0 (same.reads ∙ made.reads) (same.writes ∙ made.writes) (same.owned ∙ made.owned) (same.whole ∙ made.not_whole)
-    (λ q. same.shelf q ∙ (λ i. lent_slot (made.shelf i) q)) (λ q i. slot_at (sym tie i) q) (still_has_slots writes lent own c.own-1.given.0 kept c.requires.has.own_slots)
+    (λ q. same.shelf q ∙ (λ i. behind_slot (made.base i) (made.shelf i) q)) (λ q i. slot_at (sym tie i) q) (still_has_slots writes lent own c.own-1.given.0 kept c.requires.has.own_slots)
     (λ q. same.own q ∙ own_are q) (still_only_slots writes own c.own-1.given.0 kept (c.requires.has.only_own some)) in
     record {
       lies = subst (λ seen. g.K.Call.does c.args.on.now seen c.call.result c.call.new.on (declared_of (record { reads = reads; writes = writes }) (shown kind lent c.own-1.given.0))) before

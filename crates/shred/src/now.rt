@@ -4,7 +4,7 @@ ghost use Rattle.shred_run.specs.Alone.{KeepsLists, StepsAlone};
 use crate::run_now::RunNow;
 use shred_run::alone::run_alone;
 use shred_run::{Fault, System};
-use shred_world::parting::table_of_local;
+use shred_world::parting::{keep, twin_of_local};
 use shred_world::{LocalWorld, ResourceValue, World};
 use std::thread::Threads;
 
@@ -28,7 +28,10 @@ impl<V: ResourceValue + Drop, S: System<V>> RunNow<V> for Now<S> {
         world: &mut LocalWorld<V>,
     ) -> Result<(), Fault<S::Error>> {
         let alloc = world.allocator();
-        run_alone(alloc, &mut self.0, table_of_local(world))
+        let twin = twin_of_local(world);
+        let outcome = run_alone(alloc, &mut self.0, &mut twin.table);
+        keep(world);
+        outcome
     }
 
     fn setup(&mut self, world: &mut World<V>) -> Result<(), Fault<S::Error>> {

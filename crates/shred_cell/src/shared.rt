@@ -3,6 +3,7 @@ ghost use Rattle.std.specs.Prelude.{◌≡◌, false, is_some};
 ghost use Rattle.std.proofs.Props.{props};
 ghost use Rattle.shred_cell.specs.Cells.{guard_tag, tag_of};
 ghost use Rattle.shred_cell.specs.Shared.{ArePlaced};
+ghost use Rattle.shred_table.specs.AsOne.{IsSettledBeside};
 ghost use Rattle.shred_table.specs.Parting.{slot_value};
 ghost use Rattle.shred_table.specs.Slots.{among, slot_at};
 ghost use Rattle.shred_table.specs.declared.id.ResourceId.{ResourceId};
@@ -48,11 +49,14 @@ pub enum SharedError {
 pub struct SharedWorld<V: ResourceValue + Drop> {
     // Where the values come from; its slots stay, empty.
     table: Table<V>,
+    // The hand beside it, which is empty.
+    hand: Table<V>,
     cells: Table<TrustCell<V, OfKind>>,
     ids: Vec<ResourceId>,
     ghost placed: { ArePlaced cells } by { Prim.hlevel props },
     ghost covered: { (id : ResourceId) → is_some (slot_at cells id) ≡ among ids.items id },
     ghost homes: { (id : ResourceId) → is_some (slot_at table id) ≡ among ids.items id },
+    ghost room: { IsSettledBeside table hand },
     ghost moved: { (id : ResourceId) → is_some (slot_value (slot_at table id)) ≡ false },
 }
 

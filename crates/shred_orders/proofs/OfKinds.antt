@@ -9,11 +9,11 @@ use Rattle.shred_model.proofs.Records.Membership.{is_declared}
 use Rattle.shred_table.specs.declared.id.Kind.{Kind}
 use Rattle.shred_table.specs.declared.id.ResourceId.{ResourceId}
 use Rattle.shred_table.specs.Id.{id_kind}
-use Rattle.shred_table.specs.Slots.{among, slot_at}
+use Rattle.shred_table.specs.Slots.{among}
 use Rattle.shred_table.proofs.Tables.Ids.{tell_ids}
 use Rattle.shred_world.specs.declared.world.World.{World}
 use Rattle.shred_world.specs.Worked.{Held}
-use Rattle.shred_world.specs.Worlds.{world_held}
+use Rattle.shred_world.specs.Worlds.{world_held, world_slot}
 use Rattle.shred_world.proofs.Views.HeldKinds.{slot_held-kind}
 use Rattle.shred_run.specs.declared.system.Fault.{Fault}
 use Rattle.shred_run.specs.Controls.{Control}
@@ -29,7 +29,7 @@ of-id kind id (Some value) is k e = let f : Some k ≡ Some id.kind = sym e ∙ 
 
 -- what a world holds
 pub world-of-kinds : {V : Type 0} (kind : V → Kind) (world : World V) → AreOfKinds kind (world_held kind world)
-world-of-kinds kind world id = of-id kind id (world_held kind world id) (slot_held-kind kind id (slot_at world.local.table id))
+world-of-kinds kind world id = of-id kind id (world_held kind world id) (slot_held-kind kind id (world_slot world id))
 
 -- what is declared of it
 pub declared-of-kinds : {V : Type 0} (kind : V → Kind) (access : Access ResourceId) (values : Held V) → AreOfKinds kind values → AreOfKinds kind (declared_of access values)

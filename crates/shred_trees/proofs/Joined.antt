@@ -14,7 +14,7 @@ use Rattle.shred_table.specs.Shown.{Lent, IsSameSlots}
 use Rattle.shred_table.specs.Slots.{among, slot_at, slot_held}
 use Rattle.shred_world.specs.declared.world.view.View.{View}
 use Rattle.shred_world.specs.Beside.{ShowsDeclared, part_slot}
-use Rattle.shred_world.specs.Views.{view_held, view_slot, lent_slot, is_out, may_write, IsSameLoan}
+use Rattle.shred_world.specs.Views.{view_held, view_slot, lent_to, is_out, may_write, IsSameLoan}
 use Rattle.shred_world.specs.Worked.{part_held}
 use Rattle.shred_world.proofs.Parted.Beside.{same-again}
 use Rattle.shred_world.proofs.Views.HeldKinds.{slot_held-same_kind}
@@ -70,7 +70,7 @@ module _ {V T E : Type 0} (kind : V → Kind) (trees : Trees V T E) (was now new
     part-puts left may joined q w =
         let v = ap (λ (ids : List ResourceId). among ids q) pair.writes ∙ w in
         let own = two.own q ∙ one.own q ∙ written-own was q (may q v) in
-        ap (λ (b : Bool). slot_held kind q (cond b (slot_at new.own.now q) (lent_slot new.shelf.now q))) own
+        ap (λ (b : Bool). slot_held kind q (cond b (slot_at new.own.now q) (lent_to new q))) own
         ∙ ap (slot_held kind q) (joined q v)
         ∙ sym (ap (λ (b : Bool). cond (among (reads_of p) q || b) (slot_held kind q (cond b (slot_at left q) (view_slot now q))) None) v
         ∙ ap (λ (b : Bool). cond b (slot_held kind q (slot_at left q)) None) (either-true (among (reads_of p) q) true refl))

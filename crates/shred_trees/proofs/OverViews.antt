@@ -8,7 +8,7 @@ use Rattle.shred_world.specs.declared.world.view.View.{View}
 use Rattle.shred_table.specs.declared.table.Table.{Table}
 use Rattle.shred_table.specs.Listed.{listed_at}
 use Rattle.shred_table.specs.Slots.{held, slot_at, slot_held, slots_of}
-use Rattle.shred_world.specs.Views.{view_held, view_slot, is_own, lent_slot, IsSameView}
+use Rattle.shred_world.specs.Views.{view_held, view_slot, is_own, lent_to, IsSameView}
 use Rattle.shred_world.specs.Worked.{Held}
 use Rattle.shred_world.proofs.Views.HeldKinds.{slot_held-same_kind}
 use Rattle.shred_run.specs.Steps.{Outcome}
@@ -58,6 +58,6 @@ module _ {V T E : Type 0} (kind : V → Kind) (trees : Trees V T E) (old new : T
   -- a run over a view whose ids are all its own is one over its table
   pub table-run : (table : Table V) → ((q : ResourceId) → is_own before q ≡ true) → slots_of before.own.now ≡ slots_of table → RanOver kind trees old before outcome new after → IsRun kind trees old (held kind table) outcome new (held kind after.own.now)
   table-run table own slots ran =
-      let seen : view_held kind before ≡ held kind table = (λ i q. slot_held kind q (cond (own q i) (listed_at (slots i) q) (lent_slot before.shelf.now q))) in
-      let left : view_held kind after ≡ held kind after.own.now = (λ i q. slot_held kind q (cond ((ran.view.own q ∙ own q) i) (slot_at after.own.now q) (lent_slot after.shelf.now q))) in
+      let seen : view_held kind before ≡ held kind table = (λ i q. slot_held kind q (cond (own q i) (listed_at (slots i) q) (lent_to before q))) in
+      let left : view_held kind after ≡ held kind after.own.now = (λ i q. slot_held kind q (cond ((ran.view.own q ∙ own q) i) (slot_at after.own.now q) (lent_to after q))) in
       subst (λ (s : Held V). IsRun kind trees old s outcome new (held kind after.own.now)) seen (subst (λ (l : Held V). IsRun kind trees old (view_held kind before) outcome new l) left (run-of ran))

@@ -1,15 +1,16 @@
 //! The dispatcher of a tree.
 ghost use Rattle.std.specs.Prelude.{◌≡◌, Ok};
 ghost use Rattle.shred_run.specs.Alone.{KeepsLists};
+ghost use Rattle.shred_table.specs.Shown.{IsSameSlots};
 ghost use Rattle.shred_table.specs.Slots.{held};
 ghost use Rattle.shred_trees.specs.Trees.{IsRun};
-ghost use Rattle.shred_world.specs.Worlds.{world_held};
+ghost use Rattle.shred_world.specs.Worlds.{local_held, world_held};
 
 use crate::lists::Lists;
 use crate::tree::RunWithPool;
 use shred::RunNow;
 use shred_run::Fault;
-use shred_world::parting::{table_of, table_of_local};
+use shred_world::parting::{keep, twin_of_local};
 use shred_world::{LocalWorld, ResourceValue, Table, View, World};
 use std::alloc::Global;
 use std::marker::PhantomData;
@@ -40,7 +41,8 @@ fn run_over<
 ) -> Result<(), Fault<E>>
     requires reads { lists.now.reads.items ≡ T.trees.reads tree.old }
     requires writes { lists.now.writes.items ≡ T.trees.writes tree.old }
-    ensures { IsRun V.kind_of T.trees tree.old (held V.kind_of table.old) result tree.new (held V.kind_of table.new) }
+    ensures ran { IsRun V.kind_of T.trees tree.old (held V.kind_of table.old) result tree.new (held V.kind_of table.new) }
+    ensures slots { IsSameSlots table.old table.new }
 {
     let reads = lists.reads.as_slice();
     let writes = lists.writes.as_slice();
@@ -57,12 +59,54 @@ fn run_over_here<V: ResourceValue + Drop, E: Drop, T: RunWithPool<V, E>>(
 ) -> Result<(), Fault<E>>
     requires reads { lists.now.reads.items ≡ T.trees.reads tree.old }
     requires writes { lists.now.writes.items ≡ T.trees.writes tree.old }
-    ensures { IsRun V.kind_of T.trees tree.old (held V.kind_of table.old) result tree.new (held V.kind_of table.new) }
+    ensures ran { IsRun V.kind_of T.trees tree.old (held V.kind_of table.old) result tree.new (held V.kind_of table.new) }
+    ensures slots { IsSameSlots table.old table.new }
 {
     let reads = lists.reads.as_slice();
     let writes = lists.writes.as_slice();
     let mut view = View::over(reads, writes, &[], table);
     tree.run_here(alloc, &mut view)
+}
+
+// The run of a tree over what it lists of a world.
+fn run_within<
+    R: Threads + Sync,
+    V: ResourceValue + Drop + Send + Sync,
+    E: Drop + Send,
+    T: RunWithPool<V, E> + Send,
+>(
+    rt: &R,
+    tree: &mut T,
+    lists: &Lists,
+    world: &mut LocalWorld<V>,
+    workers: usize,
+) -> Result<(), Fault<E>>
+    requires reads { lists.now.reads.items ≡ T.trees.reads tree.old }
+    requires writes { lists.now.writes.items ≡ T.trees.writes tree.old }
+    ensures { IsRun V.kind_of T.trees tree.old (local_held V.kind_of world.old) result tree.new (local_held V.kind_of world.new) }
+{
+    let alloc = world.allocator();
+    let twin = twin_of_local(world);
+    let outcome = run_over(rt, alloc, tree, lists, &mut twin.table, workers);
+    keep(world);
+    outcome
+}
+
+// The same, all of it on the caller's thread.
+fn run_within_here<V: ResourceValue + Drop, E: Drop, T: RunWithPool<V, E>>(
+    tree: &mut T,
+    lists: &Lists,
+    world: &mut LocalWorld<V>,
+) -> Result<(), Fault<E>>
+    requires reads { lists.now.reads.items ≡ T.trees.reads tree.old }
+    requires writes { lists.now.writes.items ≡ T.trees.writes tree.old }
+    ensures { IsRun V.kind_of T.trees tree.old (local_held V.kind_of world.old) result tree.new (local_held V.kind_of world.new) }
+{
+    let alloc = world.allocator();
+    let twin = twin_of_local(world);
+    let outcome = run_over_here(alloc, tree, lists, &mut twin.table);
+    keep(world);
+    outcome
 }
 
 impl<T, E> ParSeq<T, E> {
@@ -105,16 +149,9 @@ impl<T, E> ParSeq<T, E> {
         ensures ran { ParSeqRan V.kind_of T.trees (tree_of self.old) (world_held V.kind_of world.old) result (tree_of self.new) (world_held V.kind_of world.new) }
         ensures workers { workers_of self.new ≡ workers_of self.old }
     {
-        let alloc = world.local().allocator();
-        match Lists::of_tree::<V, E, T>(alloc, &self.tree) {
-            Ok(lists) => run_over(
-                rt,
-                alloc,
-                &mut self.tree,
-                &lists,
-                table_of(world),
-                self.workers,
-            ),
+        let local = world.local();
+        match Lists::of_tree::<V, E, T>(local.allocator(), &self.tree) {
+            Ok(lists) => run_within(rt, &mut self.tree, &lists, local, self.workers),
             Err(_) => Err(Fault::OutOfMemory),
         }
     }
@@ -136,9 +173,8 @@ impl<V: ResourceValue + Drop, E: Drop, T: RunWithPool<V, E>> RunNow<V> for ParSe
         _rt: &R,
         world: &mut LocalWorld<V>,
     ) -> Result<(), Fault<E>> {
-        let alloc = world.allocator();
-        match Lists::of_tree::<V, E, T>(alloc, &self.tree) {
-            Ok(lists) => run_over_here(alloc, &mut self.tree, &lists, table_of_local(world)),
+        match Lists::of_tree::<V, E, T>(world.allocator(), &self.tree) {
+            Ok(lists) => run_within_here(&mut self.tree, &lists, world),
             Err(_) => Err(Fault::OutOfMemory),
         }
     }

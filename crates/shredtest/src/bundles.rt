@@ -31,6 +31,18 @@ fn count_shown(view: &mut View<Value>) -> Answer {
     }
 }
 
+// What two reads of the count show at once, where both show the same.
+fn count_shown_twice(view: &mut View<Value>) -> Answer {
+    match view.system_data::<(Read<Count>, Read<Count>)>() {
+        Ok(both) => {
+            let shown = (both.0.0 == both.1.0).then_some(both.0.0);
+            view.give_back(both);
+            Ok(shown)
+        }
+        Err(error) => Err(error),
+    }
+}
+
 // What a bundle is refused for; one that is not refused is given back, and shows nothing.
 fn refusal<'s, D: SystemData<'s, Value>>(view: &mut View<'s, '_, Value>) -> Answer {
     match view.system_data::<D>() {
@@ -139,6 +151,7 @@ fn shown_by_choice(view: &mut View<Value>, choice: &Choice) -> Answer {
 #[derive(Clone, Copy)]
 enum Asked<'s> {
     ReadCount,
+    ReadCountTwice,
     WriteCount,
     ReadFlag,
     WriteName,
@@ -153,6 +166,7 @@ enum Asked<'s> {
 fn answer_of<'s>(view: &mut View<'s, '_, Value>, asked: Asked<'s>) -> Answer {
     match asked {
         Asked::ReadCount => count_shown(view),
+        Asked::ReadCountTwice => count_shown_twice(view),
         Asked::WriteCount => refusal_to_write_count(view),
         Asked::ReadFlag => refusal_to_read_flag(view),
         Asked::WriteName => refusal_to_write_name(view),
@@ -172,6 +186,42 @@ fn answered(world: &mut World<Value>, read: Kind, written: Kind, asked: Asked) -
     let mut view = world.lend(&reads, &writes);
     let mut narrowed = view.narrow(&reads, &writes);
     answer_of(&mut narrowed, asked)
+}
+
+// The answer of a view that the world lends to read the one kind and write the other.
+fn answered_by_lent(world: &mut World<Value>, read: Kind, written: Kind, asked: Asked) -> Answer {
+    let reads = [id(read)];
+    let writes = [id(written)];
+    let mut view = world.lend(&reads, &writes);
+    answer_of(&mut view, asked)
+}
+
+#[test]
+fn what_is_only_read_goes_out_twice_at_once(rt: HostRuntime) -> Result<(), Fail> {
+    let mut world = world_of(rt.alloc(), Count(5))?;
+    for (written, answer) in [(Y, Ok(Some(5))), (X, Err(DataError::Taken(id(X))))] {
+        let lent = answered_by_lent(&mut world, X, written, Asked::ReadCountTwice);
+        expect_answer(&rt, lent, answer);
+        let narrowed = answered(&mut world, X, written, Asked::ReadCountTwice);
+        expect_answer(&rt, narrowed, answer);
+        expect_number(&rt, count_in(&world), Some(5));
+    }
+    Ok(())
+}
+
+#[test]
+fn a_bundle_changes_nothing_that_is_only_read(rt: HostRuntime) -> Result<(), Fail> {
+    let fetched = world_of(rt.alloc(), Count(5))?;
+    let mut world = world_of(rt.alloc(), Count(1))?;
+    for (asked, answer) in [
+        (Asked::ReadCountTwice, Ok(Some(1))),
+        (Asked::ByFetch(&fetched), Ok(Some(5))),
+        (Asked::WriteCount, Err(DataError::Undeclared(id(X)))),
+    ] {
+        expect_answer(&rt, answered_by_lent(&mut world, X, Y, asked), answer);
+        expect_number(&rt, count_in(&world), Some(1));
+    }
+    Ok(())
 }
 
 #[test]

@@ -26,7 +26,7 @@ pub fn set_lent_count(world: &mut World<Value>, count: Count) -> Result<(), Data
 }
 
 /// Takes a bundle on the world and gives it back, which leaves what the world held.
-pub fn take_and_give_back<'s, V: ResourceValue + 's, D: SystemData<'s, V>>(
+pub fn take_and_give_back<'s, V: ResourceValue + Drop + 's, D: SystemData<'s, V>>(
     world: &mut World<V>,
 ) -> Result<(), DataError>
     ensures { (q : ResourceId) → world_held V.kind_of world.new q ≡ world_held V.kind_of world.old q }

@@ -9,9 +9,9 @@ use Rattle.shred_table.specs.declared.id.Kind.{Kind}
 use Rattle.shred_table.specs.declared.id.ResourceId.{ResourceId}
 use Rattle.shred_table.specs.Id.{id_of, same_id}
 use Rattle.shred_table.specs.declared.table.Slot.{Slot}
-use Rattle.shred_table.specs.Slots.{of_kind, slot_at, slot_held, with_at}
+use Rattle.shred_table.specs.Slots.{of_kind, slot_held, with_at}
 use Rattle.shred_world.specs.declared.world.World.{World}
-use Rattle.shred_world.specs.Worlds.{table_of_world, world_held}
+use Rattle.shred_world.specs.Worlds.{world_held, world_slot}
 use Rattle.shred_table.proofs.Tables.Slots.{same_id-true}
 use Rattle.shred_meta.specs.declared.meta.MetaIterMut.{MetaIterMut}
 use Rattle.shred_meta.specs.MetaWalks.{Stays, WalksOn, left_to_write, walk_held, walk_kinds, walk_world}
@@ -106,7 +106,7 @@ fewer {V} held (kind ∷ kinds) k first = told (fewer held kinds k) (held (id_of
 
 -- a value that is held is of its id's kind
 held_kind : (world : World Number) (id : ResourceId) (v : Number) → world_held kind_of world id ≡ Some v → of_kind kind_of id (Some v) ≡ Some v
-held_kind world id v is = slot (slot_at (table_of_world world) id) is where
+held_kind world id v is = slot (world_slot world id) is where
   of : (o : Option Number) → of_kind kind_of id o ≡ Some v → of_kind kind_of id (Some v) ≡ Some v
   of (Some w) e = told (nat_eq (kind_of w).0 id.kind.0) refl e where
     told : (b : Bool) → nat_eq (kind_of w).0 id.kind.0 ≡ b → cond b (Some w) None ≡ Some v → of_kind kind_of id (Some v) ≡ Some v

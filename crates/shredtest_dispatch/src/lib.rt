@@ -23,6 +23,8 @@ mod examples;
 #[cfg(test)]
 mod gate;
 #[cfg(test)]
+mod lent_view;
+#[cfg(test)]
 mod locals;
 #[cfg(test)]
 mod named_stages;

@@ -4,7 +4,9 @@ ghost use Rattle.shred_cell.specs.Shared.{ArePlaced, has_cell};
 ghost use Rattle.shred_cell.specs.SharedWorlds.{shares};
 ghost use Rattle.shred_table.specs.Slots.{among, held, slot_at};
 ghost use Rattle.shred_table.specs.declared.id.ResourceId.{ResourceId};
-ghost use Rattle.shred_world.specs.Worlds.{world_held, world_over};
+ghost use Rattle.shred_table.specs.AsOne.{IsSettledBeside};
+ghost use Rattle.shred_table.specs.Twins.{twin_slot};
+ghost use Rattle.shred_world.specs.Worlds.{world_held, world_slot, IsSameMap};
 
 use super::moves::{enclose, release};
 use super::{OfKind, SharedWorld};
@@ -13,37 +15,49 @@ use shred_table::id::ResourceId;
 use shred_table::parting::empty_hand;
 use shred_table::resource::ResourceValue;
 use shred_table::table::Table;
-use shred_world::values::{from_table, into_table};
+use shred_table::twin::Twin;
+use shred_world::values::{from_twin, into_twin};
 use shred_world::world::World;
 
 // The shared world of the values that are held in the table, and of those that are in the cells.
 fn share<V: ResourceValue + Drop>(
     mut table: Table<V>,
+    hand: Table<V>,
     ids: Vec<ResourceId>,
     mut cells: Table<TrustCell<V, OfKind>>,
 ) -> SharedWorld<V>
     requires homes { (q : ResourceId) → is_some (slot_at table q) ≡ among ids.items q }
     requires covered { (q : ResourceId) → is_some (slot_at cells q) ≡ among ids.items q }
     requires placed { ArePlaced cells }
+    requires room { IsSettledBeside table hand }
     ensures { (q : ResourceId) → shares result q ≡ (is_some (held V.kind_of table q) || has_cell cells q) }
 {
     enclose(&mut table, ids.as_slice(), &mut cells);
-    SharedWorld { table, cells, ids }
+    SharedWorld {
+        table,
+        hand,
+        cells,
+        ids,
+    }
 }
 
-// The shared world of the values that are held in the table, whose slots are of these ids; or the world over the table as it
-// was, where memory is refused.
+// The shared world of the values that are held in the table, whose slots are of these ids; or the world over the table and the
+// hand as they were, where memory is refused.
 fn share_each<V: ResourceValue + Drop>(
-    table: Table<V>,
+    twin: Twin<V>,
     ids: Vec<ResourceId>,
 ) -> Result<SharedWorld<V>, World<V>>
-    requires { (q : ResourceId) → among ids.items q ≡ is_some (slot_at table q) }
-    ensures ok { IfOk result (λ shared. (q : ResourceId) → shares shared q ≡ is_some (held V.kind_of table q)) }
-    ensures err { IfErr result (λ back. back ≡ world_over table) }
+    requires ids { (q : ResourceId) → among ids.items q ≡ is_some (slot_at twin.table q) }
+    requires settled { IsSettledBeside twin.table twin.hand }
+    ensures ok { IfOk result (λ shared. (q : ResourceId) → shares shared q ≡ is_some (held V.kind_of twin.table q)) }
+    ensures err { IfErr result (λ back. (q : ResourceId) → world_slot back q ≡ twin_slot twin q) }
 {
-    match empty_hand(table.allocator(), ids.as_slice()) {
-        Ok(cells) => Ok(share(table, ids, cells)),
-        Err(_) => Err(from_table(table)),
+    match empty_hand(twin.table.allocator(), ids.as_slice()) {
+        Ok(cells) => {
+            let Twin { table, hand } = twin;
+            Ok(share(table, hand, ids, cells))
+        }
+        Err(_) => Err(from_twin(twin)),
     }
 }
 
@@ -51,12 +65,12 @@ impl<V: ResourceValue + Drop> SharedWorld<V> {
     /// The world, with each of its values in a cell of its own; or the world as it was, where memory is refused.
     pub fn new(world: World<V>) -> Result<SharedWorld<V>, World<V>>
         ensures ok { IfOk result (λ shared. (id : ResourceId) → shares shared id ≡ is_some (world_held V.kind_of world id)) }
-        ensures err { IfErr result (λ back. back ≡ world) }
+        ensures err { IfErr result (IsSameMap world) }
     {
-        let table = into_table(world);
-        match table.ids() {
-            Ok(ids) => share_each(table, ids),
-            Err(_) => Err(from_table(table)),
+        let twin = into_twin(world);
+        match twin.table.ids() {
+            Ok(ids) => share_each(twin, ids),
+            Err(_) => Err(from_twin(twin)),
         }
     }
 
@@ -68,13 +82,14 @@ impl<V: ResourceValue + Drop> SharedWorld<V> {
     {
         let SharedWorld {
             mut table,
+            hand,
             mut cells,
             ids,
         } = self;
         if release(&mut table, ids.as_slice(), &mut cells) {
-            Ok(from_table(table))
+            Ok(from_twin(Twin { table, hand }))
         } else {
-            Err(share(table, ids, cells))
+            Err(share(table, hand, ids, cells))
         }
     }
 }

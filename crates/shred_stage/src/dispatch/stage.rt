@@ -26,7 +26,7 @@ use shred_run::setup::set_up_groups;
 use shred_run::{
     BatchController, Nested, NoBatch, StageFault, System, SystemId, Tier, Work, beside, in_order,
 };
-use shred_world::parting::table_of_local;
+use shred_world::parting::{keep, twin_of_local};
 use shred_world::{LocalWorld, OutOfMemory, ResourceId, ResourceValue, World};
 use smallvec::SmallVec;
 use std::alloc::Global;
@@ -275,7 +275,11 @@ impl<
     pub(crate) fn turn_in_order(&mut self, world: &mut LocalWorld<V>) -> Result<(), StageFault<E>>
         ensures { StageTook V.kind_of (relations_of (lists_of S.reads S.writes C.reads C.writes) S.step C.begins C.asks) self.old (local_held V.kind_of world.old) result self.new (local_held V.kind_of world.new) }
     {
-        in_order::turn_in_order(self.groups.as_mut_slice(), table_of_local(world))
+        let groups = self.groups.as_mut_slice();
+        let twin = twin_of_local(world);
+        let answer = in_order::turn_in_order(groups, &mut twin.table);
+        keep(world);
+        answer
     }
 
     /// Runs every group, one after the other, each up to the first entry that is not Done, on the caller's thread, and so the
@@ -310,12 +314,11 @@ where
     ) -> Result<(), StageFault<E>>
         ensures { StageTook V.kind_of (relations_of (lists_of S.reads S.writes C.reads C.writes) S.step C.begins C.asks) self.old (local_held V.kind_of world.old) result self.new (local_held V.kind_of world.new) }
     {
-        beside::turn_beside(
-            rt,
-            self.groups.as_mut_slice(),
-            table_of_local(world),
-            workers,
-        )
+        let groups = self.groups.as_mut_slice();
+        let twin = twin_of_local(world);
+        let answer = beside::turn_beside(rt, groups, &mut twin.table, workers);
+        keep(world);
+        answer
     }
 
     /// Runs every group, each up to the first entry that is not Done, beside each other in halves, and these again, on at

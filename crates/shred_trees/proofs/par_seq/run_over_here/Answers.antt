@@ -1,18 +1,23 @@
-use Rattle.std.proofs.Common.{◌≡◌, true, ◌||◌, List, length, sym, ◌∙◌, ap, subst}
+use Rattle.std.proofs.Common.{◌≡◌, true, ◌||◌, sym, ◌∙◌, subst}
 use Rattle.shred_table.specs.declared.table.Table.{Table}
 use Rattle.shred_trees.specs.Trees.{IsRun}
-use Rattle.std.specs.Prelude.{◌==◌}
+use Rattle.std.specs.Prelude.{is_some}
 use Rattle.shred_table.specs.declared.id.ResourceId.{ResourceId}
-use Rattle.shred_table.specs.Slots.{among, held}
-use Rattle.shred_world.specs.declared.world.view.Shelf.{Shelf}
-use Rattle.shred_world.specs.Views.{is_own}
+use Rattle.shred_table.specs.Slots.{among, held, slot_at}
+use Rattle.shred_table.specs.Listed.{listed_at}
+use Rattle.shred_world.specs.Views.{is_own, none_behind}
 use Rattle.shred_trees.proofs.OverViews.{table-run}
 use Rattle.shred_trees.proofs.par_seq.run_over_here.Goals as goal
 
-pub returns : goal.returns
-returns g c =
+pub returns-clause-ran : goal.returns-clause-ran
+returns-clause-ran g c =
     let view = c.over-view.result in
-    let own : (q : ResourceId) → is_own view q ≡ true = λ q. ap (λ (s : List (Shelf g.row.V.Denot)). (length s == 0) || among view.owned.now q) c.over-view.ensures.shelf in
+    let own : (q : ResourceId) → is_own view q ≡ true = λ q. (λ i. none_behind (c.over-view.ensures.base i) (c.over-view.ensures.shelf i) || among view.owned.now q) in
     let tie : c.table-1.given.0 ≡ c.run_here.new.view.own.now = c.table-1.given.1 (sym (c.run_here.ensures.view.table ∙ c.over-view.ensures.name)) in
     subst (λ (t : Table g.row.V.Denot). IsRun {E = g.row.E.Denot} g.V.ResourceValue.kind_of g.T.RunWithPool.trees c.args.tree.now (held g.V.ResourceValue.kind_of c.args.table.now) c.run_here.result c.run_here.new.self (held g.V.ResourceValue.kind_of t)) (sym tie)
     (table-run {E = g.row.E.Denot} g.V.ResourceValue.kind_of g.T.RunWithPool.trees c.args.tree.now c.run_here.new.self c.run_here.result view c.run_here.new.view c.args.table.now own c.over-view.ensures.slots c.run_here.ensures)
+
+pub returns-clause-slots : goal.returns-clause-slots
+returns-clause-slots g c = λ q.
+    let tie : c.table-1.given.0 ≡ c.run_here.new.view.own.now = c.table-1.given.1 (sym (c.run_here.ensures.view.table ∙ c.over-view.ensures.name)) in
+    (λ i. is_some (slot_at (tie i) q)) ∙ c.run_here.ensures.view.slots q ∙ (λ i. is_some (listed_at (c.over-view.ensures.slots i) q))

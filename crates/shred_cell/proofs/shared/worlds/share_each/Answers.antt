@@ -7,4 +7,4 @@ use Rattle.shred_cell.proofs.shared.worlds.share_each.Goals as goal
 
 pub returns-in-Ok-clause-ok : goal.returns-in-Ok-clause-ok
 returns-in-Ok-clause-ok g c = λ q.
-    c.share.ensures q ∙ or-false (is_some (held g.V.ResourceValue.kind_of c.args.table q)) (has_cell c.in-Ok.cells q) (none-made (among c.as_slice.result.now q) (slot_at c.in-Ok.cells q) (c.in-Ok.ensures q))
+    c.share.ensures q ∙ or-false (is_some (held g.V.ResourceValue.kind_of c.args.twin.table q)) (has_cell c.in-Ok.cells q) (none-made (among c.as_slice.result.now q) (slot_at c.in-Ok.cells q) (c.in-Ok.ensures q))

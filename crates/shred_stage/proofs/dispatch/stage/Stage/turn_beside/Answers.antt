@@ -1,30 +1,36 @@
 use Rattle.std.proofs.Common.{◌≡◌, length, sym, subst, rules}
 use Rattle.std.proofs.lemmas.List.{with_items_is}
 use Rattle.shred_table.specs.Slots.{held}
+use Rattle.shred_world.proofs.Views.Settled.{over-kept, same-settled}
 use Rattle.shred_run.specs.OwnDepth.{OwnStep, OwnsItself}
 use Rattle.shred_run.specs.Turns.{TookTurn}
 use Rattle.shred_stage.proofs.Planner.StageKeeps.{stays}
 use Rattle.shred_stage.proofs.dispatch.stage.Stage.turn_beside.Goals as goal
 use Rattle.shred_run.specs.Depths.{relations_of, lists_of}
 
-pub turn_beside-requires-clause-apart : goal.turn_beside-requires-clause-apart
-turn_beside-requires-clause-apart g c κs within = rw c.as_mut_slice.ensures.value c.args.self.now.apart
+pub turn_beside-answer-requires-clause-apart : goal.turn_beside-answer-requires-clause-apart
+turn_beside-answer-requires-clause-apart g c κs within = rw c.as_mut_slice-groups.ensures.value c.args.self.now.apart
 
 pub invariant_of-self : goal.invariant_of-self
 invariant_of-self g c =
     let old = c.args.self.now in
-    let same : length c.turn_beside.new.groups ≡ old.groups.len = search rules in
-    let took = rw c.as_mut_slice.ensures.value at c.turn_beside.ensures in
-    rw (with_items_is old.groups c.turn_beside.new.groups same)
-    (stays (OwnsItself (lists_of g.S.System.reads g.S.System.writes g.C.BatchController.reads g.C.BatchController.writes)) c.turn_beside.new.groups old.groups.items took.plan took.ids took.room took.own_lists
+    let same : length c.turn_beside-answer.new.groups ≡ old.groups.len = search rules in
+    let took = rw c.as_mut_slice-groups.ensures.value at c.turn_beside-answer.ensures.took in
+    rw (with_items_is old.groups c.turn_beside-answer.new.groups same)
+    (stays (OwnsItself (lists_of g.S.System.reads g.S.System.writes g.C.BatchController.reads g.C.BatchController.writes)) c.turn_beside-answer.new.groups old.groups.items took.plan took.ids took.room took.own_lists
     (record { some_group = old.some_group; small_groups = old.small_groups; apart = old.apart; keep_ids = old.keep_ids; keep_room = old.keep_room; own_lists = old.own_lists }))
+
+pub keep-requires : goal.keep-requires
+keep-requires g c = same-settled c.twin_of_local-twin.result.now.table c.turn_beside-answer.new.table c.twin_of_local-twin.result.now.hand c.twin_of_local-twin.ensures.settled c.turn_beside-answer.ensures.slots
 
 pub returns : goal.returns
 returns g c =
     let kind = g.V.ResourceValue.kind_of in
     let old = c.args.self.now in
-    let same : length c.turn_beside.new.groups ≡ old.groups.len = search rules in
-    let took = rw c.as_mut_slice.ensures.value at c.turn_beside.ensures in
-    let whole = subst (λ groups. TookTurn kind (OwnStep kind (relations_of (lists_of g.S.System.reads g.S.System.writes g.C.BatchController.reads g.C.BatchController.writes) g.S.System.step g.C.BatchController.begins g.C.BatchController.asks)) (OwnsItself (lists_of g.S.System.reads g.S.System.writes g.C.BatchController.reads g.C.BatchController.writes)) old.groups.items (held kind c.table_of_local.result.now) c.turn_beside.result groups (held kind c.turn_beside.new.table))
-    (sym (with_items_is old.groups c.turn_beside.new.groups same)) took in
-    record { ran = rw c.table_of_local.ensures.shown at whole.ran; plan = whole.plan; kinds = rw c.table_of_local.ensures.shown at whole.kinds }
+    let first = c.twin_of_local-twin.result.now in
+    let same : length c.turn_beside-answer.new.groups ≡ old.groups.len = search rules in
+    let Took = TookTurn kind (OwnStep kind (relations_of (lists_of g.S.System.reads g.S.System.writes g.C.BatchController.reads g.C.BatchController.writes) g.S.System.step g.C.BatchController.begins g.C.BatchController.asks)) (OwnsItself (lists_of g.S.System.reads g.S.System.writes g.C.BatchController.reads g.C.BatchController.writes)) in
+    let took = rw c.as_mut_slice-groups.ensures.value at c.turn_beside-answer.ensures.took in
+    let whole = subst (λ groups. Took old.groups.items (held kind first.table) c.turn_beside-answer.result groups (held kind c.turn_beside-answer.new.table)) (sym (with_items_is old.groups c.turn_beside-answer.new.groups same)) took in
+    let ran = over-kept kind (λ before after. Took old.groups.items before c.turn_beside-answer.result _ after) first c.turn_beside-answer.new.table c.args.world.now c.keep.new.local c.twin_of_local-twin.ensures.table c.twin_of_local-twin.ensures.settled c.turn_beside-answer.ensures.slots c.keep.ensures whole in
+    record { ran = ran.ran; plan = ran.plan; kinds = ran.kinds }

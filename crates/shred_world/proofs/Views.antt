@@ -1,6 +1,7 @@
 -- What views show, refuse and keep.
 pub mod Shown
 pub mod Lent
+pub mod Ended
 pub mod Settled
 pub mod Filled
 pub mod Refusals

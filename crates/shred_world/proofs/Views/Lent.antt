@@ -53,6 +53,15 @@ module _ {V : Type 0} where
   lent-slot true t h empty covers some = given-slot t h empty covers some
   lent-slot false t h empty covers some = refl
 
+  -- the hand has the written values, and empty slots else
+  pub lent-hand : (b : Bool) (t h : Option (Slot V)) → h ≡ emptied h → (IsTrue (is_some t) → IsTrue (is_some h)) → IsTrue (is_some t) → cond b (given (slot_value t) h) h ≡ cond b t (emptied t)
+  lent-hand true t h empty covers some = given-slot t h empty covers some
+  lent-hand false t h empty covers some = at t h empty some (covers some) where
+    at : (t h : Option (Slot V)) → h ≡ emptied h → IsTrue (is_some t) → IsTrue (is_some h) → h ≡ emptied t
+    at (Some s) (Some x) empty some there = empty
+    at (Some s) None empty some there = absurd (cc)
+    at None h empty some there = absurd (cc)
+
 pub and_same : (b : Bool) → (b && b) ≡ b
 and_same true = refl
 and_same false = refl

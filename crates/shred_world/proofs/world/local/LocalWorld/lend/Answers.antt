@@ -5,9 +5,10 @@ use Rattle.shred_table.specs.declared.table.Table.{Table}
 use Rattle.shred_table.specs.Listed.{listed_at}
 use Rattle.shred_table.specs.Parting.{given, slot_value}
 use Rattle.shred_table.specs.Slots.{among, slot_at, slot_held}
+use Rattle.shred_world.specs.Lending.{left_behind, moved_in}
 use Rattle.shred_world.specs.Lent.{lent_base, loose}
 use Rattle.shred_world.specs.Views.{behind_slot, is_own, lent_to, may_read, may_write, none_behind, view_slot}
-use Rattle.shred_world.proofs.Views.Lent.{and_same, collapse, lent-held, lent-slot}
+use Rattle.shred_world.proofs.Views.Lent.{and_same, collapse, lent-hand, lent-held, lent-slot}
 use Rattle.shred_world.proofs.world.local.LocalWorld.lend.Goals as goal
 
 pub returns : goal.returns
@@ -33,7 +34,14 @@ returns g c =
         nothing_out = made.nothing_out;
         shown = λ q. ap (slot_held kind q) (slot q) ∙ lent-held kind q (written q) (table q) (hand q) (all.settled.0 q) (all.settled.1 q) ∙ ap (slot_held kind q) (all.table q);
         lent = record { may_read = reads; may_write = writes; nothing_out = made.nothing_out; own = λ q may there. own q };
-        over = record { slots = λ q some. slot q ∙ lent-slot (written q) (table q) (hand q) (all.settled.0 q) (all.settled.1 q) (ap is_some (all.table q) ∙ some) ∙ all.table q; owned = made.owned; shelf = made.shelf };
+        over = record {
+          slots = λ q some. slot q ∙ lent-slot (written q) (table q) (hand q) (all.settled.0 q) (all.settled.1 q) (ap is_some (all.table q) ∙ some) ∙ all.table q;
+          owned = made.owned;
+          shelf = made.shelf;
+          behind = λ i. none_behind (made.base i) (made.shelf i);
+          hand = λ q some. first q ∙ lent-hand (written q) (table q) (hand q) (all.settled.0 q) (all.settled.1 q) (ap is_some (all.table q) ∙ some) ∙ ap (moved_in c.args.writes.now q) (all.table q);
+          table = λ q. (λ i. slot_at (lent_base c.args.self.now.twin.table (made.base i)) q) ∙ c.move_each.ensures.from q ∙ ap (left_behind c.args.writes.now q) (all.table q);
+        };
         back = tt;
       },
     )

@@ -143,8 +143,8 @@ impl<V: ResourceValue> World<V> {
     }
 
     /// How many held ids come before this one, where it is held. The search takes no more comparisons of ids than the number of
-    /// held ids has binary digits. Between the loan of a view and the next dispatch each id is looked for in the hand besides,
-    /// to tell whether it is held, which is not counted.
+    /// held ids has binary digits. From where a view or a value was lent to be written to the next `lend`, bundle or dispatch,
+    /// each id is also looked for in the hand, to tell whether it is held, which is not counted.
     pub fn slot_of(&self, id: ResourceId, steps: &mut Steps) -> Option<usize>
         ensures held { is_some result ≡ is_some (world_held V.kind_of self.now id) }
         ensures slot { IfSome result (IsCountOf (λ q. is_some (world_held V.kind_of self.now q) && comes_first q id)) }

@@ -6,7 +6,7 @@ use Rattle.shred_table.specs.Shown.{shown}
 use Rattle.shred_table.specs.Listed.{listed_at}
 use Rattle.shred_table.specs.Slots.{among, slot_at}
 use Rattle.shred_world.specs.Views.{behind_slot, lent_slot, none_behind, is_own, declared_held}
-use Rattle.shred_run.proofs.calls.run_system.Goals as goal
+use Rattle.shred_run.proofs.calls.call_over.Goals as goal
 
 pub returns : goal.returns
 returns g c =

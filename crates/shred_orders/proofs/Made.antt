@@ -67,18 +67,6 @@ now-deterministic kind step reads writes Admitted never one now held o p new oth
 now-deterministic kind step reads writes Admitted never one now held o p new other left gone sound admit_o admit_p (inr none) kept too keeps = absurd (never (subst Admitted none.told admit_o))
 now-deterministic kind step reads writes Admitted never one now held o p new other left gone sound admit_o admit_p (inl ran) kept (inr none) keeps = absurd (never (subst Admitted none.told admit_p))
 
--- a relation that gives the outcome, the state and the values as functions of what a step begins with allows one end, whatever is admitted
-pub function-deterministic : {V S E : Type 0} (kind : V → Kind) (step : Step V S E) (reads writes : S → List ResourceId) (Admitted : Outcome E → Type 0) (outcome_of : S → Held V → Outcome E) (after_of : S → Held V → S) (left_of : S → Held V → Held V)
-    → ((before : S) (seen : Held V) (outcome : Outcome E) (after : S) (left : Held V) → AreOfKinds kind seen → step before seen outcome after left → (outcome ≡ outcome_of before seen) × (after ≡ after_of before seen) × (left ≡ left_of before seen)) → IsDeterministic kind step reads writes Admitted
-function-deterministic kind step reads writes Admitted outcome_of after_of left_of gives r q of_r of_q before seen sound admit_r admit_q =
-    let one = gives r.before r.seen r.outcome r.after r.left sound of_r.lies in
-    let other = gives q.before q.seen q.outcome q.after q.left (subst (AreOfKinds kind) (sym seen) sound) of_q.lies in
-    record {
-      outcome = other.0 ∙ (λ i. outcome_of (before i) (seen i)) ∙ sym one.0;
-      after = other.1 ∙ (λ i. after_of (before i) (seen i)) ∙ sym one.1;
-      left = other.2 ∙ (λ i. left_of (before i) (seen i)) ∙ sym one.2;
-    }
-
 -- the record, with these states in place of its own
 abbrev with_states : {V X S E : Type 0} → S → S → Written V X E → Written V S E
 with_states before after r = record { agent = r.agent; access = r.access; before = before; seen = r.seen; outcome = r.outcome; after = after; left = r.left }
@@ -114,10 +102,6 @@ module _ {V A B E : Type 0} (kind : V → Kind) (first : Step V A E) (second : S
   either r q b (Second c) t (First u) of_r of_q before seen sound admit_r admit_q = absurd of_q.lies
   either r q (First b) (Second c) (First t) (Second u) of_r of_q before seen sound admit_r admit_q = absurd (cc)
   either r q (Second b) (First c) (Second t) (First u) of_r of_q before seen sound admit_r admit_q = absurd (cc)
-
-  -- one of two systems is deterministic where both are
-  pub one-of-deterministic : IsDeterministic kind (StepsEither first second) (of_either reads its_reads) (of_either writes its_writes) Admitted
-  one-of-deterministic r q of_r of_q before seen sound admit_r admit_q = either r q r.before q.before r.after q.after of_r of_q before seen sound admit_r admit_q
 
 -- where a relation allows one end, so it does where the lists stay too
 pub keeping-deterministic : {V X A E : Type 0} (kind : V → Kind) (relation : Control V X A E) (reads writes : X → List ResourceId) (Admitted : Result A (Fault E) → Type 0) → IsDeterministic kind relation reads writes Admitted → IsDeterministic kind (keeping reads writes relation) reads writes Admitted

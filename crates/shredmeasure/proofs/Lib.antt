@@ -4,5 +4,4 @@ pub mod Wraps
 pub mod Done
 pub mod Dispatched
 pub mod Worlds
-pub mod Drawn
 pub mod Asked

@@ -47,8 +47,5 @@ module _ {X I V S O F : Type 0} (Run : ℕ → X → List (Record Agent I V S O)
   each_framed [] = tt
   each_framed (x ∷ xs) = ((λ n list a run. framed n x list a run), each_framed xs)
 
-  pub RunsUpToFault-framed : (n : ℕ) (xs : List X) (list : List (Record Agent I V S O)) (a : Answer F) → RunsUpToFault Run n xs list a → AllFramed list
-  RunsUpToFault-framed n xs list a run = RunsUpToFault-all Run IsFramed n xs list a (each_framed xs) run
-
   pub RunsEach-framed : (n : ℕ) (xs : List X) (list : List (Record Agent I V S O)) (a : Answer F) → RunsEach Run n xs list a → AllFramed list
   RunsEach-framed n xs list a run = RunsEach-all Run IsFramed n xs list a (each_framed xs) run

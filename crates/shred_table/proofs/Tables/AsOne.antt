@@ -20,18 +20,6 @@ module _ {V : Type 0} where
     at (Some v) = refl
     at None = refl
 
-  -- the table once the values of the hand were brought, and once the strays were dropped
-  pub one-brought : (t h first last : Option (Slot V)) → first ≡ brought h t → (IsTrue (is_some (emptied h)) → last ≡ first) → (emptied h ≡ None → last ≡ None) → last ≡ as_one t h
-  one-brought (Some s) (Some x) first last is kept none = kept refl ∙ is
-  one-brought None (Some x) first last is kept none = kept refl ∙ is
-  one-brought (Some s) None first last is kept none = none refl
-  one-brought None None first last is kept none = none refl
-
-  -- then the hand has a slot where the table has one
-  pub brought-covers : (h last : Option (Slot V)) → (emptied h ≡ None → last ≡ None) → IsTrue (is_some last) → IsTrue (is_some (emptied h))
-  brought-covers (Some x) last none some = refl
-  brought-covers None last none some = absurd (let no = sym some ∙ ap is_some (none refl) in cc)
-
   -- what the two have as one once both were written at an id
   pub one-at : (t n h m : ResourceId → Option (Slot V)) (id : ResourceId) (a b : Option (Slot V)) → ((q : ResourceId) → n q ≡ with_at t id a q) → ((q : ResourceId) → m q ≡ with_at h id b q)
       → (q : ResourceId) → as_one (n q) (m q) ≡ with_at (λ x. as_one (t x) (h x)) id (as_one a b) q

@@ -48,21 +48,3 @@ of_kind-all {V} kind id (Some v) there = told (nat_eq (kind v).0 id.kind.0) ther
   told true some = refl
   told false some = absurd (cc)
 of_kind-all kind id None there = refl
-
-module _ {V : Type 0} (kind : V → Kind) (t n : Table V) (id : ResourceId) where
-  -- the value v of the id's kind was written
-  pub held-written : (v : V) → kind v ≡ id.kind → ((q : ResourceId) → slot_at n q ≡ with_at (slot_at t) id (Some (record { value = Some v })) q) → (q : ResourceId) → held kind n q ≡ with_at (held kind t) id (Some v) q
-  held-written v of is q = ap (slot_held kind q) (is q) ∙ told (same_id id q) refl where
-    right : same_id id q ≡ true → nat_eq (kind v).0 q.kind.0 ≡ true
-    right e = let k : (kind v).0 ≡ q.kind.0 = (λ i. (of i).0) ∙ (λ i. (same_id-true id q e i).kind.0) in grind (arith, nat_tests)
-
-    told : (b : Bool) → same_id id q ≡ b → slot_held kind q (cond b (Some (record { value = Some v })) (slot_at t q)) ≡ cond b (Some v) (held kind t q)
-    told true e = rw (right e) refl
-    told false e = refl
-
-  -- a value was written that may be of any kind
-  pub held-lent : (v : V) → ((q : ResourceId) → slot_at n q ≡ with_at (slot_at t) id (Some (record { value = Some v })) q) → (q : ResourceId) → held kind n q ≡ with_at (held kind t) id (of_kind kind id (Some v)) q
-  held-lent v is q = ap (slot_held kind q) (is q) ∙ told (same_id id q) refl where
-    told : (b : Bool) → same_id id q ≡ b → slot_held kind q (cond b (Some (record { value = Some v })) (slot_at t q)) ≡ cond b (of_kind kind id (Some v)) (held kind t q)
-    told true e = ap (λ (i : ResourceId). of_kind kind i (Some v)) (sym (same_id-true id q e))
-    told false e = refl

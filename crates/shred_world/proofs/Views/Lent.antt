@@ -32,11 +32,6 @@ module _ {V : Type 0} (t h : Option (Slot V)) (empty : h ≡ emptied h) (covers 
     at (Some s) e = ap (slot_held kind id) (given-slot (ap is_some e))
     at None e = ap (λ (o : Option (Slot V)). slot_held kind id (given (slot_value o) h)) e ∙ none h empty ∙ sym (ap (slot_held kind id) e)
 
--- what a view shows of the two, by whether the id is written
-pub shown-lent : {V : Type 0} (b : Bool) (own t first h behind : Option (Slot V)) → first ≡ cond b (given (slot_value t) h) h → behind ≡ cond b (emptied t) t → own ≡ first → cond b own behind ≡ cond b (given (slot_value t) h) t
-shown-lent true own t first h behind is left same = same ∙ is
-shown-lent false own t first h behind is left same = left
-
 -- what is tested twice
 pub collapse : {X : Type 0} (b : Bool) (x y z w : X) → cond b (cond b x y) (cond b z w) ≡ cond b x w
 collapse true x y z w = refl

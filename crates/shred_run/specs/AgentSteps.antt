@@ -1,5 +1,5 @@
 -- Records as steps of what stands at their agents, and what a run of a plan tells of their faults.
-use Rattle.std.specs.Prelude.{◌≡◌, ◌⊎◌, ℕ, Bool, List, [], ◌∷◌, Option, Some, None, Ok, Err, Result, Contains}
+use Rattle.std.specs.Prelude.{◌≡◌, ◌⊎◌, ℕ, Bool, List, [], ◌∷◌, Option, Some, None, Err, Result, Contains}
 use Rattle.shred_model.specs.Plan as model
 use Rattle.shred_model.specs.Record.{Agent}
 use Rattle.shred_model.specs.Runs.{Answer}

@@ -1,10 +1,9 @@
 -- A plan's run that is not Done tells the fault of one of its records.
-use Rattle.std.proofs.Common.{◌≡◌, ◌⊎◌, ℕ, zero, suc, ◌+◌, Bool, true, false, List, [], ◌∷◌, ◌++◌, Option, Some, None, Ok, Err, Result, slice_get, Contains, inl, inr, refl, sym, ◌∙◌, ap, subst, arith}
-use Rattle.std.proofs.lemmas.List.Elements.{Contains-append_left, Contains-append_right}
+use Rattle.std.proofs.Common.{◌≡◌, ◌⊎◌, ℕ, zero, suc, ◌+◌, true, false, List, [], ◌∷◌, ◌++◌, Option, Some, None, Ok, Err, slice_get, Contains, inl, inr, refl, sym, ◌∙◌, ap, subst, arith}
+use Rattle.std.proofs.lemmas.List.Elements.{Contains-append_right}
 use Rattle.std.specs.Prelude.{option_and_then}
 use Rattle.shred_model.specs.Access.{Access}
 use Rattle.shred_model.specs.Plan as model
-use Rattle.shred_model.specs.Record.{Agent}
 use Rattle.shred_model.specs.Runs.{Answer}
 use Rattle.shred_model.specs.States.{listed_states, own_state}
 use Rattle.shred_model.proofs.Joined.Faults.{Contains-head, FaultAt, RunsEach-fault, RunsUpToFault-fault}
@@ -13,7 +12,6 @@ use Rattle.shred_table.specs.declared.id.Kind.{Kind}
 use Rattle.shred_table.specs.declared.id.ResourceId.{ResourceId}
 use Rattle.shred_run.specs.AgentSteps.{TellsFault}
 use Rattle.shred_run.specs.Depths.{Related}
-use Rattle.shred_run.specs.Entries.{entry_answer}
 use Rattle.shred_run.specs.NestedRecords.{NestedRecord}
 use Rattle.shred_run.specs.NestedRuns.{NestedBatchRun, NestedEntryRun, NestedGroupRun, NestedPlanRun, NestedRounds, NestedRun, NestedStageRun, OccupantRun}
 use Rattle.shred_run.specs.Occupants.{Occupant, Occupants, a_batch, a_system, inside_at}

@@ -1,5 +1,5 @@
 -- What is inside what stands in entries, and how its steps are opened.
-use Rattle.std.proofs.Common.{◌≡◌, [], ◌∷◌, List, Option, Some, refl, true, ℕ, suc, ◌++◌, length, map, inl, inr, sym, ◌∙◌, ap, subst, append-nil, zero, ◌≢◌, Bool, false, Ok, Err, Result, None, subst₂, Contains}
+use Rattle.std.proofs.Common.{◌≡◌, [], ◌∷◌, List, Option, Some, refl, true, ℕ, suc, ◌++◌, length, map, inr, sym, ◌∙◌, ap, subst, append-nil, zero, ◌≢◌, Bool, false, Ok, Err, Result, None, subst₂, Contains}
 use Rattle.std.proofs.Math.Path.{fun_ext}
 use Rattle.shred_model.specs.Record.{Agent, under, Record}
 use Rattle.shred_model.specs.States.{listed_states, configuration_of, own_state}
@@ -26,7 +26,7 @@ use Rattle.shred_run.specs.Steps.{Outcome, Step, Written, IsStep, declared_of}
 use Rattle.shred_run.specs.NestedRecords.{NestedRecord, IsNestedStep, Reply, replied, bound, again, done}
 use Rattle.shred_run.specs.NestedRuns.{NestedEntryRun, NestedGroupRun, NestedStageRun, NestedPlanRun, NestedRounds, NestedBatchRun, NestedRun, OccupantRun}
 use Rattle.shred_run.specs.AdditionOrder.{under_place}
-use Rattle.shred_run.proofs.Paths.Opened.{EntryFits, GroupFits, PlanFits, StageFits, AreOpened, AreOpened-none, With, Each-with, UpToFault-with, Opening, Stays, StandsAt, RunsUpToFault-each, RunsEach-each, UpToFault-opened, Each-opened, stands, Fits, replays-opened}
+use Rattle.shred_run.proofs.Paths.Opened.{EntryFits, GroupFits, PlanFits, StageFits, AreOpened, With, Each-with, UpToFault-with, Opening, Stays, StandsAt, RunsUpToFault-each, RunsEach-each, UpToFault-opened, Each-opened, stands, Fits, replays-opened}
 use Rattle.shred_world.specs.Worked.{Held}
 use Rattle.shred_run.specs.KeptControllers.{control_access}
 use Rattle.shred_run.proofs.Circle.Rounds.{batch_keeps}

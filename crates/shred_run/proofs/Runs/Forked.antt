@@ -40,7 +40,7 @@ use Rattle.shred_model.specs.Record.{Agent}
 use Rattle.shred_model.specs.States.{configuration_of, listed_states}
 use Rattle.shred_model.proofs.Joined.AllWent.{RanBeside-from_went}
 use Rattle.shred_model.proofs.Joined.BesideAsOne.{beside_as_one_thread}
-use Rattle.shred_model.proofs.Joined.Ran.{Ran-from_alike, Ran-to_alike, Ran-of_one_thread, Ran-as}
+use Rattle.shred_model.proofs.Joined.Ran.{Ran-from_alike, Ran-to_alike, Ran-of_one_thread}
 use Rattle.shred_run.specs.Turns.{TookTurn}
 
 -- The records of a group's run keep within the group's access.

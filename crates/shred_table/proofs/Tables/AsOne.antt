@@ -7,7 +7,6 @@ use Rattle.shred_table.specs.AsOne.{or_value, as_one, brought}
 use Rattle.shred_table.specs.Id.{same_id}
 use Rattle.shred_table.specs.Parting.{emptied, slot_value}
 use Rattle.shred_table.specs.Slots.{with_at}
-use Rattle.shred_table.proofs.Tables.Moves.{emptied-twice}
 use Rattle.shred_table.proofs.Tables.Slots.{with_at-same}
 
 module _ {V : Type 0} where

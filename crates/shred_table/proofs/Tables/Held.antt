@@ -1,15 +1,11 @@
 -- What a table holds after a slot of it was written or taken away.
-use Rattle.std.proofs.Common.{◌≡◌, Bool, true, false, Option, Some, None, cond, nat_eq, refl, sym, ◌∙◌, ap, arith}
+use Rattle.std.proofs.Common.{◌≡◌, Bool, true, false, Option, Some, None, cond, nat_eq, refl, sym}
 use Rattle.std.specs.Borrow.{Bor, MutBor}
 use Rattle.std.specs.Prelude.{is_none, is_some, MatchOption, OnSome, IfSome, IfNone}
 use Rattle.std.specs.Option.{option_copied, option_copied_mut, option_map}
-use Rattle.std.proofs.lemmas.Bool.Decides.{nat_tests}
 use Rattle.shred_table.specs.declared.id.Kind.{Kind}
 use Rattle.shred_table.specs.declared.id.ResourceId.{ResourceId}
-use Rattle.shred_table.specs.declared.table.Table.{Table}
-use Rattle.shred_table.specs.Id.{same_id}
-use Rattle.shred_table.specs.Slots.{of_kind, slot_at, slot_held, held, with_at}
-use Rattle.shred_table.proofs.Tables.Slots.{same_id-true}
+use Rattle.shred_table.specs.Slots.{of_kind}
 
 -- what follows from a fact, where there is a value
 pub OnSome-map : {X P Q : Type 0} (o : Option X) → (P → Q) → OnSome o P → OnSome o Q

@@ -4,7 +4,6 @@ use Rattle.std.specs.Prelude.{is_some}
 use Rattle.shred_table.specs.declared.id.Kind.{Kind}
 use Rattle.shred_table.specs.declared.id.ResourceId.{ResourceId}
 use Rattle.shred_table.specs.declared.table.Slot.{Slot}
-use Rattle.shred_table.specs.AsOne.{as_one}
 use Rattle.shred_table.specs.Parting.{emptied, slot_value, given}
 use Rattle.shred_table.specs.Slots.{slot_held}
 

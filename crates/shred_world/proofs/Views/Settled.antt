@@ -1,6 +1,5 @@
 -- A table in which all is, and the empty hand beside it.
-use Rattle.std.proofs.Common.{◌≡◌, Bool, true, false, ◌&&◌, Option, Some, None, cond, nat_eq, refl, sym, ◌∙◌, ap, subst, arith}
-use Rattle.std.specs.Prelude.{is_some}
+use Rattle.std.proofs.Common.{◌≡◌, Bool, true, false, ◌&&◌, Option, Some, cond, nat_eq, refl, sym, ◌∙◌, ap, subst, arith}
 use Rattle.std.proofs.lemmas.Bool.Decides.{nat_tests}
 use Rattle.shred_table.specs.declared.id.Kind.{Kind}
 use Rattle.shred_table.specs.declared.id.ResourceId.{ResourceId}
@@ -15,7 +14,7 @@ use Rattle.shred_table.specs.Twins.{IsSettled, twin_held, twin_slot}
 use Rattle.shred_table.proofs.Tables.AsOne.{one-settled}
 use Rattle.shred_table.proofs.Tables.Slots.{same_id-true}
 use Rattle.shred_world.specs.declared.world.local.LocalWorld.{LocalWorld}
-use Rattle.shred_world.specs.Grants.{Grant, table_grant, twin_grant}
+use Rattle.shred_world.specs.Grants.{table_grant, twin_grant}
 use Rattle.shred_world.specs.Worlds.{local_held, local_slot}
 
 module _ {V : Type 0} where

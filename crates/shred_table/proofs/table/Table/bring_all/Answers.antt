@@ -1,5 +1,4 @@
-use Rattle.std.proofs.Common.{◌≡◌, List, slice_index_or, take, sym, ◌∙◌, ap, rules}
-use Rattle.std.proofs.lemmas.List.{take_all}
+use Rattle.std.proofs.Common.{◌≡◌, List, slice_index_or, take, ◌∙◌, ap, rules}
 use Rattle.shred_table.specs.declared.id.ResourceId.{ResourceId}
 use Rattle.shred_table.specs.AsOne.{brought}
 use Rattle.shred_table.specs.Parting.{emptied}

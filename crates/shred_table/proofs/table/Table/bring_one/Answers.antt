@@ -1,7 +1,6 @@
 use Rattle.std.proofs.Common.{◌≡◌, Some, sym, ◌∙◌, ap}
 use Rattle.std.proofs.Common.{Option, not}
 use Rattle.shred_table.specs.declared.table.Slot.{Slot}
-use Rattle.shred_table.specs.AsOne.{brought}
 use Rattle.shred_table.specs.Slots.{slot_at, with_at}
 use Rattle.shred_table.proofs.Tables.AsOne.{brought-in, brought-kept}
 use Rattle.shred_table.proofs.Tables.Slots.{OnSome-here}

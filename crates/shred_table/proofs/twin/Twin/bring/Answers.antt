@@ -1,11 +1,11 @@
-use Rattle.std.proofs.Common.{◌≡◌, IsTrue, Some, None, refl, sym, ◌∙◌, ap}
+use Rattle.std.proofs.Common.{◌≡◌, Some, refl, sym, ◌∙◌, ap}
 use Rattle.std.proofs.Common.{Option, not}
 use Rattle.std.specs.Prelude.{is_some}
 use Rattle.shred_table.specs.declared.id.ResourceId.{ResourceId}
 use Rattle.shred_table.specs.declared.table.Slot.{Slot}
 use Rattle.shred_table.specs.AsOne.{as_one}
 use Rattle.shred_table.specs.Parting.{emptied}
-use Rattle.shred_table.specs.Slots.{slot_at, with_at}
+use Rattle.shred_table.specs.Slots.{slot_at}
 use Rattle.shred_table.proofs.Tables.AsOne.{one-at, one-exchanged, one-first, one-taken, empty-at, empty-exchanged, covers-at}
 use Rattle.shred_table.proofs.Tables.Slots.{OnSome-here, with_at-same, same_id-refl}
 use Rattle.shred_table.proofs.Tables.Moves.{with_at-here}

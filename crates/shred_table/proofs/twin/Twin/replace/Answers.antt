@@ -1,4 +1,4 @@
-use Rattle.std.proofs.Common.{◌≡◌, IsTrue, sym, ◌∙◌, rules}
+use Rattle.std.proofs.Common.{IsTrue, sym, ◌∙◌, rules}
 use Rattle.shred_table.specs.Slots.{slot_at}
 use Rattle.shred_table.proofs.Tables.AsOne.{one-written, OnOk-map}
 use Rattle.shred_table.proofs.twin.Twin.replace.Goals as goal

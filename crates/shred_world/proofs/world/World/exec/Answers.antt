@@ -1,4 +1,4 @@
-use Rattle.std.proofs.Common.{◌≡◌, refl, inr, sym, subst, rules}
+use Rattle.std.proofs.Common.{◌≡◌, refl, inr, sym, subst}
 use Rattle.std.proofs.Common.{Option}
 use Rattle.shred_table.specs.declared.id.ResourceId.{ResourceId}
 use Rattle.shred_table.specs.declared.twin.Twin.{Twin}

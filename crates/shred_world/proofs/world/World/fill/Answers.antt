@@ -1,5 +1,4 @@
-use Rattle.std.proofs.Common.{◌≡◌, false, Option, Some, None, refl, sym, ◌∙◌, ap, rules}
-use Rattle.shred_table.specs.declared.table.Slot.{Slot}
+use Rattle.std.proofs.Common.{◌≡◌, Some, None, sym, ◌∙◌, ap, rules}
 use Rattle.shred_table.specs.Slots.{with_at}
 use Rattle.shred_world.specs.Worlds.{world_held, world_slot}
 use Rattle.shred_table.specs.Twins.{twin_slot}

@@ -3,7 +3,7 @@ use Rattle.shred_table.specs.declared.id.ResourceId.{ResourceId}
 use Rattle.shred_table.specs.Parts.{writes_of}
 use Rattle.shred_table.specs.Slots.{among, slot_at, slot_held}
 use Rattle.shred_world.specs.Beside.{lent_behind, pair_behind}
-use Rattle.shred_world.specs.Views.{behind_slot, declared_held, is_own, lent_to, may_read}
+use Rattle.shred_world.specs.Views.{behind_slot, declared_held, lent_to, may_read}
 use Rattle.shred_world.specs.Worked.{part_held}
 use Rattle.shred_world.proofs.world.each.work_over_one.Goals as goal
 

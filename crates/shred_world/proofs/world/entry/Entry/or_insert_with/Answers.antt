@@ -1,9 +1,8 @@
-use Rattle.std.proofs.Common.{◌≡◌, Some, refl, ◌∙◌, subst}
+use Rattle.std.proofs.Common.{Some, refl, ◌∙◌}
 use Rattle.std.specs.Prelude.{IfOk, Result, Ok, Err}
-use Rattle.shred_table.specs.declared.id.ResourceId.{ResourceId}
 use Rattle.shred_table.specs.Id.{id_of}
 use Rattle.shred_world.specs.Entries.{entry_world}
-use Rattle.shred_world.specs.Worlds.{world_held, IsFilled}
+use Rattle.shred_world.specs.Worlds.{world_held}
 use Rattle.shred_world.proofs.Views.Filled.{filled-some, filled-with, kept-or-made, never-missing, never-refused}
 use Rattle.shred_world.proofs.world.entry.Entry.or_insert_with.Goals as goal
 

@@ -1,7 +1,6 @@
-use Rattle.std.proofs.Common.{◌≡◌, ◌&&◌, ◌||◌, Bool, false, List, Option, cond, refl, sym, ◌∙◌, ap}
+use Rattle.std.proofs.Common.{◌≡◌, ◌&&◌, ◌||◌, Bool, cond, refl, sym, ◌∙◌, ap}
 use Rattle.std.specs.Prelude.{is_some}
 use Rattle.shred_table.specs.declared.id.ResourceId.{ResourceId}
-use Rattle.shred_table.specs.declared.table.Table.{Table}
 use Rattle.shred_table.specs.Listed.{listed_at}
 use Rattle.shred_table.specs.Parting.{given, slot_value}
 use Rattle.shred_table.specs.Slots.{among, slot_at, slot_held}

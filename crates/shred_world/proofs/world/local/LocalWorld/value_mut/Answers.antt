@@ -1,4 +1,4 @@
-use Rattle.std.proofs.Common.{◌≡◌, Some, refl, ◌∙◌, ap}
+use Rattle.std.proofs.Common.{Some, refl, ◌∙◌, ap}
 use Rattle.shred_table.specs.declared.twin.Twin.{Twin}
 use Rattle.shred_table.specs.Slots.{of_kind, slot_held, with_at}
 use Rattle.shred_table.specs.Twins.{twin_held, twin_slot}

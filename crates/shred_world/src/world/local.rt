@@ -99,7 +99,7 @@ impl<V: ResourceValue> LocalWorld<V> {
     ghost use Rattle.shred_table.specs.InOrder.{comes_first};
     ghost use Rattle.shred_table.specs.Id.{id_of, id_kind};
     ghost use Rattle.shred_table.specs.Slots.{with_at, among};
-    ghost use Rattle.shred_world.specs.Views.{view_held, may_read, may_write, is_out};
+    ghost use Rattle.shred_world.specs.Views.{view_held};
     ghost use Rattle.shred_world.specs.Lending.{IsOverLocal};
     ghost use Rattle.shred_world.specs.Lent.{LendsLocalWorld, LendsLocalGot, LendsLocalGotOk, LendsLocalValue};
     ghost use Rattle.shred_world.specs.OwnViews.{IsLent};
@@ -278,9 +278,6 @@ impl<V: ResourceValue> LocalWorld<V> {
     ) -> View<'b, 'b, V>
     where
         V: Drop,
-        ensures reads { (id : ResourceId) → may_read result id ≡ (among reads.now id || among writes.now id) }
-        ensures writes { (id : ResourceId) → may_write result id ≡ among writes.now id }
-        ensures nothing_out { (id : ResourceId) → is_out result id ≡ false }
         ensures shown { (id : ResourceId) → view_held V.kind_of result id ≡ local_held V.kind_of self.old id }
         ensures lent { IsLent result reads.now writes.now }
         ensures over { IsOverLocal self.old writes.now result }

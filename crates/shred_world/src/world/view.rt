@@ -3,6 +3,7 @@ ghost use Rattle.std.specs.Prelude.{◌≡◌, ◌==◌, ◌&&◌, ◌||◌, Boo
 ghost use Rattle.std.specs.Borrow.{sem};
 ghost use Rattle.shred_table.specs.declared.id.ResourceId.{ResourceId};
 ghost use Rattle.shred_world.specs.Lending.{IsNarrowed};
+ghost use Rattle.shred_world.specs.OwnViews.{IsViewOf};
 ghost use Rattle.shred_world.specs.Lent.{LendsWritten, LendsNarrow, LendsBeside};
 ghost use Rattle.std.specs.Option.{option_copied, option_map};
 ghost use Rattle.std.specs.Result.{result_err};
@@ -348,10 +349,7 @@ impl<'s, 'a, V: ResourceValue> View<'s, 'a, V> {
         requires nothing_out { (id : ResourceId) → is_out self.old id ≡ false }
         requires reads_within { (id : ResourceId) → IsTrue (among reads.now id) → IsTrue (may_read self.old id) }
         requires writes_within { (id : ResourceId) → IsTrue (among writes.now id) → IsTrue (may_write self.old id) }
-        ensures reads { (id : ResourceId) → may_read result id ≡ (among reads.now id || among writes.now id) }
-        ensures writes { (id : ResourceId) → may_write result id ≡ among writes.now id }
-        ensures nothing_out { (id : ResourceId) → is_out result id ≡ false }
-        ensures shown { (id : ResourceId) → view_held V.kind_of result id ≡ view_held V.kind_of self.old id }
+        ensures view { IsViewOf V.kind_of reads.now writes.now (view_held V.kind_of self.old) result }
         ensures over { IsNarrowed self.old writes.now result }
         ensures* back { sem 𝓛 (LendsNarrow V.row self.entry result) }
     {

@@ -28,9 +28,6 @@ returns g c =
     let reads : (q : ResourceId) → may_read v q ≡ (among c.args.reads.now q || written q) = λ q i. among (made.reads i) q || writes q i in (
       (refl, (λ w i. loose (record { table = lent_base c.args.self.now.twin.table (sym made.base i); hand = w }))),
       record {
-        reads = reads;
-        writes = writes;
-        nothing_out = made.nothing_out;
         shown = λ q. ap (slot_held kind q) (slot q) ∙ lent-held kind q (written q) (table q) (hand q) (all.settled.0 q) (all.settled.1 q) ∙ ap (slot_held kind q) (all.table q);
         lent = record { may_read = reads; may_write = writes; nothing_out = made.nothing_out; own = λ q may there. own q };
         over = record {

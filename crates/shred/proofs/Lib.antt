@@ -1,3 +1,3 @@
+pub mod Async
 pub mod Planner
 pub mod Names
-pub mod Setups

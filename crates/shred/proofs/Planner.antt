@@ -1,4 +1,3 @@
 -- What plans keep.
 pub mod Addition
 pub mod Standing
-pub mod Widest

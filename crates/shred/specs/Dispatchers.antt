@@ -11,18 +11,18 @@ use Rattle.shred_world.specs.Worked.{Held}
 use Rattle.shred_world.specs.Worlds.{world_held}
 use Rattle.shred.specs.ThreadLocals.{systems_of}
 use Rattle.shred_run.specs.Dispatched.{Situation}
-use Rattle.shred_stage.specs.Situations.{stages_with}
+use Rattle.shred_stage.specs.Situations.{plan_with}
 use Rattle.shred.specs.declared.dispatch.dispatcher.Dispatcher.{Dispatcher}
 use Rattle.shred_stage.specs.Plans.{plan_states}
 use Rattle.shred_stage.specs.StagePlan.{plan_of}
 
 -- the plan that a dispatcher runs
 abbrev pub dispatcher_plan : {V S C L N A M B : Type 0} {vd : _} {sd : _} {ad : _} {cd : _} {bd : _} → Dispatcher V S C L N A M B vd sd ad cd bd → model.Plan ResourceId
-dispatcher_plan d = plan_of d.stages.items
+dispatcher_plan d = plan_of d.plan.stages.items
 
 -- the states of its systems, by stage, group and place
 abbrev pub dispatcher_states : {V S C L N A M B : Type 0} {vd : _} {sd : _} {ad : _} {cd : _} {bd : _} → Dispatcher V S C L N A M B vd sd ad cd bd → Agent → Option (Work S (Nested V S C))
-dispatcher_states d path = plan_states d.stages.items path
+dispatcher_states d path = plan_states d.plan.stages.items path
 
 -- the thread-local systems, in order
 abbrev pub dispatcher_locals : {V S C L N A M B : Type 0} {vd : _} {sd : _} {ad : _} {cd : _} {bd : _} → Dispatcher V S C L N A M B vd sd ad cd bd → List L
@@ -34,7 +34,7 @@ dispatcher_workers d = d.workers
 
 -- a dispatcher's plan with its systems, over these values
 abbrev pub dispatcher_with : {V S C L N A M B : Type 0} {vd : _} {sd : _} {ad : _} {cd : _} {bd : _} → Dispatcher V S C L N A M B vd sd ad cd bd → Held V → Situation V S C
-dispatcher_with dispatcher values = stages_with dispatcher.stages.items values
+dispatcher_with dispatcher values = plan_with dispatcher.plan values
 
 -- a dispatcher's plan with its systems, over a world
 abbrev pub dispatcher_over : {V S C L N A M B : Type 0} {vd : _} {sd : _} {ad : _} {cd : _} {bd : _} → (V → Kind) → Dispatcher V S C L N A M B vd sd ad cd bd → World V → Situation V S C

@@ -10,10 +10,12 @@ use Rattle.shred_run.specs.Depths.{Related}
 use Rattle.shred_run.specs.Dispatched.{Dispatched, Situation}
 use Rattle.shred_run.specs.Steps.{Outcome, Step}
 use Rattle.shred_stage.specs.declared.dispatch.dispatch_error.DispatchError.{DispatchError}
-use Rattle.shred_stage.specs.Situations.{dispatch_answer}
+use Rattle.shred_stage.specs.Situations.{dispatch_answer, plan_with}
+use Rattle.shred_stage.specs.declared.dispatch.plan.Plan.{Plan}
 use Rattle.shred.specs.declared.dispatch.dispatcher.Dispatcher.{Dispatcher}
-use Rattle.shred.specs.Dispatchers.{dispatcher_locals, dispatcher_with, dispatcher_workers}
 use Rattle.shred.specs.LocalRuns.{LocalsRun}
+use Rattle.shred.specs.ThreadLocals.{systems_of}
+use Rattle.shred.specs.declared.thread_local.ThreadLocal.{ThreadLocal}
 
 -- A plan with what stands in it and the values of a world, the thread-local systems, and on how many threads a stage runs at most.
 pub record Whole (V S C L : Type 0) : Type 0 where
@@ -32,9 +34,13 @@ pub record FullyDispatched {V S C L E : Type 0} (kind : V → Kind) (related : R
   pub workers : after.workers ≡ before.workers
 
 module _ {V S C L N A M B : Type 0} {vd : _} {sd : _} {ad : _} {cd : _} {bd : _} where
+  -- a plan, thread-local systems and a number of threads, over these values
+  abbrev pub whole_of : Plan V S C N A M B vd sd ad cd bd → ThreadLocal L → ℕ → Held V → Whole V S C L
+  whole_of plan locals workers values = record { staged = plan_with plan values; locals = systems_of locals; workers = workers }
+
   -- a dispatcher with its systems, over these values
   abbrev pub whole_with : Dispatcher V S C L N A M B vd sd ad cd bd → Held V → Whole V S C L
-  whole_with dispatcher values = record { staged = dispatcher_with dispatcher values; locals = dispatcher_locals dispatcher; workers = dispatcher_workers dispatcher }
+  whole_with dispatcher values = whole_of dispatcher.plan dispatcher.thread_local dispatcher.workers values
 
   -- a dispatcher with its systems, over a world
   abbrev pub whole_over : (V → Kind) → Dispatcher V S C L N A M B vd sd ad cd bd → World V → Whole V S C L

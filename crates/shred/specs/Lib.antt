@@ -1,3 +1,13 @@
+pub mod AsyncAnswers
+pub mod AsyncBegun
+pub mod AsyncBuilt
+pub mod AsyncDispatchers
+pub mod AsyncLent
+pub mod AsyncPlaces
+pub mod AsyncRuns
+pub mod AsyncShown
+pub mod AsyncState
+pub mod AsyncSteps
 pub mod Batches
 pub mod Builders
 pub mod Built

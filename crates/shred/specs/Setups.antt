@@ -1,27 +1,14 @@
 -- Setup and disposal of a dispatcher: of its plan, and then of the thread-local systems.
-use Rattle.std.specs.Prelude.{◌≡◌, ℕ, [], ◌∷◌, Err, MatchResult}
+use Rattle.std.specs.Prelude.{◌≡◌, ℕ, Err, MatchResult}
 use Rattle.shred_model.specs.Runs.{Answer, first_fault}
 use Rattle.shred_world.specs.Worked.{Held}
-use Rattle.shred_run.specs.EntrySetups.{stage_fault}
 use Rattle.shred_run.specs.PlanSetups.{DisposedOf, SetUp}
 use Rattle.shred_run.specs.Steps.{Outcome, Step}
 use Rattle.shred_run.specs.WorkSetups.{Setups}
-use Rattle.shred_run.specs.declared.entry.StageFault.{StageFault}
 use Rattle.shred_stage.specs.Setups.{dispatch_fault}
-use Rattle.shred_stage.specs.Situations.{dispatch_answer, stages_with}
 use Rattle.shred_stage.specs.declared.dispatch.dispatch_error.DispatchError.{DispatchError}
-use Rattle.shred_stage.specs.declared.dispatch.stage.Stage.{Stage}
 use Rattle.shred.specs.FullRuns.{IsRefusedBy, Whole}
 use Rattle.shred.specs.LocalRuns.{LocalsDisposal, LocalsSetup}
-
-module _ {V S C E N A M B : Type 0} {vd : _} {sd : _} {ad : _} {cd : _} {bd : _} where
-  -- the setup of the stage at this place
-  abbrev pub StageSetupAt : Setups V S C E → ℕ → Stage V S C N A M B vd sd ad cd bd → Held V → Answer (DispatchError E) → Stage V S C N A M B vd sd ad cd bd → Held V → Type 0
-  StageSetupAt setups place stage before answer new after = (a : Answer (StageFault E)) × SetUp setups stage_fault (stages_with (stage ∷ []) before) a (stages_with (new ∷ []) after) × (answer ≡ dispatch_answer place a)
-
-  -- the disposal of the stage at this place
-  abbrev pub StageDisposalAt : (S → Held V → Outcome E → Held V → Type 0) → ℕ → Stage V S C N A M B vd sd ad cd bd → Held V → Answer (DispatchError E) → Held V → Type 0
-  StageDisposalAt disposes place stage before answer after = (a : Answer (StageFault E)) × DisposedOf disposes stage_fault (stages_with (stage ∷ []) before) a after × (answer ≡ dispatch_answer place a)
 
 -- The plan was set up. Where that was Done, the thread-local systems were, from what it left, one after the other, up to the first that is not Done; where it was not, they stay, and so do the values, and the answer is the plan's. The threads stay.
 pub record IsSetUp {V S C L E : Type 0} (setups : Setups V S C E) (local : Step V L E) (before : Whole V S C L) (answer : Answer (DispatchError E)) (after : Whole V S C L) : Type 0 where

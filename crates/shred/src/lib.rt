@@ -4,29 +4,36 @@
 //! what its runs do, and runs over a `View` of what it declares. A `DispatcherBuilder` plans systems, and batches, which
 //! run plans of their own. A `Dispatcher` runs the plan, stages one after the other and the groups of a stage beside each
 //! other on threads, and then the thread-local systems. What it leaves is `FullyDispatched`, of `specs/FullRuns.antt`.
+//! A `ParSeq` runs a tree of systems, an `AsyncDispatcher` a plan on a thread of its own.
 //!
-//! The builder, the dispatcher, thread-local systems (`RunNow`, `Now`), systems that are made of simpler ones (`Plain`,
-//! `OneOf`) and values of worlds of two, three and four types of resources stand here; what else a user needs is given
-//! again of the crates below.
+//! The builder, the dispatchers, lists of thread-local systems, systems that are made of simpler ones (`Plain`, `OneOf`)
+//! and values of worlds of two, three and four types of resources stand here; what else a user needs is given again of
+//! the crates below.
 #![tactic(auto)]
 
 pub mod dispatch;
-pub mod now;
+mod macros;
 pub mod one_of;
 pub mod plain;
-pub mod run_now;
 pub mod spelled;
 pub mod thread_local;
 pub mod values;
 
+pub use dispatch::async_dispatcher::{AsyncDispatcher, new_async};
+pub use dispatch::async_error::AsyncError;
 pub use dispatch::builder::DispatcherBuilder;
 pub use dispatch::dispatcher::{Dispatcher, new_dispatcher};
 pub use dispatch::names::SystemNames;
 pub use dispatch::told::Told;
-pub use now::Now;
 pub use one_of::OneOf;
 pub use plain::{Plain, PlainSystem};
-pub use run_now::RunNow;
+pub use spelled::{KindNames, Spelled};
+pub use thread_local::ThreadLocal;
+pub use values::{
+    First, Fourth, OneOf2, OneOf3, OneOf4, Second, Third, first_id, fourth_id, second_id, third_id,
+};
+
+// What the crates below give.
 pub use shred_cell::{
     Anything, CellRef, Fact, OfKind, SharedError, SharedFetch, SharedFetchMut, SharedWorld, cell,
     word,
@@ -34,22 +41,19 @@ pub use shred_cell::{
 pub use shred_meta::{Common, MetaIter, MetaIterMut, MetaMut, MetaTable};
 pub use shred_run::kept::batch_entry;
 pub use shred_run::{
-    BatchController, Fault, MultiDispatchController, MultiDispatcher, NoBatch, RunningTime,
-    StageFault, System, SystemId,
+    BatchController, Fault, MultiDispatchController, MultiDispatcher, NoBatch, Now, RunNow,
+    RunningTime, StageFault, System, SystemId,
 };
 pub use shred_stage::dispatch::inner::tiers_of;
 pub use shred_stage::{
-    AddError, DispatchError, PlanSink, PrintError, Rule, SinkFailed, Stage, StagesBuilder, ToWriter,
+    AddError, DispatchError, Plan, PlanSink, PrintError, Rule, SinkFailed, Stage, StagesBuilder,
+    ToWriter,
 };
+pub use shred_trees::{Nil, Par, ParError, ParSeq, RunWithPool, Seq, Shape, single};
 pub use shred_world::{
     Accessor, BatchAccessor, Behind, DataError, DefaultProvider, DynamicSystemData, Entry, Fetch,
     FetchMut, Kind, Lent, LocalLent, LocalWorld, Only, OutOfMemory, PanicHandler, Parts, Read,
     ReadExpect, ReplaceError, Resource, ResourceId, ResourceValue, Resources, SetupHandler, Steps,
     SystemData, Table, View, ViewWork, World, WorldError, Write, WriteExpect, bundle_accessor,
     check_intersection, only_id,
-};
-pub use spelled::{KindNames, Spelled};
-pub use thread_local::ThreadLocal;
-pub use values::{
-    First, Fourth, OneOf2, OneOf3, OneOf4, Second, Third, first_id, fourth_id, second_id, third_id,
 };

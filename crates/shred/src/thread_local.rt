@@ -4,7 +4,7 @@ ghost use Rattle.shred_run.specs.Alone.{KeepsKinds};
 ghost use Rattle.shred.specs.LocalRuns.{LocalDisposal, LocalRun, LocalSetup, LocalsDisposal, LocalsRun, LocalsSetup};
 ghost use Rattle.shred_world.specs.Worlds.{local_held, world_held};
 
-use crate::run_now::RunNow;
+use shred_run::RunNow;
 use shred_run::first::first;
 use shred_stage::DispatchError;
 use shred_world::{LocalWorld, OutOfMemory, ResourceValue, World};

@@ -14,7 +14,7 @@ use Rattle.shred_run.specs.declared.system.Fault.TheVariants.{OutOfMemory}
 use Rattle.shred_run.specs.Controls.{Control, keeping}
 use Rattle.shred_run.specs.Alone.{IsStepOver, StepsAlone}
 use Rattle.shred_run.specs.Steps.{Outcome, Step, Written, declared_of}
-use Rattle.shred.specs.declared.now.Now.{Now}
+use Rattle.shred_run.specs.declared.now.Now.{Now}
 use Rattle.shred.specs.declared.one_of.OneOf.{OneOf}
 use Rattle.shred.specs.declared.one_of.OneOf.TheVariants.{First, Second}
 use Rattle.shred.specs.declared.plain.Plain.{Plain}

@@ -5,3 +5,4 @@ pub mod EntriesAt
 pub mod SearchStart
 pub mod Spots
 pub mod StageKeeps
+pub mod Widest

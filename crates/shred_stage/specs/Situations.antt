@@ -17,6 +17,7 @@ use Rattle.shred_stage.specs.Plans.{plan_states, stage_states}
 use Rattle.shred_stage.specs.StagePlan.{plan_of, stage_plan}
 use Rattle.shred_stage.specs.declared.dispatch.dispatch_error.DispatchError.{DispatchError}
 use Rattle.shred_stage.specs.declared.dispatch.dispatch_error.DispatchError.TheVariants as dispatch
+use Rattle.shred_stage.specs.declared.dispatch.plan.Plan.{Plan}
 use Rattle.shred_stage.specs.declared.dispatch.stage.Stage.{Stage}
 
 -- a stage alone answers for itself, whatever its place
@@ -33,6 +34,10 @@ module _ {V S C N A M B : Type 0} {vd : _} {sd : _} {ad : _} {cd : _} {bd : _} w
   -- some stages with what stands in them, over these values
   abbrev pub stages_with : List (Stage V S C N A M B vd sd ad cd bd) → Held V → Situation V S C
   stages_with stages values = record { plan = plan_of stages; works = plan_states stages; values = values }
+
+  -- a plan with what stands in it, over these values
+  abbrev pub plan_with : Plan V S C N A M B vd sd ad cd bd → Held V → Situation V S C
+  plan_with plan values = stages_with plan.stages.items values
 
   -- a stage alone, as the plan of that one stage, over a world
   abbrev pub stage_over : (V → Kind) → Stage V S C N A M B vd sd ad cd bd → World V → Situation V S C

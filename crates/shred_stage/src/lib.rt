@@ -7,6 +7,7 @@ pub mod look_up;
 
 pub use add_error::AddError;
 pub use dispatch::dispatch_error::DispatchError;
+pub use dispatch::plan::Plan;
 pub use dispatch::printing::PrintError;
 pub use dispatch::rule::Rule;
 pub use dispatch::sink::{PlanSink, SinkFailed, ToWriter};

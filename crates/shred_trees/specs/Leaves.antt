@@ -3,7 +3,7 @@ use Rattle.std.specs.Prelude.{◌≡◌, ◌⊎◌, List, Ok}
 use Rattle.shred_table.specs.declared.id.ResourceId.{ResourceId}
 use Rattle.shred_run.specs.Alone.{HadNoRoom}
 use Rattle.shred_run.specs.Steps.{Step}
-use Rattle.shred.specs.declared.now.Now.{Now}
+use Rattle.shred_run.specs.declared.now.Now.{Now}
 use Rattle.shred_trees.specs.Trees.{Trees}
 
 -- It is done, and nothing changes.

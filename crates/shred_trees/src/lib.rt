@@ -3,7 +3,6 @@
 
 mod halves;
 mod lists;
-pub mod macros;
 pub mod nil;
 pub mod now;
 pub mod par;
@@ -15,7 +14,7 @@ pub mod tree;
 mod walk;
 
 pub use nil::Nil;
-pub use par::Par;
+pub use par::{Par, single};
 pub use par_error::ParError;
 pub use par_seq::ParSeq;
 pub use seq::Seq;

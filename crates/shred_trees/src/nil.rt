@@ -79,7 +79,7 @@ impl<V: ResourceValue, E> RunWithPool<V, E> for Nil {
         first
     }
 
-    fn run_here(&mut self, _alloc: Global, _view: &mut View<V>) -> Result<(), Fault<E>> {
+    fn run_in_order(&mut self, _alloc: Global, _view: &mut View<V>) -> Result<(), Fault<E>> {
         Ok(())
     }
 }

@@ -10,8 +10,7 @@ ghost use Rattle.shred_trees.specs.TreeViews.{Covers, RanOver};
 
 use crate::lists::{Lists, append};
 use crate::tree::{RunWithPool, Shape};
-use shred::Now;
-use shred_run::{Fault, System};
+use shred_run::{Fault, Now, System};
 use shred_world::{Behind, OutOfMemory, Parts, ResourceId, ResourceValue, Table, View, World};
 use std::alloc::Global;
 
@@ -100,7 +99,7 @@ impl<V: ResourceValue + Drop, E, S: System<V, Error = E> + Drop> RunWithPool<V, 
         first
     }
 
-    fn run_here(&mut self, alloc: Global, view: &mut View<V>) -> Result<(), Fault<E>> {
+    fn run_in_order(&mut self, alloc: Global, view: &mut View<V>) -> Result<(), Fault<E>> {
         match Lists::of_system(alloc, &self.0) {
             Ok(lists) => run_listed(alloc, &mut self.0, &lists, view),
             Err(_) => Err(Fault::OutOfMemory),

@@ -1,5 +1,5 @@
 //! Two trees that run beside each other.
-ghost use Rattle.std.specs.Prelude.{◌≡◌, IfOk};
+ghost use Rattle.std.specs.Prelude.{◌≡◌, IfOk, MatchResult};
 ghost use Rattle.shred_run.specs.Touching.{accesses_conflict, share_item};
 ghost use Rattle.shred_model.specs.Access.{Conflicts};
 ghost use Rattle.shred_table.specs.Id.{same_id};
@@ -161,6 +161,15 @@ impl<V: ResourceValue, E: Drop, H: RunWithPool<V, E>> Par<V, E, H, Nil> {
     }
 }
 
+/// A `Par` of one tree, as `par!` makes it.
+pub fn single<V: ResourceValue, E: Drop, H: RunWithPool<V, E>>(
+    head: H,
+) -> Result<Par<V, E, H, Nil>, ParError>
+    ensures { MatchResult result (λ par. par.halves ≡ Both head record {}) (λ refused. ⊥) }
+{
+    Ok(Par::new(head))
+}
+
 impl<V: ResourceValue, E: Drop, H: RunWithPool<V, E>, T: RunWithPool<V, E>> RunWithPool<V, E>
     for Par<V, E, H, T> {
     ghost use Rattle.shred_trees.specs.Halves.{ParRan, halves_pieces, halves_trees};
@@ -207,15 +216,15 @@ impl<V: ResourceValue, E: Drop, H: RunWithPool<V, E>, T: RunWithPool<V, E>> RunW
         }
     }
 
-    fn run_here(&mut self, alloc: Global, view: &mut View<V>) -> Result<(), Fault<E>> {
+    fn run_in_order(&mut self, alloc: Global, view: &mut View<V>) -> Result<(), Fault<E>> {
         match &mut self.halves {
             Halves::Both(head, tail) => {
-                let one = head.run_here(alloc, view);
-                let other = tail.run_here(alloc, view);
+                let one = head.run_in_order(alloc, view);
+                let other = tail.run_in_order(alloc, view);
                 first_fault(one, other)
             }
-            Halves::Head(head) => head.run_here(alloc, view),
-            Halves::Tail(tail) => tail.run_here(alloc, view),
+            Halves::Head(head) => head.run_in_order(alloc, view),
+            Halves::Tail(tail) => tail.run_in_order(alloc, view),
         }
     }
 }

@@ -8,8 +8,7 @@ ghost use Rattle.shred_world.specs.Worlds.{local_held, world_held};
 
 use crate::lists::Lists;
 use crate::tree::RunWithPool;
-use shred::RunNow;
-use shred_run::Fault;
+use shred_run::{Fault, RunNow};
 use shred_world::parting::{keep, twin_of_local};
 use shred_world::{LocalWorld, ResourceValue, Table, View, World};
 use std::alloc::Global;
@@ -51,7 +50,7 @@ fn run_over<
 }
 
 // The same, all of it on the caller's thread.
-fn run_over_here<V: ResourceValue + Drop, E: Drop, T: RunWithPool<V, E>>(
+fn run_over_in_order<V: ResourceValue + Drop, E: Drop, T: RunWithPool<V, E>>(
     alloc: Global,
     tree: &mut T,
     lists: &Lists,
@@ -65,7 +64,7 @@ fn run_over_here<V: ResourceValue + Drop, E: Drop, T: RunWithPool<V, E>>(
     let reads = lists.reads.as_slice();
     let writes = lists.writes.as_slice();
     let mut view = View::over(reads, writes, &[], table);
-    tree.run_here(alloc, &mut view)
+    tree.run_in_order(alloc, &mut view)
 }
 
 // The run of a tree over what it lists of a world.
@@ -93,7 +92,7 @@ fn run_within<
 }
 
 // The same, all of it on the caller's thread.
-fn run_within_here<V: ResourceValue + Drop, E: Drop, T: RunWithPool<V, E>>(
+fn run_within_in_order<V: ResourceValue + Drop, E: Drop, T: RunWithPool<V, E>>(
     tree: &mut T,
     lists: &Lists,
     world: &mut LocalWorld<V>,
@@ -104,7 +103,7 @@ fn run_within_here<V: ResourceValue + Drop, E: Drop, T: RunWithPool<V, E>>(
 {
     let alloc = world.allocator();
     let twin = twin_of_local(world);
-    let outcome = run_over_here(alloc, tree, lists, &mut twin.table);
+    let outcome = run_over_in_order(alloc, tree, lists, &mut twin.table);
     keep(world);
     outcome
 }
@@ -174,7 +173,7 @@ impl<V: ResourceValue + Drop, E: Drop, T: RunWithPool<V, E>> RunNow<V> for ParSe
         world: &mut LocalWorld<V>,
     ) -> Result<(), Fault<E>> {
         match Lists::of_tree::<V, E, T>(world.allocator(), &self.tree) {
-            Ok(lists) => run_within_here(&mut self.tree, &lists, world),
+            Ok(lists) => run_within_in_order(&mut self.tree, &lists, world),
             Err(_) => Err(Fault::OutOfMemory),
         }
     }

@@ -136,16 +136,16 @@ impl<V: ResourceValue, E: Drop, H: RunWithPool<V, E>, T: RunWithPool<V, E>> RunW
         }
     }
 
-    fn run_here(&mut self, alloc: Global, view: &mut View<V>) -> Result<(), Fault<E>> {
+    fn run_in_order(&mut self, alloc: Global, view: &mut View<V>) -> Result<(), Fault<E>> {
         match &mut self.halves {
             Halves::Both(head, tail) => {
-                if let Err(fault) = head.run_here(alloc, view) {
+                if let Err(fault) = head.run_in_order(alloc, view) {
                     return Err(fault);
                 }
-                tail.run_here(alloc, view)
+                tail.run_in_order(alloc, view)
             }
-            Halves::Head(head) => head.run_here(alloc, view),
-            Halves::Tail(tail) => tail.run_here(alloc, view),
+            Halves::Head(head) => head.run_in_order(alloc, view),
+            Halves::Tail(tail) => tail.run_in_order(alloc, view),
         }
     }
 }

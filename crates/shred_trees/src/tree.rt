@@ -56,7 +56,7 @@ pub trait RunWithPool<V: ResourceValue, E>: Sized + Drop {
         ensures { pieces.joins first second result };
 
     /// Runs the whole tree on the caller's thread.
-    fn run_here(&mut self, alloc: Global, view: &mut View<V>) -> Result<(), Fault<E>>
+    fn run_in_order(&mut self, alloc: Global, view: &mut View<V>) -> Result<(), Fault<E>>
         requires { Covers view.old (trees.reads self.old) (trees.writes self.old) }
         ensures { RanOver V.kind_of trees self.old view.old result self.new view.new };
 
@@ -77,7 +77,7 @@ pub trait RunWithPool<V: ResourceValue, E>: Sized + Drop {
         ensures { RanOver V.kind_of trees self.old view.old result self.new view.new }
     {
         if workers <= 1 {
-            return self.run_here(alloc, view);
+            return self.run_in_order(alloc, view);
         }
         run_tree(rt, alloc, self, view)
     }

@@ -204,7 +204,7 @@ fn run_listed<
 
 // The runs of two trees at once, where there is memory for it.
 #[cycle(walk)]
-fn run_beside<
+fn run_two<
     R: Threads + Sync,
     V: ResourceValue + Drop + Send + Sync,
     E: Drop + Send,
@@ -237,7 +237,7 @@ fn walk<
 {
     match tree.split() {
         Shape::Leaf(mut leaf) => {
-            let outcome = leaf.run_here(alloc, view);
+            let outcome = leaf.run_in_order(alloc, view);
             (leaf, outcome)
         }
         Shape::InTurn(first, second) => {
@@ -251,7 +251,7 @@ fn walk<
             }
         }
         Shape::Beside(first, second) => {
-            let (first, second, outcome) = run_beside(rt, alloc, first, second, view);
+            let (first, second, outcome) = run_two(rt, alloc, first, second, view);
             (T::rejoin(first, second), outcome)
         }
     }

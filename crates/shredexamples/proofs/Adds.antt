@@ -13,7 +13,7 @@ use Rattle.shred_world.specs.Worked.{Held}
 use Rattle.shred_run.specs.Alone.{StepsAlone}
 use Rattle.shred_run.specs.declared.system.Fault.TheVariants.{OutOfMemory}
 use Rattle.shred_run.specs.Steps.{Outcome}
-use Rattle.shred.specs.declared.now.Now.{Now}
+use Rattle.shred_run.specs.declared.now.Now.{Now}
 use Rattle.shred.specs.declared.plain.Plain.{Plain}
 use Rattle.shred_orders.specs.OneEnd.{AllowOneEnd, IsDeterministic, IsDeterministicLocal, IsDone, own_access}
 use Rattle.shred_orders.proofs.Made.{keeping-deterministic, now-deterministic, plain-deterministic}

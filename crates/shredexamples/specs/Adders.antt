@@ -5,7 +5,7 @@ use Rattle.shred_run.specs.Steps.{Step}
 use Rattle.shred_run.specs.declared.no_batch.NoBatch.{NoBatch}
 use Rattle.shred_model.specs.Runs.{Answer}
 use Rattle.shred_stage.specs.declared.dispatch.dispatch_error.DispatchError.{DispatchError}
-use Rattle.shred.specs.declared.now.Now.{Now}
+use Rattle.shred_run.specs.declared.now.Now.{Now}
 use Rattle.shred.specs.declared.plain.Plain.{Plain}
 use Rattle.shred_table.specs.declared.only.Only.{Only}
 use Rattle.shred_world.specs.declared.world.view.DataError.{DataError}

@@ -13,7 +13,7 @@ use Rattle.shred_run.specs.declared.work.Work.{Work}
 use Rattle.shred_run.specs.declared.work.Work.TheVariants.{System}
 use Rattle.shred_table.specs.declared.only.Only.{Only}
 use Rattle.shred_world.specs.declared.world.view.DataError.{DataError}
-use Rattle.shred.specs.declared.now.Now.{Now}
+use Rattle.shred_run.specs.declared.now.Now.{Now}
 use Rattle.shred.specs.declared.plain.Plain.{Plain}
 use Rattle.shred.specs.Built.{Built, IsAddition, IsNewBuilt}
 use Rattle.shredexamples.specs.declared.enum_of_systems.Job.{Job}

@@ -12,7 +12,7 @@ use Rattle.shred_run.specs.declared.system.Fault.TheVariants.{Refused}
 use Rattle.shred_run.specs.declared.system.RunningTime.TheVariants.{Average, VeryLong}
 use Rattle.shred_run.specs.Dispatched.{Dispatched, Situation}
 use Rattle.shred_stage.specs.Situations.{dispatch_answer}
-use Rattle.shred.specs.declared.now.Now.{Now}
+use Rattle.shred_run.specs.declared.now.Now.{Now}
 use Rattle.shred.specs.declared.plain.Plain.{Plain}
 use Rattle.shred_table.specs.Slots.{with_at}
 use Rattle.shred_table.specs.declared.id.ResourceId.{ResourceId}

@@ -17,9 +17,9 @@ pub(crate) fn stages_of(
 ) -> Result<Vec<Vec<Vec<usize>>>, AllocError>
     ensures { IfOk result (λ stages. stages_in stages ≡ ids_of_plan (built builder).plan) }
 {
-    let (stages, _, _) = builder.build().into_parts();
+    let dispatcher = builder.build();
     let mut all = Vec::new(alloc);
-    for stage in &stages {
+    for stage in &dispatcher.plan().stages {
         all.push(groups_of(alloc, stage)?)?;
     }
     Ok(all)

@@ -18,7 +18,7 @@ use Rattle.shred_run.specs.declared.work.Work.TheVariants.{System}
 use Rattle.shred_stage.specs.Earlier.{HasId}
 use Rattle.shred_stage.specs.declared.dispatch.rule.Rule.TheVariants.{Ordered}
 use Rattle.shred.specs.Built.{Built, IsAddition}
-use Rattle.shred.specs.declared.now.Now.{Now}
+use Rattle.shred_run.specs.declared.now.Now.{Now}
 use Rattle.shred.specs.declared.plain.Plain.{Plain}
 use Rattle.shredstore.specs.declared.rule.Overflow.{Overflow}
 use Rattle.shredstore.specs.declared.rule.StoreRule.{StoreRule}

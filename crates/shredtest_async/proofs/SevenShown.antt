@@ -4,11 +4,11 @@ use Rattle.std.specs.declared.convert.Infallible.{Infallible}
 use Rattle.shred.specs.Dispatchers.{dispatcher_locals}
 use Rattle.shred.specs.LocalRuns.{LocalsRun}
 use Rattle.shred.specs.declared.dispatch.dispatcher.Dispatcher.{Dispatcher}
-use Rattle.shred_async.specs.AsyncState.{AsyncState, Joins, home, lost, out}
-use Rattle.shred_async.specs.Parts.{LocalsRan, Over, PlanRan}
-use Rattle.shred_async.specs.Shown.{JoinsAndShows, Shows}
-use Rattle.shred_async.specs.Steps.{Dispatches, Waits}
-use Rattle.shred_async.specs.Told.{AsyncAnswer}
+use Rattle.shred.specs.AsyncState.{AsyncState, Joins, home, lost, out}
+use Rattle.shred.specs.AsyncRuns.{LocalsRan, Over, PlanRan}
+use Rattle.shred.specs.AsyncShown.{JoinsAndShows, Shows}
+use Rattle.shred.specs.AsyncSteps.{Dispatches, Waits}
+use Rattle.shred.specs.AsyncAnswers.{AsyncAnswer}
 use Rattle.shred_run.specs.Depths.{Related}
 use Rattle.shred_run.specs.Steps.{Step}
 use Rattle.shred_run.specs.declared.no_batch.NoBatch.{NoBatch}

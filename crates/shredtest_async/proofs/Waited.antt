@@ -2,9 +2,9 @@
 use Rattle.std.proofs.Common.{◌≡◌, Ok, Err, inl, inr, subst}
 use Rattle.shred_model.specs.Runs.{Answer}
 use Rattle.shred_stage.specs.declared.dispatch.dispatch_error.DispatchError.{DispatchError}
-use Rattle.shred_async.specs.AsyncState.{AsyncState, Joins, OnceJoined, Runs, home, out}
-use Rattle.shred_async.specs.Steps.{Begins, Dispatches, RunsThen, TellsOr, Waits}
-use Rattle.shred_async.specs.declared.async_error.AsyncError.TheVariants.{Dispatch, Lost}
+use Rattle.shred.specs.AsyncState.{AsyncState, Joins, OnceJoined, Runs, home, out}
+use Rattle.shred.specs.AsyncSteps.{Begins, Dispatches, RunsThen, TellsOr, Waits}
+use Rattle.shred.specs.declared.dispatch.async_error.AsyncError.TheVariants.{Dispatch, Lost}
 
 module _ {X E : Type 0} (Run LocalsRun : Runs X E) (x : X) where
   begins : (begun : AsyncState X E) → Begins x (Ok tt) begun → begun ≡ out x

@@ -2,8 +2,8 @@
 use Rattle.std.specs.Prelude.{◌≡◌, [], ◌∷◌, Some, Ok, Err, pos}
 use Rattle.shred.specs.Dispatchers.{dispatcher_locals}
 use Rattle.shred.specs.declared.dispatch.dispatcher.Dispatcher.{Dispatcher}
-use Rattle.shred_async.specs.AsyncState.{AsyncState, home, lost, out}
-use Rattle.shred_async.specs.Parts.{Over, PlanRan}
+use Rattle.shred.specs.AsyncState.{AsyncState, home, lost, out}
+use Rattle.shred.specs.AsyncRuns.{Over, PlanRan}
 use Rattle.shred_run.specs.declared.no_batch.NoBatch.{NoBatch}
 use Rattle.shred_table.specs.declared.id.Kind.{Kind}
 use Rattle.shred_world.specs.declared.world.view.DataError.{DataError}

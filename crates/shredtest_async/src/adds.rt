@@ -5,10 +5,9 @@ ghost use Rattle.shred_table.specs.Id.{id_of};
 ghost use Rattle.shred_table.specs.Only.{only_kind};
 
 use shred::{
-    BatchAccessor, DispatcherBuilder, Fault, Now, Only, OutOfMemory, RunningTime, System, View,
-    World, only_id,
+    AsyncDispatcher, BatchAccessor, DispatcherBuilder, Fault, Now, Only, OutOfMemory, RunningTime,
+    System, View, World, only_id,
 };
-use shred_async::{AsyncDispatcher, build_async};
 use std::alloc::Global;
 use std::test::Fail;
 
@@ -111,7 +110,7 @@ pub(crate) fn with_local(alloc: Global, staged: Adds) -> Result<Dispatcher, Fail
     let mut builder: DispatcherBuilder<Only<i64>, Adds> = DispatcherBuilder::new(alloc);
     builder.add(staged, "", &[])?;
     builder.add_thread_local(Now(adds_to(1, 1)))?;
-    Ok(build_async(builder, zeros(alloc, 2)?))
+    Ok(builder.build_async(zeros(alloc, 2)?))
 }
 
 /// What the world has as the count of this number.

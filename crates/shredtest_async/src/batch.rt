@@ -7,7 +7,6 @@ use crate::ended::{DONE, ended};
 use shred::{
     BatchController, DispatcherBuilder, Fault, Only, OutOfMemory, RunningTime, View, World,
 };
-use shred_async::build_async;
 use std::alloc::Global;
 use std::test::Fail;
 
@@ -68,7 +67,7 @@ fn with_a_batch(alloc: Global) -> Result<Builder, Fail> {
 
 #[test]
 fn a_batch_runs_its_plan_twice(rt: HostRuntime) -> Result<(), Fail> {
-    let mut dispatcher = build_async(with_a_batch(rt.alloc())?, zeros(rt.alloc(), 3)?);
+    let mut dispatcher = with_a_batch(rt.alloc())?.build_async(zeros(rt.alloc(), 3)?);
     assert_eq!(rt; ended(dispatcher.dispatch(&rt)), DONE);
     assert_eq!(rt; ended(dispatcher.wait(&rt)), DONE);
     let counts = match dispatcher.world(&rt) {

@@ -1,7 +1,6 @@
 //! How a call of an asynchronous dispatcher ended, as a value that can be compared.
 
-use shred::{DispatchError, Fault};
-use shred_async::AsyncError;
+use shred::{AsyncError, DispatchError, Fault};
 
 /// What ended it, which one, and its code.
 pub(crate) type Ended = (&'static str, usize, u8);

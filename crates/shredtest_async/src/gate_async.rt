@@ -3,9 +3,9 @@ ghost use Rattle.std.specs.Prelude.{[]};
 
 use crate::ended::{DONE, ended};
 use shred::{
-    BatchAccessor, DispatcherBuilder, Fault, Only, OutOfMemory, Plain, PlainSystem, View, World,
+    AsyncDispatcher, BatchAccessor, DispatcherBuilder, Fault, Only, OutOfMemory, Plain,
+    PlainSystem, View, World,
 };
-use shred_async::{AsyncDispatcher, build_async};
 use std::alloc::Global;
 use std::sync::Arc;
 use std::sync::atomic::{AtomicBool, Ordering};
@@ -93,7 +93,7 @@ fn gate_async(rt: HostRuntime) -> Result<(), Fail> {
     let callers = Arc::new(rt.alloc(), AtomicBool::new(false))?;
     let mut builder: Builder = DispatcherBuilder::new(rt.alloc());
     builder.add(waiting_on(&own, &callers, TURNS)?, "", &[])?;
-    let mut dispatcher: Waiting = build_async(builder, World::empty(rt.alloc()));
+    let mut dispatcher: Waiting = builder.build_async(World::empty(rt.alloc()));
     let dispatched = ended(dispatcher.dispatch(&rt));
     let running = dispatcher.running().ok();
     callers.store(true, Ordering::SeqCst);
@@ -116,7 +116,7 @@ fn meeting(alloc: Global, workers: usize, turns: u32) -> Result<Waiting, Fail> {
     builder.add_pool(workers);
     builder.add(waiting_on(&one, &other, turns)?, "", &[])?;
     builder.add(waiting_on(&other, &one, turns)?, "", &[])?;
-    Ok(build_async(builder, World::empty(alloc)))
+    Ok(builder.build_async(World::empty(alloc)))
 }
 
 #[test]

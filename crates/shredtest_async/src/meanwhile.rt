@@ -1,14 +1,13 @@
 //! An example of an asynchronous dispatcher: a plan that runs on a thread of its own while its caller does something else.
 ghost use Rattle.std.specs.List.{list_any};
 ghost use Rattle.std.specs.Prelude.{◌≡◌, ◌==◌, IfSome, Some, pos};
-ghost use Rattle.shred_async.specs.Standing.{state_of};
+ghost use Rattle.shred.specs.AsyncDispatchers.{state_of};
 ghost use Rattle.shred_world.specs.Worlds.{world_held};
 ghost use Rattle.shredexamples.specs.OneSystem.{count_at};
 ghost use Rattle.shredexamples.specs.declared.one_system.Value.TheVariants.{Count as counted};
 ghost use Rattle.shredtest_async.specs.Meanwhile.{LeavesSeven, kind_of};
 
-use shred::{StagesBuilder, SystemId, ThreadLocal, World};
-use shred_async::{AsyncDispatcher, new_async};
+use shred::{AsyncDispatcher, StagesBuilder, SystemId, ThreadLocal, World, new_async};
 use shredexamples::one_system::{Count, SetToSeven, Value};
 use std::alloc::Global;
 use std::thread::Threads;

@@ -4,8 +4,7 @@
 use crate::adds::{Adds, Dispatcher, adds_to, refuses, with_local};
 use crate::ended::{DONE, Ended, LOST, NO_MEMORY, ended};
 use crate::rows::expect_counts;
-use shred::{DispatcherBuilder, Now, Only, World, only_id};
-use shred_async::{AsyncError, build_async};
+use shred::{AsyncError, DispatcherBuilder, Now, Only, World, only_id};
 use std::alloc::{AllocError, Global};
 use std::process::Abort;
 use std::test::Fail;
@@ -66,7 +65,7 @@ fn made(alloc: Global, staged: Adds) -> Option<Dispatcher> {
     if builder.add_thread_local(Now(adds_to(1, 1))).is_err() {
         return None;
     }
-    Some(build_async(builder, world))
+    Some(builder.build_async(world))
 }
 
 /// A wait runs the thread-local system, or that system finds no memory and changes nothing.

@@ -2,8 +2,9 @@
 
 use crate::adds::{Adds, adds_to, count_of, refuses, with_local, zeros};
 use crate::ended::{DONE, ended};
-use shred::{Only, StagesBuilder, SystemId, ThreadLocal, World, only_id};
-use shred_async::{AsyncDispatcher, new_async};
+use shred::{
+    AsyncDispatcher, Only, StagesBuilder, SystemId, ThreadLocal, World, new_async, only_id,
+};
 use std::alloc::Global;
 use std::test::Fail;
 

@@ -3,7 +3,6 @@
 use crate::adds::{Adds, adds_to, count_of, zeros};
 use crate::ended::{DONE, ended};
 use shred::{DispatcherBuilder, Only};
-use shred_async::build_async;
 use std::alloc::Global;
 use std::test::Fail;
 
@@ -25,7 +24,7 @@ fn six_of(alloc: Global, workers: usize) -> Result<DispatcherBuilder<Only<i64>, 
 fn stages_async(rt: HostRuntime) -> Result<(), Fail> {
     for workers in [0, 1, 2, 8] {
         let builder = six_of(rt.alloc(), workers)?;
-        let mut dispatcher = build_async(builder, zeros(rt.alloc(), 1)?);
+        let mut dispatcher = builder.build_async(zeros(rt.alloc(), 1)?);
         assert_eq!(rt; ended(dispatcher.dispatch(&rt)), DONE);
         assert_eq!(rt; ended(dispatcher.wait(&rt)), DONE);
         let count = match dispatcher.world(&rt) {

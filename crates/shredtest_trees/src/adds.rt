@@ -3,9 +3,9 @@ ghost use Rattle.std.specs.Prelude.{[], ◌∷◌};
 ghost use Rattle.shred_table.specs.Id.{id_of};
 ghost use Rattle.shred_table.specs.Only.{only_kind};
 
-use shred::{Now, Plain, PlainSystem};
-use shred_run::Fault;
-use shred_world::{BatchAccessor, Only, OutOfMemory, View, World, only_id};
+use shred::{
+    BatchAccessor, Fault, Now, Only, OutOfMemory, Plain, PlainSystem, View, World, only_id,
+};
 use std::alloc::Global;
 use std::process::Abort;
 use std::test::Fail;

@@ -1,10 +1,10 @@
 //! A tree of the tests' own that runs as one, and a system: both count their runs.
 ghost use Rattle.std.specs.Prelude.{[]};
 
-use shred::{Now, Plain, PlainSystem};
-use shred_run::Fault;
-use shred_trees::{RunWithPool, Shape};
-use shred_world::{BatchAccessor, Only, OutOfMemory, ResourceId, View, World};
+use shred::{
+    BatchAccessor, Fault, Now, Only, OutOfMemory, Plain, PlainSystem, ResourceId, RunWithPool,
+    Shape, View, World,
+};
 use std::alloc::Global;
 use std::sync::atomic::{AtomicU64, Ordering};
 
@@ -39,7 +39,11 @@ impl<'c> RunWithPool<Only<i64>, u8> for Counts<'c> {
         first
     }
 
-    fn run_here(&mut self, _alloc: Global, _view: &mut View<Only<i64>>) -> Result<(), Fault<u8>> {
+    fn run_in_order(
+        &mut self,
+        _alloc: Global,
+        _view: &mut View<Only<i64>>,
+    ) -> Result<(), Fault<u8>> {
         self.0.fetch_add(1, Ordering::SeqCst);
         Ok(())
     }

@@ -2,10 +2,10 @@
 ghost use Rattle.std.specs.Prelude.{[]};
 
 use crate::adds::{DONE, ended, zeros};
-use shred::{Now, Plain, PlainSystem};
-use shred_run::Fault;
-use shred_trees::{Nil, Par, ParError, ParSeq, RunWithPool, par, seq};
-use shred_world::{BatchAccessor, Only, OutOfMemory, View};
+use shred::{
+    BatchAccessor, Fault, Nil, Now, Only, OutOfMemory, Par, ParError, ParSeq, Plain, PlainSystem,
+    RunWithPool, View, par, seq,
+};
 use std::alloc::Global;
 use std::process::Abort;
 use std::sync::atomic::{AtomicBool, Ordering};

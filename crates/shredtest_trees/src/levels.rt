@@ -3,8 +3,7 @@
 use crate::adds::{DONE, adds_to, ended, expect_counts, looks_at, zeros};
 use crate::counts::Counts;
 use crate::named::Named;
-use shred_trees::{Nil, Par, ParError, ParSeq, par, seq};
-use shred_world::Only;
+use shred::{Nil, Only, Par, ParError, ParSeq, par, seq};
 use std::sync::atomic::{AtomicU64, Ordering};
 use std::test::Fail;
 

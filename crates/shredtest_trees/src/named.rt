@@ -2,9 +2,7 @@
 ghost use Rattle.std.specs.Prelude.{◌≡◌};
 ghost use Rattle.shred_trees.specs.Pieces.{ShapeOf};
 
-use shred_run::Fault;
-use shred_trees::{RunWithPool, Shape};
-use shred_world::{OutOfMemory, ResourceId, ResourceValue, View, World};
+use shred::{Fault, OutOfMemory, ResourceId, ResourceValue, RunWithPool, Shape, View, World};
 use std::alloc::Global;
 
 /// A tree with a name, which stays.
@@ -77,7 +75,7 @@ impl<V: ResourceValue, E, T: RunWithPool<V, E>> RunWithPool<V, E> for Named<T> {
         }
     }
 
-    fn run_here(&mut self, alloc: Global, view: &mut View<V>) -> Result<(), Fault<E>> {
-        self.inner.run_here(alloc, view)
+    fn run_in_order(&mut self, alloc: Global, view: &mut View<V>) -> Result<(), Fault<E>> {
+        self.inner.run_in_order(alloc, view)
     }
 }

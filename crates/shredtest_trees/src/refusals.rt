@@ -3,9 +3,7 @@
 
 use crate::adds::{DONE, adds_to, ended, looks_at};
 use crate::counts::tick_of;
-use shred_run::Fault;
-use shred_trees::{Nil, Par, ParError, ParSeq, RunWithPool, par, seq};
-use shred_world::{Only, World, only_id};
+use shred::{Fault, Nil, Only, Par, ParError, ParSeq, RunWithPool, World, only_id, par, seq};
 use std::alloc::Global;
 use std::process::Abort;
 use std::sync::atomic::{AtomicU64, Ordering};

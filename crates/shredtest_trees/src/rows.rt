@@ -3,10 +3,10 @@
 use crate::adds::{Adds, DONE, adds_to, ended, expect_counts, looks_at, refuses, zeros};
 use crate::counts::tick_of;
 use crate::two_then_one::{AddTo, Stopped, two_then_one};
-use shred::{DispatchError, Dispatcher, DispatcherBuilder, NoBatch, Plain};
-use shred_run::Fault;
-use shred_trees::{Nil, Par, ParError, ParSeq, RunWithPool, Seq, par, seq};
-use shred_world::{Only, World};
+use shred::{
+    DispatchError, Dispatcher, DispatcherBuilder, Fault, Nil, NoBatch, Only, Par, ParError, ParSeq,
+    Plain, RunWithPool, Seq, World, par, seq,
+};
 use std::alloc::Global;
 use std::process::Abort;
 use std::sync::atomic::{AtomicU64, Ordering};

@@ -8,10 +8,10 @@ ghost use Rattle.shred_table.specs.declared.id.ResourceId.{ResourceId};
 ghost use Rattle.shred_world.specs.Worlds.{world_held};
 ghost use Rattle.shredtest_trees.specs.TwoThenOne.{IsRunTold, IsTold, writes_at};
 
-use shred::{Now, Plain, PlainSystem};
-use shred_run::Fault;
-use shred_trees::{Nil, Par, ParError, ParSeq, RunWithPool, seq};
-use shred_world::{BatchAccessor, DataError, Only, OutOfMemory, View, World, only_id};
+use shred::{
+    BatchAccessor, DataError, Fault, Nil, Now, Only, OutOfMemory, Par, ParError, ParSeq, Plain,
+    PlainSystem, RunWithPool, View, World, only_id, seq,
+};
 use std::alloc::Global;
 use std::thread::Threads;
 

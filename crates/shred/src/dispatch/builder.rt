@@ -8,6 +8,8 @@ ghost use Rattle.shred_run.specs.Works.{tiers_plan};
 ghost use Rattle.shred_model.specs.Plan.{plan_ids};
 ghost use Rattle.shred_model.specs.Record.{Agent};
 ghost use Rattle.shred_stage.specs.BuilderPlan.{planned, barrier_of, rule_of, builder_states};
+ghost use Rattle.shred.specs.AsyncBuilt.{IsBuiltOver};
+ghost use Rattle.shred.specs.AsyncDispatchers.{state_of};
 ghost use Rattle.shred.specs.Built.{IsAddition, IsBarrierSet, IsConsistent, IsEntryAdded, IsLocalAdded, IsNewBuilt, IsPoolSet, IsRuleSet, IsSameBuilt, KeepsAdditionIfOrdered};
 ghost use Rattle.shred_run.specs.AdditionOrder.{KeepsAddition};
 ghost use Rattle.shred_stage.specs.declared.dispatch.rule.Rule.TheVariants.{Ordered};
@@ -27,19 +29,20 @@ ghost use Rattle.shred_stage.specs.Known.{texts_of};
 ghost use Rattle.shred_stage.specs.Names.{AreNames, first_unnamed, names_of};
 ghost use Rattle.shred_stage.specs.Printed.{line_feed, plan_text};
 ghost use Rattle.shred_stage.specs.Prints.{IsPrinted};
+ghost use Rattle.shred_world.specs.Worlds.{world_held};
 
+use crate::dispatch::async_dispatcher::{AsyncDispatcher, new_async};
 use crate::dispatch::dispatcher::{Dispatcher, new_dispatcher};
 use crate::dispatch::names::SystemNames;
-use crate::now::Now;
 use crate::thread_local::ThreadLocal;
 use shred_run::entry::GroupEntry;
 use shred_run::kept::{batch_entry, system_entry};
-use shred_run::{BatchController, Nested, NoBatch, System, SystemId, Tier, Work};
+use shred_run::{BatchController, Nested, NoBatch, Now, System, SystemId, Tier, Work};
 use shred_stage::dispatch::inner::tiers_of;
 use shred_stage::dispatch::printing::print_with_end;
 use shred_stage::look_up::{enter, forget, ids_of, may_add};
 use shred_stage::{AddError, PlanSink, PrintError, Rule, StagesBuilder};
-use shred_world::ResourceValue;
+use shred_world::{ResourceValue, World};
 use std::alloc::Global;
 use std::collections::HashMap;
 
@@ -229,6 +232,25 @@ impl<V: ResourceValue, S: System<V>, C: BatchController<V>, L: Drop> DispatcherB
     {
         let dispatcher = new_dispatcher(self.stages.build(), self.thread_local, self.workers);
         (dispatcher, SystemNames { names: self.names })
+    }
+}
+
+impl<
+    V: ResourceValue + Drop,
+    S: System<V, Error = E> + Drop,
+    C: BatchController<V, Error = E> + Drop,
+    L: Drop,
+    E,
+> DispatcherBuilder<V, S, C, L> {
+    ghost use Rattle.shred.specs.Builders.{built};
+
+    /// The asynchronous dispatcher of the plan over this world, home with nothing untold. It takes no memory.
+    pub fn build_async(self, world: World<V>) -> AsyncDispatcher<V, S, C, L>
+        ensures built { IsBuiltOver (built self) (world_held V.kind_of world) (state_of V.kind_of result) }
+        ensures consistent { IsConsistent (built self) }
+        ensures addition { KeepsAdditionIfOrdered (built self) }
+    {
+        new_async(world, self.stages.build(), self.thread_local, self.workers)
     }
 }
 

@@ -1,36 +1,30 @@
 //! The dispatcher: it runs a plan, and then the thread-local systems.
-ghost use Rattle.std.specs.Prelude.{◌≡◌, ◌++◌, Err};
+ghost use Rattle.std.specs.Prelude.{◌≡◌, ◌++◌, ℕ};
 ghost use Rattle.shred_model.specs.Plan.{plan_ids};
 ghost use Rattle.shred_model.specs.Record.{Agent};
 ghost use Rattle.shred_run.specs.Alone.{KeepsKinds};
 ghost use Rattle.shred_run.specs.Depths.{Related, lists_of, relations_of};
 ghost use Rattle.shred_run.specs.Dispatched.{Dispatched};
-ghost use Rattle.shred_run.specs.PlanSetups.{DisposedOf, SetUp};
 ghost use Rattle.shred_run.specs.WorkSetups.{setups_of};
 ghost use Rattle.shred_stage.specs.Names.{AreNames, first_unnamed};
 ghost use Rattle.shred_stage.specs.Plans.{plan_states};
 ghost use Rattle.shred_stage.specs.Printed.{line_feed, plan_text};
 ghost use Rattle.shred_stage.specs.Prints.{IsPrinted};
-ghost use Rattle.shred_stage.specs.Setups.{dispatch_fault};
-ghost use Rattle.shred_stage.specs.Situations.{dispatch_answer, stages_with};
+ghost use Rattle.shred_stage.specs.Situations.{dispatch_answer};
 ghost use Rattle.shred_stage.specs.StagePlan.{plan_of, widest};
 ghost use Rattle.shred.specs.Dispatchers.{dispatcher_locals, dispatcher_over, dispatcher_plan, dispatcher_states, dispatcher_workers};
-ghost use Rattle.shred.specs.FullRuns.{FullyDispatched, IsRefusedBy, RunsNow, whole_over, whole_with};
+ghost use Rattle.shred.specs.FullRuns.{FullyDispatched, IsRefusedBy, RunsNow, whole_of, whole_over, whole_with};
 ghost use Rattle.shred.specs.LocalRuns.{LocalsRun};
-ghost use Rattle.shred.specs.Setups.{DisposesNow, IsDisposedOf, IsSetUp, SetsUpNow, StageDisposalAt};
+ghost use Rattle.shred.specs.Setups.{DisposesNow, IsDisposedOf, IsSetUp, SetsUpNow};
 ghost use Rattle.shred.specs.SystemNames.{names_known, names_pairs};
 ghost use Rattle.shred.specs.ThreadLocals.{systems_of};
 ghost use Rattle.shred_world.specs.Worlds.{local_held, world_held};
 
 use crate::dispatch::names::SystemNames;
-use crate::now::Now;
-use crate::run_now::RunNow;
 use crate::thread_local::ThreadLocal;
 use shred_run::first::first;
-use shred_run::{BatchController, Fault, NoBatch, System};
-use shred_stage::dispatch::plan::{at_stage, run_beside, run_in_order};
-use shred_stage::dispatch::printing::print;
-use shred_stage::{DispatchError, PlanSink, PrintError, Stage};
+use shred_run::{BatchController, Fault, NoBatch, Now, RunNow, System};
+use shred_stage::{DispatchError, Plan, PlanSink, PrintError, Stage};
 use shred_world::{LocalWorld, ResourceValue, World};
 use std::thread::Threads;
 
@@ -42,7 +36,7 @@ pub struct Dispatcher<
     C: BatchController<V> = NoBatch<<S as System<V>>::Error>,
     L = Now<S>,
 > {
-    pub(crate) stages: Vec<Stage<V, S, C>>,
+    pub(crate) plan: Plan<V, S, C>,
     pub(crate) thread_local: ThreadLocal<L>,
     pub(crate) workers: usize,
 }
@@ -60,23 +54,10 @@ pub fn new_dispatcher<V: ResourceValue, S: System<V>, C: BatchController<V>, L>(
     ensures workers { dispatcher_workers result ≡ workers }
 {
     Dispatcher {
-        stages,
+        plan: Plan { stages },
         thread_local,
         workers,
     }
-}
-
-// The greatest number of groups in a stage.
-fn widest_of<V: ResourceValue, S: System<V>, C: BatchController<V>>(
-    stages: &Vec<Stage<V, S, C>>,
-) -> usize
-    ensures { result ≡ widest (plan_of stages.now.items) }
-{
-    let mut most: usize = 0;
-    for place in 0..stages.len() {
-        most = most.max(stages[place].max_threads());
-    }
-    most
 }
 
 impl<V: ResourceValue, S: System<V>, C: BatchController<V>, L> Dispatcher<V, S, C, L> {
@@ -84,23 +65,14 @@ impl<V: ResourceValue, S: System<V>, C: BatchController<V>, L> Dispatcher<V, S, 
     pub fn max_threads(&self) -> usize
         ensures { result ≡ widest (dispatcher_plan self.now) }
     {
-        widest_of(&self.stages)
+        self.plan.max_threads()
     }
 
-    /// The stages, the thread-local systems and the number of workers, of which `new_dispatcher` makes a dispatcher. It takes
-    /// no memory.
-    pub fn into_parts(self) -> (Vec<Stage<V, S, C>>, ThreadLocal<L>, usize)
-        ensures plan { plan_of result.0.items ≡ dispatcher_plan self }
-        ensures states { (path : Agent) → plan_states result.0.items path ≡ dispatcher_states self path }
-        ensures locals { systems_of result.1 ≡ dispatcher_locals self }
-        ensures workers { result.2 ≡ dispatcher_workers self }
+    /// The plan that it runs.
+    pub fn plan(&self) -> &Plan<V, S, C>
+        ensures { result.now ≡ self.now.plan }
     {
-        let Dispatcher {
-            stages,
-            thread_local,
-            workers,
-        } = self;
-        (stages, thread_local, workers)
+        &self.plan
     }
 
     /// Puts the plan's text and a line feed into the sink, with the names of the builder. Where a system has no name,
@@ -115,58 +87,28 @@ impl<V: ResourceValue, S: System<V>, C: BatchController<V>, L> Dispatcher<V, S, 
             IsPrinted W.told W.failures sink.old sink.new (first_unnamed pairs (plan_ids plan)) (plan_text pairs plan ++ line_feed) result }
         ensures names { AreNames (names_pairs names.now) (names_known names.now) }
     {
-        print(sink, &names.names, &self.stages, b"\n")
+        self.plan.print(sink, &names.names, b"\n")
     }
 }
 
-/// The setups of stages, in order, up to the first that is not Done.
-pub fn set_up_stages<
+// The setup of a plan, and where that was Done of these thread-local systems.
+pub(crate) fn set_up_both<
     V: ResourceValue + Drop,
     S: System<V, Error = E> + Drop,
     C: BatchController<V, Error = E> + Drop,
+    L: RunNow<V, Error = E> + Drop,
     E: Drop,
->(stages: &mut [Stage<V, S, C>], world: &mut World<V>) -> Result<(), DispatchError<E>>
-    ensures { SetUp (setups_of (lists_of S.reads S.writes C.reads C.writes) S.sets_up C.sets_up) dispatch_fault (stages_with stages.old (world_held V.kind_of world.old)) result (stages_with stages.new (world_held V.kind_of world.new)) }
+>(
+    plan: &mut Plan<V, S, C>,
+    thread_local: &mut ThreadLocal<L>,
+    world: &mut World<V>,
+) -> Result<(), DispatchError<E>>
+    ensures { (workers : ℕ) → IsSetUp (setups_of (lists_of S.reads S.writes C.reads C.writes) S.sets_up C.sets_up) L.sets_up (whole_of plan.old thread_local.old workers (world_held V.kind_of world.old)) result (whole_of plan.new thread_local.new workers (world_held V.kind_of world.new)) }
 {
-    for (place, stage) in stages.iter_mut().enumerate() {
-        if let Err(fault) = stage.setup(world) {
-            return Err(at_stage(place, fault));
-        }
+    match plan.setup(world) {
+        Ok(()) => thread_local.setup(world),
+        Err(error) => Err(error),
     }
-    Ok(())
-}
-
-// The disposal of the stage at this place.
-fn dispose_of_stage<
-    V: ResourceValue + Drop,
-    S: System<V, Error = E> + Drop,
-    C: BatchController<V, Error = E> + Drop,
-    E: Drop,
->(place: usize, stage: Stage<V, S, C>, world: &mut World<V>) -> Result<(), DispatchError<E>>
-    ensures { StageDisposalAt S.disposes place stage (world_held V.kind_of world.old) result (world_held V.kind_of world.new) }
-{
-    match stage.dispose(world) {
-        Ok(()) => Ok(()),
-        Err(fault) => Err(at_stage(place, fault)),
-    }
-}
-
-// The disposals of all stages, in order, with the first answer that is not Done.
-fn dispose_of_stages<
-    V: ResourceValue + Drop,
-    S: System<V, Error = E> + Drop,
-    C: BatchController<V, Error = E> + Drop,
-    E: Drop,
->(stages: Vec<Stage<V, S, C>>, world: &mut World<V>) -> Result<(), DispatchError<E>>
-    ensures { DisposedOf S.disposes dispatch_fault (stages_with stages.items (world_held V.kind_of world.old)) result (world_held V.kind_of world.new) }
-{
-    let mut answer = Ok(());
-    let mut place = 0;
-    for stage in stages {
-        answer = first(answer, dispose_of_stage(place, stage, world));
-        place += 1;
-    }
-    answer
 }
 
 // A dispatch's answer, as the outcome of one run.
@@ -216,7 +158,7 @@ impl<
         ensures locals { dispatcher_locals self.new ≡ dispatcher_locals self.old }
         ensures workers { dispatcher_workers self.new ≡ dispatcher_workers self.old }
     {
-        run_in_order(self.stages.as_mut_slice(), world.local())
+        self.plan.run_in_order(world.local())
     }
 }
 
@@ -232,10 +174,7 @@ impl<
     pub fn setup(&mut self, world: &mut World<V>) -> Result<(), DispatchError<E>>
         ensures { IsSetUp (setups_of (lists_of S.reads S.writes C.reads C.writes) S.sets_up C.sets_up) L.sets_up (whole_over V.kind_of self.old world.old) result (whole_over V.kind_of self.new world.new) }
     {
-        match set_up_stages(self.stages.as_mut_slice(), world) {
-            Ok(()) => self.thread_local.setup(world),
-            Err(error) => Err(error),
-        }
+        set_up_both(&mut self.plan, &mut self.thread_local, world)
     }
 
     /// Disposes of what stands in the plan, in its order, and then of the thread-local ones, of all of them. The answer
@@ -243,7 +182,7 @@ impl<
     pub fn dispose(self, world: &mut World<V>) -> Result<(), DispatchError<E>>
         ensures { IsDisposedOf S.disposes L.disposes (whole_over V.kind_of self world.old) result (world_held V.kind_of world.new) }
     {
-        let staged = dispose_of_stages(self.stages, world);
+        let staged = self.plan.dispose(world);
         first(staged, self.thread_local.dispose(world))
     }
 }
@@ -256,7 +195,7 @@ impl<
     E: Drop,
 > Dispatcher<V, S, C, L> {
     // `dispatch` on the caller's thread, over what a world holds.
-    fn dispatch_here<R: Threads + Sync>(
+    fn dispatch_in_order<R: Threads + Sync>(
         &mut self,
         rt: &R,
         world: &mut LocalWorld<V>,
@@ -264,7 +203,7 @@ impl<
         ensures dispatched { FullyDispatched V.kind_of (relations_of (lists_of S.reads S.writes C.reads C.writes) S.step C.begins C.asks) L.runs (whole_with self.old (local_held V.kind_of world.old)) result (whole_with self.new (local_held V.kind_of world.new)) }
         ensures kinds { KeepsKinds V.kind_of (local_held V.kind_of world.old) (local_held V.kind_of world.new) }
     {
-        match run_in_order(self.stages.as_mut_slice(), world) {
+        match self.plan.run_in_order(world) {
             Ok(()) => self.thread_local.run(rt, world),
             Err(error) => Err(error),
         }
@@ -291,7 +230,7 @@ impl<
         rt: &R,
         world: &mut LocalWorld<V>,
     ) -> Result<(), Fault<DispatchError<E>>> {
-        as_run(self.dispatch_here(rt, world))
+        as_run(self.dispatch_in_order(rt, world))
     }
 
     fn setup(&mut self, world: &mut World<V>) -> Result<(), Fault<DispatchError<E>>> {
@@ -326,7 +265,7 @@ where
         ensures locals { dispatcher_locals self.new ≡ dispatcher_locals self.old }
         ensures workers { dispatcher_workers self.new ≡ dispatcher_workers self.old }
     {
-        run_beside(rt, self.stages.as_mut_slice(), world.local(), self.workers)
+        self.plan.run_beside(rt, world.local(), self.workers)
     }
 }
 
@@ -342,7 +281,7 @@ where
     C::Accessor: Send,
 {
     // `dispatch`, over what a world holds.
-    fn dispatch_local<R: Threads + Sync>(
+    fn dispatch_beside<R: Threads + Sync>(
         &mut self,
         rt: &R,
         world: &mut LocalWorld<V>,
@@ -350,7 +289,7 @@ where
         ensures dispatched { FullyDispatched V.kind_of (relations_of (lists_of S.reads S.writes C.reads C.writes) S.step C.begins C.asks) L.runs (whole_with self.old (local_held V.kind_of world.old)) result (whole_with self.new (local_held V.kind_of world.new)) }
         ensures kinds { KeepsKinds V.kind_of (local_held V.kind_of world.old) (local_held V.kind_of world.new) }
     {
-        match run_beside(rt, self.stages.as_mut_slice(), world, self.workers) {
+        match self.plan.run_beside(rt, world, self.workers) {
             Ok(()) => self.thread_local.run(rt, world),
             Err(error) => Err(error),
         }
@@ -365,7 +304,7 @@ where
         ensures dispatched { FullyDispatched V.kind_of (relations_of (lists_of S.reads S.writes C.reads C.writes) S.step C.begins C.asks) L.runs (whole_over V.kind_of self.old world.old) result (whole_over V.kind_of self.new world.new) }
         ensures kinds { KeepsKinds V.kind_of (world_held V.kind_of world.old) (world_held V.kind_of world.new) }
     {
-        self.dispatch_local(rt, world.local())
+        self.dispatch_beside(rt, world.local())
     }
 
     /// `dispatch`, over what a world holds, with each refusal as `Refused`. The `RunNow` of a dispatcher runs the same plan
@@ -378,6 +317,6 @@ where
         ensures run { RunsNow V.kind_of (relations_of (lists_of S.reads S.writes C.reads C.writes) S.step C.begins C.asks) L.runs (whole_with self.old (local_held V.kind_of world.old)) result (whole_with self.new (local_held V.kind_of world.new)) }
         ensures kinds { KeepsKinds V.kind_of (local_held V.kind_of world.old) (local_held V.kind_of world.new) }
     {
-        as_run(self.dispatch_local(rt, world))
+        as_run(self.dispatch_beside(rt, world))
     }
 }

@@ -1,5 +1,5 @@
 -- Runs of stages, one after the other, leave what a dispatch promises.
-use Rattle.std.proofs.Common.{◌≡◌, ℕ, ◌<◌, ◌≤◌, ◌+◌, List, [], ◌∷◌, All, length, get_or, set, Ok, Err, refl, sym, ◌∙◌, arith}
+use Rattle.std.proofs.Common.{◌≡◌, ℕ, ◌<◌, ◌≤◌, ◌+◌, List, [], ◌∷◌, All, length, get_or, set, Ok, Err, refl, sym, subst, ◌∙◌, arith}
 use Rattle.std.proofs.Math.Seq.{map-set_same}
 use Rattle.std.proofs.lemmas.List.Elements.{All-nil, All-cons}
 use Rattle.shred_model.specs.Beside.{AreApart}
@@ -71,22 +71,25 @@ module _ {V S C N A M B E F : Type 0} {vd : _} {sd : _} {ad : _} {cd : _} {bd : 
   pub stages-end : length stages ≤ n → Dispatched kind related answers (stages_with start before) (Ok tt) (stages_with stages now)
   stages-end past = stages-dispatched kind related declared own apart answers tells start stages before now (Ok tt) (SoFar-end (ToldTurn kind (OwnStep kind related) answers) stage_plan stage_states stages now so_far.plan so_far.ran past) so_far.plan so_far.kinds
 
-  module _ (d new : Stage V S C N A M B vd sd ad cd bd) (below : n < length stages) {answer : Answer (StageFault E)} {after : Held V} (took : StageTook kind related (get_or stages n d) now answer new after) where
+  module _ (d new : Stage V S C N A M B vd sd ad cd bd) (below : n < length stages) (is : d ≡ get_or stages n d) {answer : Answer (StageFault E)} {after : Held V} (took_it : StageTook kind related d now answer new after) where
+    took : StageTook kind related (get_or stages n d) now answer new after
+    took = subst (λ (stage : Stage V S C N A M B vd sd ad cd bd). StageTook kind related stage now answer new after) is took_it
+
     plan-stays : plan_of (set stages n new) ≡ plan_of start
     plan-stays = map-set_same stage_plan stages n new d took.plan ∙ so_far.plan
 
     -- a fault ends the run of all
     pub stages-fault : (fault : F) → Err fault ≡ answers n answer → Dispatched kind related answers (stages_with start before) (Err fault) (stages_with (set stages n new) after)
-    stages-fault fault is = stages-dispatched kind related declared own apart answers tells start (set stages n new) before after (Err fault)
-        (SoFar-fault (ToldTurn kind (OwnStep kind related) answers) stage_plan stage_states stages now so_far.plan so_far.ran d new after below fault (turn-told kind related answers n (stage_plan (get_or stages n d)) _ _ answer (Err fault) is took.ran))
+    stages-fault fault told = stages-dispatched kind related declared own apart answers tells start (set stages n new) before after (Err fault)
+        (SoFar-fault (ToldTurn kind (OwnStep kind related) answers) stage_plan stage_states stages now so_far.plan so_far.ran d new after below fault (turn-told kind related answers n (stage_plan (get_or stages n d)) _ _ answer (Err fault) told took.ran))
         plan-stays (λ id. took.kinds id ∙ so_far.kinds id)
 
     -- one that is Done brings them a place further
     pub stages-more : Ok tt ≡ answers n answer → StagesRan kind related answers start before (n + 1) (set stages n new) after
-    stages-more is = record {
+    stages-more told = record {
       plan = plan-stays;
       kinds = λ id. took.kinds id ∙ so_far.kinds id;
-      ran = SoFar-more (ToldTurn kind (OwnStep kind related) answers) stage_plan stage_states stages now so_far.plan so_far.ran d new after below (turn-told kind related answers n (stage_plan (get_or stages n d)) _ _ answer (Ok tt) is took.ran);
+      ran = SoFar-more (ToldTurn kind (OwnStep kind related) answers) stage_plan stage_states stages now so_far.plan so_far.ran d new after below (turn-told kind related answers n (stage_plan (get_or stages n d)) _ _ answer (Ok tt) told took.ran);
     }
 
 -- a stage alone, as the plan of that one stage
@@ -94,5 +97,5 @@ pub stage-dispatched : {V S C N A M B E : Type 0} {vd : _} {sd : _} {ad : _} {cd
     (own : (stage : Stage V S C N A M B vd sd ad cd bd) → All (IsGroupOf (OwnsItself declared)) stage.groups.items) (apart : (stage : Stage V S C N A M B vd sd ad cd bd) → AreApart model.group_access (stage_plan stage))
     (old new : Stage V S C N A M B vd sd ad cd bd) (before after : Held V) (answer : Answer (StageFault E)) → StageTook kind related old before answer new after → Dispatched kind related stage_answer (stages_with (old ∷ []) before) answer (stages_with (new ∷ []) after)
 stage-dispatched kind related declared own apart old new before after (Ok done) took =
-    stages-end (stages-more (stages-start kind related stage_answer (old ∷ []) before) stage-tells declared own apart old new (omega arith) took refl) stage-tells declared own apart (omega arith)
-stage-dispatched kind related declared own apart old new before after (Err fault) took = stages-fault (stages-start kind related stage_answer (old ∷ []) before) stage-tells declared own apart old new (omega arith) took fault refl
+    stages-end (stages-more (stages-start kind related stage_answer (old ∷ []) before) stage-tells declared own apart old new (omega arith) refl took refl) stage-tells declared own apart (omega arith)
+stage-dispatched kind related declared own apart old new before after (Err fault) took = stages-fault (stages-start kind related stage_answer (old ∷ []) before) stage-tells declared own apart old new (omega arith) refl took fault refl

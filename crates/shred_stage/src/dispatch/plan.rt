@@ -1,15 +1,37 @@
-//! The stages of a plan, one after the other.
-ghost use Rattle.std.specs.Prelude.{◌≡◌, Err};
+//! The plan that a dispatcher runs: stages, one after the other.
+ghost use Rattle.std.specs.Prelude.{◌≡◌, ◌++◌, Err};
+ghost use Rattle.shred_model.specs.Plan.{plan_ids};
 ghost use Rattle.shred_run.specs.Depths.{lists_of, relations_of};
 ghost use Rattle.shred_run.specs.Dispatched.{Dispatched};
-ghost use Rattle.shred_stage.specs.Situations.{dispatch_answer, stages_with};
-ghost use Rattle.shred_world.specs.Worlds.{local_held};
+ghost use Rattle.shred_run.specs.PlanSetups.{DisposedOf, SetUp};
+ghost use Rattle.shred_run.specs.WorkSetups.{setups_of};
+ghost use Rattle.shred_stage.specs.Names.{first_unnamed, named_ids};
+ghost use Rattle.shred_stage.specs.Printed.{plan_text};
+ghost use Rattle.shred_stage.specs.Prints.{IsPrinted};
+ghost use Rattle.shred_stage.specs.Setups.{StageDisposalAt, dispatch_fault};
+ghost use Rattle.shred_stage.specs.Situations.{dispatch_answer, plan_with};
+ghost use Rattle.shred_stage.specs.StagePlan.{plan_of, widest};
+ghost use Rattle.shred_world.specs.Worlds.{local_held, world_held};
 
 use crate::dispatch::dispatch_error::DispatchError;
+use crate::dispatch::printing::{PrintError, print};
+use crate::dispatch::sink::PlanSink;
 use crate::dispatch::stage::Stage;
-use shred_run::{BatchController, StageFault, System};
-use shred_world::{LocalWorld, ResourceValue};
+use shred_run::first::first;
+use shred_run::{BatchController, NoBatch, StageFault, System, SystemId};
+use shred_world::{LocalWorld, ResourceValue, World};
+use std::collections::HashMap;
 use std::thread::Threads;
+
+/// Stages that run one after the other.
+#[derive(Drop)]
+pub struct Plan<
+    V: ResourceValue,
+    S: System<V>,
+    C: BatchController<V> = NoBatch<<S as System<V>>::Error>,
+> {
+    pub stages: Vec<Stage<V, S, C>>,
+}
 
 /// A dispatch's error for the fault of its stage at this place.
 pub fn at_stage<E>(stage: usize, fault: StageFault<E>) -> DispatchError<E>
@@ -21,46 +43,125 @@ pub fn at_stage<E>(stage: usize, fault: StageFault<E>) -> DispatchError<E>
     }
 }
 
-/// Runs the stages, one after the other, up to the first that is not Done, on the caller's thread.
-pub fn run_in_order<
+impl<V: ResourceValue, S: System<V>, C: BatchController<V>> Plan<V, S, C> {
+    /// The greatest number of groups in a stage, 0 where there is none.
+    pub fn max_threads(&self) -> usize
+        ensures { result ≡ widest (plan_of self.now.stages.items) }
+    {
+        let mut most: usize = 0;
+        for place in 0..self.stages.len() {
+            most = most.max(self.stages[place].max_threads());
+        }
+        most
+    }
+
+    /// Puts the plan's text and what follows it into the sink, with these names. Where a system has no name, nothing is put,
+    /// and the answer is `Unnamed` with the first such id in the plan's order. Where the sink fails, it is `Write`, and a
+    /// beginning of the text was put. It takes no memory.
+    pub fn print<W: PlanSink>(
+        &self,
+        sink: &mut W,
+        names: &HashMap<String, SystemId>,
+        end: &[u8],
+    ) -> Result<(), PrintError>
+        ensures { let plan = plan_of self.now.stages.items in let pairs = named_ids names.now in
+            IsPrinted W.told W.failures sink.old sink.new (first_unnamed pairs (plan_ids plan)) (plan_text pairs plan ++ end.now) result }
+    {
+        print(sink, names, &self.stages, end)
+    }
+}
+
+impl<
     V: ResourceValue + Drop,
     S: System<V, Error = E>,
     C: BatchController<V, Error = E>,
     E: Drop,
->(stages: &mut [Stage<V, S, C>], world: &mut LocalWorld<V>) -> Result<(), DispatchError<E>>
-    ensures { Dispatched V.kind_of (relations_of (lists_of S.reads S.writes C.reads C.writes) S.step C.begins C.asks) dispatch_answer (stages_with stages.old (local_held V.kind_of world.old)) result (stages_with stages.new (local_held V.kind_of world.new)) }
-{
-    for place in 0..stages.len() {
-        if let Err(fault) = stages[place].turn_in_order(world) {
-            return Err(at_stage(place, fault));
+> Plan<V, S, C> {
+    /// Runs the stages, one after the other, up to the first that is not Done, on the caller's thread.
+    pub fn run_in_order(&mut self, world: &mut LocalWorld<V>) -> Result<(), DispatchError<E>>
+        ensures { Dispatched V.kind_of (relations_of (lists_of S.reads S.writes C.reads C.writes) S.step C.begins C.asks) dispatch_answer (plan_with self.old (local_held V.kind_of world.old)) result (plan_with self.new (local_held V.kind_of world.new)) }
+    {
+        for place in 0..self.stages.len() {
+            if let Err(fault) = self.stages[place].turn_in_order(world) {
+                return Err(at_stage(place, fault));
+            }
         }
+        Ok(())
     }
-    Ok(())
 }
 
-/// The same, the groups of each stage, and of each stage of an inner plan, beside each other on at most `workers` threads, the
-/// caller's among them.
-pub fn run_beside<
-    R: Threads + Sync,
+impl<
     V: ResourceValue + Drop + Send + Sync,
     S: System<V, Error = E> + Send,
     C: BatchController<V, Error = E> + Send,
     E: Drop + Send,
->(
-    rt: &R,
-    stages: &mut [Stage<V, S, C>],
-    world: &mut LocalWorld<V>,
-    workers: usize,
-) -> Result<(), DispatchError<E>>
+> Plan<V, S, C>
 where
     S::Accessor: Send,
     C::Accessor: Send,
-    ensures { Dispatched V.kind_of (relations_of (lists_of S.reads S.writes C.reads C.writes) S.step C.begins C.asks) dispatch_answer (stages_with stages.old (local_held V.kind_of world.old)) result (stages_with stages.new (local_held V.kind_of world.new)) }
 {
-    for place in 0..stages.len() {
-        if let Err(fault) = stages[place].turn_beside(rt, world, workers) {
-            return Err(at_stage(place, fault));
+    /// The same, the groups of each stage, and of each stage of an inner plan, beside each other on at most `workers` threads,
+    /// the caller's among them.
+    pub fn run_beside<R: Threads + Sync>(
+        &mut self,
+        rt: &R,
+        world: &mut LocalWorld<V>,
+        workers: usize,
+    ) -> Result<(), DispatchError<E>>
+        ensures { Dispatched V.kind_of (relations_of (lists_of S.reads S.writes C.reads C.writes) S.step C.begins C.asks) dispatch_answer (plan_with self.old (local_held V.kind_of world.old)) result (plan_with self.new (local_held V.kind_of world.new)) }
+    {
+        for place in 0..self.stages.len() {
+            if let Err(fault) = self.stages[place].turn_beside(rt, world, workers) {
+                return Err(at_stage(place, fault));
+            }
         }
+        Ok(())
     }
-    Ok(())
+}
+
+impl<
+    V: ResourceValue + Drop,
+    S: System<V, Error = E> + Drop,
+    C: BatchController<V, Error = E> + Drop,
+    E: Drop,
+> Plan<V, S, C> {
+    /// Sets up what stands in the plan, in its order, up to the first that is not Done. What was done before it stays.
+    pub fn setup(&mut self, world: &mut World<V>) -> Result<(), DispatchError<E>>
+        ensures { SetUp (setups_of (lists_of S.reads S.writes C.reads C.writes) S.sets_up C.sets_up) dispatch_fault (plan_with self.old (world_held V.kind_of world.old)) result (plan_with self.new (world_held V.kind_of world.new)) }
+    {
+        for place in 0..self.stages.len() {
+            if let Err(fault) = self.stages[place].setup(world) {
+                return Err(at_stage(place, fault));
+            }
+        }
+        Ok(())
+    }
+
+    /// Disposes of what stands in the plan, in its order, of all of it. The answer is the first that is not Done.
+    pub fn dispose(self, world: &mut World<V>) -> Result<(), DispatchError<E>>
+        ensures { DisposedOf S.disposes dispatch_fault (plan_with self (world_held V.kind_of world.old)) result (world_held V.kind_of world.new) }
+    {
+        let mut answer = Ok(());
+        let mut place = 0;
+        for stage in self.stages {
+            answer = first(answer, dispose_of_stage(place, stage, world));
+            place += 1;
+        }
+        answer
+    }
+}
+
+// The disposal of the stage at this place.
+fn dispose_of_stage<
+    V: ResourceValue + Drop,
+    S: System<V, Error = E> + Drop,
+    C: BatchController<V, Error = E> + Drop,
+    E: Drop,
+>(place: usize, stage: Stage<V, S, C>, world: &mut World<V>) -> Result<(), DispatchError<E>>
+    ensures { StageDisposalAt S.disposes place stage (world_held V.kind_of world.old) result (world_held V.kind_of world.new) }
+{
+    match stage.dispose(world) {
+        Ok(()) => Ok(()),
+        Err(fault) => Err(at_stage(place, fault)),
+    }
 }

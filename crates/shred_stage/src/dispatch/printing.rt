@@ -244,8 +244,8 @@ pub(crate) fn put_plan<W: PlanSink, V: ResourceValue, S: System<V>, C: BatchCont
     put_all(sink, b"]\n")
 }
 
-/// Puts the plan's text and what follows it into the sink, as `write_par_seq` does. It is there for `Dispatcher`.
-pub fn print<W: PlanSink, V: ResourceValue, S: System<V>, C: BatchController<V>>(
+/// Puts the plan's text and what follows it into the sink, as `write_par_seq` does.
+pub(crate) fn print<W: PlanSink, V: ResourceValue, S: System<V>, C: BatchController<V>>(
     sink: &mut W,
     names: &HashMap<String, SystemId>,
     stages: &Vec<Stage<V, S, C>>,

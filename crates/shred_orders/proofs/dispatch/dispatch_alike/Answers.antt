@@ -18,7 +18,7 @@ returns g c =
     let after = whole_over kind c.dispatch-one.new.self c.dispatch-one.new.world in
     let end = whole_over kind c.dispatch-two.new.self c.dispatch-two.new.world in
     let sound = world-of-kinds kind c.args.world.now in
-    let owns = own-plan declared (λ stage. stage.groups.items) (λ stage. stage.own_lists) c.args.first.now.stages.items in
+    let owns = own-plan declared (λ stage. stage.groups.items) (λ stage. stage.own_lists) c.args.first.now.plan.stages.items in
     let keep : KeepDeclared related declared = record { steps = λ old seen answer new left lies. lies.1; begins = λ old seen answer new left lies. lies.1; asks = λ old seen answer new left lies. lies.1 } in
     record {
       ran = ran;

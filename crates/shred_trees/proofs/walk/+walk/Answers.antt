@@ -1,18 +1,49 @@
-use Rattle.std.proofs.Common.{◌&&◌, Bool, List, [], ◌∷◌, refl, sym, ◌∙◌, ap, subst, arith}
+use Rattle.std.proofs.Common.{◌≡◌, ◌&&◌, ◌||◌, Bool, List, [], ◌∷◌, None, cond, refl, sym, ◌∙◌, ap, subst, arith, rules}
 use Rattle.std.specs.Prelude.{is_some, IsTrue}
 use Rattle.std.specs.List.{AllZip}
 use Rattle.shred_table.specs.declared.id.ResourceId.{ResourceId}
 use Rattle.shred_table.specs.declared.table.Table.{Table}
-use Rattle.shred_table.specs.Parts.{Pair, writes_of, written_by, Fits, HoldsSameIds, IsJoined}
+use Rattle.shred_table.specs.Parts.{Pair, declares, writes_of, written_by, Fits, HoldsSameIds, IsJoined}
 use Rattle.shred_table.specs.Shown.{Lent}
-use Rattle.shred_table.specs.Slots.{among, slot_at}
-use Rattle.shred_world.specs.Beside.{lent_behind}
-use Rattle.shred_world.specs.Views.{may_write, view_slot}
+use Rattle.shred_table.specs.Slots.{among, slot_at, slot_held}
+use Rattle.shred_world.specs.Beside.{lent_behind, pair_behind, part_slot}
+use Rattle.shred_world.specs.Views.{behind_slot, lent_to, may_write, view_held, view_slot}
+use Rattle.shred_world.specs.Worked.{Held, part_held}
 use Rattle.shred_world.proofs.Parted.Hands.{fit-again}
 use Rattle.shred_trees.specs.Parted.{TwoRan}
+use Rattle.shred_trees.specs.Trees.{tree_access}
+use Rattle.shred_run.specs.Steps.{declared_of}
 use Rattle.shred_trees.proofs.Joined.{pairs-apart, two-all, two-given_back, two-ids, two-joined, two-ran, two-ready, two-slots}
 use Rattle.shred_trees.proofs.Walked.{leaf-ran, turn-done, turn-failed, beside-done}
 use Rattle.shred_trees.proofs.walk.+walk.Goals as goal
+
+pub run_part-returns : goal.run_part-returns
+run_part-returns g t c =
+    let kind = g.V.ResourceValue.kind_of in
+    let trees = g.T.RunWithPool.trees in
+    let tree = c.args.tree in
+    let p = pair_behind c.args.behind.now c.args.number in
+    let behind = lent_behind c.args.behind.now in
+    let v = c.view-view.result in
+    let n = c.walk.new.view in
+    let made = c.view-view.ensures in
+    let ran = c.walk.ensures in
+    let same = ran.view in
+    let tie : c.hand-1.given.0 ≡ n.own.now = c.hand-1.given.1 (sym (same.table ∙ made.name)) in
+    let lent : (q : ResourceId) → lent_to v q ≡ behind q = λ q i. behind_slot (made.over.base i) (made.over.shelf i) q in
+    let before : (q : ResourceId) → view_held kind v q ≡ slot_held kind q (part_slot behind p c.args.hand.now q) = λ q i. slot_held kind q (cond (made.own q i) (made.over.slots q i) (lent q i)) in
+    let after : (q : ResourceId) → view_held kind n q ≡ slot_held kind q (part_slot behind p c.hand-1.given.0 q) = λ q i. slot_held kind q (cond ((same.own q ∙ made.own q) i) (slot_at (sym tie i) q) ((same.shelf q ∙ lent q) i)) in
+    let listed : (q : ResourceId) → (among (trees.reads tree) q || among (trees.writes tree) q) ≡ declares p q = λ q i. among (sym c.requires.pair.reads i) q || among (sym c.requires.pair.writes i) q in
+    record {
+      lies = subst (λ (s : Held g.row.V.Denot). trees.runs tree s c.walk.result.1 c.walk.result.0 (part_held kind behind p c.hand-1.given.0)) (λ i q. cond (listed q i) (before q i) None)
+          (subst (λ (s : Held g.row.V.Denot). trees.runs tree (declared_of (tree_access trees tree) (view_held kind v)) c.walk.result.1 c.walk.result.0 s) (λ i q. cond (listed q i) (after q i) None) ran.lies);
+      frame = λ q un. λ i. cond (declares p q) ((sym (after q) ∙ ran.frame q ((λ j. among (sym c.requires.pair.writes j) q) ∙ un) ∙ before q) i) None;
+      slots = search rules;
+      given_back = search rules;
+      ids = search rules;
+      same_reads = ran.same_reads;
+      same_writes = ran.same_writes;
+    }
 
 pub run_listed-part-requires-clause-apart : goal.run_listed-part-requires-clause-apart
 run_listed-part-requires-clause-apart g t c =
@@ -91,10 +122,10 @@ pub walk-rejoin-requires-in-Err : goal.walk-rejoin-requires-in-Err
 walk-rejoin-requires-in-Err g t c = (turn-failed {E = g.row.E.Denot} _ _ _ _ _ _ _ c.walk-first.result.0 _ _ c.args.view.now c.in-InTurn.ensures _ _ c.in-Err.is c.walk-first.ensures).0
 
 pub walk-rejoin-requires-in-Beside : goal.walk-rejoin-requires-in-Beside
-walk-rejoin-requires-in-Beside g t c = (beside-done {E = g.row.E.Denot} _ _ _ _ _ _ _ _ _ c.args.view.now _ c.in-Beside.ensures c.run_beside-first.result.2 c.run_beside-first.ensures).0
+walk-rejoin-requires-in-Beside g t c = (beside-done {E = g.row.E.Denot} _ _ _ _ _ _ _ _ _ c.args.view.now _ c.in-Beside.ensures c.run_two-first.result.2 c.run_two-first.ensures).0
 
 pub walk-returns-in-Leaf : goal.walk-returns-in-Leaf
-walk-returns-in-Leaf g t c = leaf-ran {E = g.row.E.Denot} _ _ _ _ _ c.run_here-outcome.result _ _ c.in-Leaf.ensures c.run_here-outcome.ensures
+walk-returns-in-Leaf g t c = leaf-ran {E = g.row.E.Denot} _ _ _ _ _ c.run_in_order-outcome.result _ _ c.in-Leaf.ensures c.run_in_order-outcome.ensures
 
 pub walk-returns-in-Ok : goal.walk-returns-in-Ok
 walk-returns-in-Ok g t c = (turn-done {E = g.row.E.Denot} _ _ _ _ _ _ _ _ _ _ _ c.in-InTurn.ensures _ c.walk-second.result.1 c.in-Ok.is c.walk-first.ensures c.walk-second.ensures).1 _ c.rejoin.ensures
@@ -103,4 +134,4 @@ pub walk-returns-in-Err : goal.walk-returns-in-Err
 walk-returns-in-Err g t c = (turn-failed {E = g.row.E.Denot} _ _ _ _ _ _ _ c.walk-first.result.0 _ _ c.args.view.now c.in-InTurn.ensures _ _ c.in-Err.is c.walk-first.ensures).1 _ c.rejoin-in-Err.ensures
 
 pub walk-returns-in-Beside : goal.walk-returns-in-Beside
-walk-returns-in-Beside g t c = (beside-done {E = g.row.E.Denot} _ _ _ _ _ _ _ _ _ c.args.view.now _ c.in-Beside.ensures c.run_beside-first.result.2 c.run_beside-first.ensures).1 _ c.rejoin-in-Beside.ensures
+walk-returns-in-Beside g t c = (beside-done {E = g.row.E.Denot} _ _ _ _ _ _ _ _ _ c.args.view.now _ c.in-Beside.ensures c.run_two-first.result.2 c.run_two-first.ensures).1 _ c.rejoin-in-Beside.ensures

@@ -16,8 +16,8 @@ decreases-run_parts g l = 8 * (g.T.RunWithPool.pieces.size l.first + g.T.RunWith
 abbrev pub decreases-run_listed : goal.decreases-run_listed
 decreases-run_listed g l = 8 * (g.T.RunWithPool.pieces.size l.first + g.T.RunWithPool.pieces.size l.second) + 6
 
-abbrev pub decreases-run_beside : goal.decreases-run_beside
-decreases-run_beside g l = 8 * (g.T.RunWithPool.pieces.size l.first + g.T.RunWithPool.pieces.size l.second) + 7
+abbrev pub decreases-run_two : goal.decreases-run_two
+decreases-run_two g l = 8 * (g.T.RunWithPool.pieces.size l.first + g.T.RunWithPool.pieces.size l.second) + 7
 
 abbrev pub decreases-walk : goal.decreases-walk
 decreases-walk g l = 8 * g.T.RunWithPool.pieces.size l.tree

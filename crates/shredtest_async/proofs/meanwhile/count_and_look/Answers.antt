@@ -1,5 +1,5 @@
 use Rattle.std.proofs.Common.{ap, w64, to_z, of_z}
-use Rattle.shred_async.specs.Standing.{state_of}
+use Rattle.shred.specs.AsyncDispatchers.{state_of}
 use Rattle.shred_world.specs.Worlds.{world_held}
 use Rattle.shredexamples.specs.OneSystem.{count_at}
 use Rattle.shredexamples.proofs.Single.{was_ok}

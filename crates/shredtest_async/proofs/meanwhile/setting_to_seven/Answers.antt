@@ -1,6 +1,6 @@
 use Rattle.std.proofs.Common.{[], ◌∷◌, Some, List, Contains, sym, subst, arith, pos}
 use Rattle.shred.specs.Dispatchers.{dispatcher_with}
-use Rattle.shred_async.specs.Standing.{over}
+use Rattle.shred.specs.AsyncDispatchers.{over}
 use Rattle.shred_table.specs.declared.id.ResourceId.{ResourceId}
 use Rattle.shredtest_async.specs.Meanwhile.{LeavesSeven, kind_of}
 use Rattle.shredexamples.specs.OneSystem.{SetsToSeven, count_at}
@@ -12,7 +12,7 @@ use Rattle.shredtest_async.proofs.meanwhile.setting_to_seven.Goals as goal
 
 pub returns : goal.returns
 returns c =
-    let x = over kind_of c.build.result c.new.result 4 c.insert.new.self in
+    let x = over kind_of (record { stages = c.build.result }) c.new.result 4 c.insert.new.self in
     let inserted = on_ok c.insert-2.result c.in_ok-ok-2.field-0 c.in_ok-ok-2.ensures.value c.insert-2.ensures.placed in
     subst LeavesSeven (sym c.new_async.ensures) (
       c.new.ensures,

@@ -1,4 +1,4 @@
 use Rattle.shred.proofs.dispatch.dispatcher.Dispatcher.dispatch.Goals as goal
 
 pub returns-clause-dispatched : goal.returns-clause-dispatched
-returns-clause-dispatched g c = rw c.local.ensures.shown at c.dispatch_local.ensures.dispatched
+returns-clause-dispatched g c = rw c.local.ensures.shown at c.dispatch_beside.ensures.dispatched

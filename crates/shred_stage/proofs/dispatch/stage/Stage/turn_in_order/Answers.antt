@@ -1,4 +1,5 @@
 use Rattle.std.proofs.Common.{◌≡◌, length, sym, subst, rules}
+use Rattle.std.specs.Vec.{with_items}
 use Rattle.std.proofs.lemmas.List.{with_items_is}
 use Rattle.shred_table.specs.Slots.{held}
 use Rattle.shred_world.proofs.Views.Settled.{over-kept, same-settled}
@@ -32,5 +33,5 @@ returns g c =
     let Took = TookTurn kind (OwnStep kind (relations_of (lists_of g.S.System.reads g.S.System.writes g.C.BatchController.reads g.C.BatchController.writes) g.S.System.step g.C.BatchController.begins g.C.BatchController.asks)) (OwnsItself (lists_of g.S.System.reads g.S.System.writes g.C.BatchController.reads g.C.BatchController.writes)) in
     let took = rw c.as_mut_slice-groups.ensures.value at c.turn_in_order-answer.ensures.took in
     let whole = subst (λ groups. Took old.groups.items (held kind first.table) c.turn_in_order-answer.result groups (held kind c.turn_in_order-answer.new.table)) (sym (with_items_is old.groups c.turn_in_order-answer.new.groups same)) took in
-    let ran = over-kept kind (λ before after. Took old.groups.items before c.turn_in_order-answer.result _ after) first c.turn_in_order-answer.new.table c.args.world.now c.keep.new.local c.twin_of_local-twin.ensures.table c.twin_of_local-twin.ensures.settled c.turn_in_order-answer.ensures.slots c.keep.ensures whole in
+    let ran = over-kept kind (λ before after. Took old.groups.items before c.turn_in_order-answer.result (with_items old.groups c.turn_in_order-answer.new.groups).items after) first c.turn_in_order-answer.new.table c.args.world.now c.keep.new.local c.twin_of_local-twin.ensures.table c.twin_of_local-twin.ensures.settled c.turn_in_order-answer.ensures.slots c.keep.ensures whole in
     record { ran = ran.ran; plan = ran.plan; kinds = ran.kinds }

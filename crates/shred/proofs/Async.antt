@@ -1,0 +1,4 @@
+pub mod AtHome
+pub mod Begun
+pub mod Shown
+pub mod Stepped

@@ -1,9 +1,0 @@
-use Rattle.std.proofs.Common.{arith}
-use Rattle.shred_stage.specs.StagePlan.{stage_plan}
-use Rattle.shred.proofs.Planner.Widest.{widest-more}
-use Rattle.shred.proofs.dispatch.dispatcher.widest_of.Goals as goal
-
-pub loop-place-preserved : goal.loop-place-preserved
-loop-place-preserved g c =
-    widest-more stage_plan c.args.stages.now.items c.loop-place.place c.index.result.now c.loop-place.most c.max-most.result (omega (arith, c.loop-place-test.true)) c.index.ensures c.loop-place.invariant
-    (rw c.max_threads.ensures at c.max-most.ensures)

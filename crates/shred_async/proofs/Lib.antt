@@ -1,4 +1,0 @@
-mod AtHome
-mod Begun
-mod Shown
-mod Stepped

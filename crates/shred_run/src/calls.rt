@@ -13,8 +13,8 @@ use crate::loan::Loan;
 use crate::system::{Fault, System};
 use shred_world::{ResourceValue, Table, View};
 
-// One call of a `C` over a view of the ids that it declares, which answers an `A`.
-pub(crate) trait Call<V: ResourceValue, C, A, E> {
+/// One call of a `C` over a view of the ids that it declares, which answers an `A`.
+pub trait Call<V: ResourceValue, C, A, E> {
     ghost use Rattle.shred_world.specs.OwnViews.{IsLent};
     ghost use Rattle.shred_run.specs.Controls.{Control};
     ghost use Rattle.shred_world.specs.Views.{view_held, declared_held, may_write, table_of, IsSameView};
@@ -39,7 +39,7 @@ pub(crate) trait Call<V: ResourceValue, C, A, E> {
 
 /// The `begin` of a controller.
 #[derive(Drop)]
-pub(crate) struct Begin;
+pub struct Begin;
 
 impl<V: ResourceValue, C: BatchController<V, Error = E>, E> Call<V, C, usize, E> for Begin {
     ghost reads_of = { C.reads };
@@ -55,7 +55,7 @@ impl<V: ResourceValue, C: BatchController<V, Error = E>, E> Call<V, C, usize, E>
 
 /// The `again` of a controller.
 #[derive(Drop)]
-pub(crate) struct Ask;
+pub struct Ask;
 
 impl<V: ResourceValue, C: BatchController<V, Error = E>, E> Call<V, C, bool, E> for Ask {
     ghost reads_of = { C.reads };

@@ -55,7 +55,7 @@ fn call_in_hand<V: ResourceValue, C, A, E, K: Call<V, C, A, E>>(
 
 /// One call of the controller. What it writes is moved into its hand before, and back after, so all else can be lent
 /// shared.
-pub(crate) fn call_kept<V: ResourceValue + Drop, C, A, E, K: Call<V, C, A, E>>(
+pub fn call_kept<V: ResourceValue + Drop, C, A, E, K: Call<V, C, A, E>>(
     entry: &mut KeptController<V, C>,
     call: &K,
     loan: &Loan<V>,

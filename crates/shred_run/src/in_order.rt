@@ -8,7 +8,7 @@ ghost use Rattle.shred_table.specs.Slots.{held};
 ghost use Rattle.shred_run.specs.OneBatch.{is_batch, is_one_batch};
 ghost use Rattle.shred_run.specs.Lanes.{IsReady, GroupWent};
 ghost use Rattle.shred_run.specs.OwnLists.{IsEntryOf, IsGroupOf};
-ghost use Rattle.shred_run.specs.OwnSlots.{HasJustSlots, HasSlotsFor, LendsSome, LiesBefore};
+ghost use Rattle.shred_run.specs.OwnSlots.{HasJustSlots, HasSlotsFor, LendsSome, LiesBefore, lent_before};
 ghost use Rattle.shred_run.specs.PlanOf.{entry_plan, groups_plan};
 ghost use Rattle.shred_run.specs.Steppers.{IsStepBy};
 ghost use Rattle.shred_run.specs.BatchRuns.{RanAsBatch};
@@ -394,6 +394,25 @@ fn run_entry<
     } else {
         run_in_own_hand(at, entry, written, shelf, own)
     }
+}
+
+/// The runs of groups over what a table lends shared, one after the other: each over its own hand. The answer is the first, in
+/// their order, that is not Done.
+pub fn groups_over<
+    V: ResourceValue + Drop,
+    S: System<V, Error = E>,
+    C: BatchController<V, Error = E>,
+    E: Drop,
+>(
+    at: Option<usize>,
+    groups: &mut [Group<V, Work<S, Nested<V, S, C>>>],
+    table: &Table<V>,
+) -> Result<(), StageFault<E>>
+    requires { All (IsReady (RuleOwns (lists_of S.reads S.writes C.reads C.writes) at) (lent_before table.now (lent_slot []))) groups.old }
+    ensures { AllWent (GroupWent V.kind_of (RuleStep V.kind_of (relations_of (lists_of S.reads S.writes C.reads C.writes) S.step C.begins C.asks) at) (RuleOwns (lists_of S.reads S.writes C.reads C.writes) at) (lent_before table.now (lent_slot []))) groups.old result groups.new }
+{
+    let nearest = behind(table, &[], &[]);
+    run_groups(at, &nearest, groups)
 }
 
 /// The turn of a stage's groups over what a table holds, one after the other on the caller's thread, what stands in each entry to the depth

@@ -3,7 +3,7 @@
 
 pub mod alone;
 pub mod beside;
-mod calls;
+pub mod calls;
 pub mod control;
 pub mod controller;
 pub mod depth;
@@ -18,7 +18,7 @@ pub mod loan;
 pub mod multi;
 pub mod no_batch;
 pub mod now;
-mod one_batch;
+pub mod one_batch;
 pub mod run_now;
 pub mod setup;
 pub mod sorted;

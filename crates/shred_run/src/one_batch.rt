@@ -13,7 +13,7 @@ fn is_one_batch<V, S, B>(entries: &[GroupEntry<V, Work<S, B>>]) -> bool
 }
 
 /// Whether there is one group, of one batch.
-pub(crate) fn is_lone_batch<V, S, B>(groups: &[Group<V, Work<S, B>>]) -> bool
+pub fn is_lone_batch<V, S, B>(groups: &[Group<V, Work<S, B>>]) -> bool
     ensures { result ≡ is_lone_batch groups.now }
 {
     groups.len() == 1 && is_one_batch(groups[0].entries.as_slice())

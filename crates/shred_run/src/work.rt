@@ -46,7 +46,7 @@ pub struct Nested<V, S, C> {
 }
 
 /// A fault of the inner plan, as the batch's own.
-pub(crate) fn within<E>(fault: StageFault<E>) -> Fault<E>
+pub fn within<E>(fault: StageFault<E>) -> Fault<E>
     ensures { result ≡ fault_within fault }
 {
     match fault {

@@ -71,12 +71,19 @@ impl<J: Job + Drop + Send + 'static, R: Threads + Wait + Clone + Send + 'static>
         }
         Ok(pool)
     }
+}
 
+impl<J: Job, R: Threads + Wait> Pool<J, R> {
     /// The workers, for who hands them jobs.
     pub fn workers(&self) -> &Workers<J>
         ensures { result.now ≡ arc_value self.now.workers }
     {
         &self.workers
+    }
+
+    /// The runtime, of which the pool has a clone.
+    pub fn runtime(&self) -> &R {
+        &self.rt
     }
 
     /// How many threads were started.

@@ -17,10 +17,12 @@ use crate::dispatch::dispatch_error::DispatchError;
 use crate::dispatch::printing::{PrintError, print};
 use crate::dispatch::sink::PlanSink;
 use crate::dispatch::stage::Stage;
+use shred_kept::StageCrew;
 use shred_run::first::first;
 use shred_run::{BatchController, NoBatch, StageFault, System, SystemId};
 use shred_world::{LocalWorld, ResourceValue, World};
 use std::collections::HashMap;
+use std::sync::Wait;
 use std::thread::Threads;
 
 /// Stages that run one after the other.
@@ -125,6 +127,23 @@ impl<
     C: BatchController<V, Error = E> + Drop,
     E: Drop,
 > Plan<V, S, C> {
+    /// Runs the stages, one after the other, up to the first that is not Done, the groups of each beside each other on the workers
+    /// that are free and on the caller's thread.
+    pub fn run_kept<R: Threads + Wait>(
+        &mut self,
+        crew: &mut StageCrew<R, V, S, C>,
+        world: &mut LocalWorld<V>,
+    ) -> Result<(), DispatchError<E>>
+        ensures { Dispatched V.kind_of (relations_of (lists_of S.reads S.writes C.reads C.writes) S.step C.begins C.asks) dispatch_answer (plan_with self.old (local_held V.kind_of world.old)) result (plan_with self.new (local_held V.kind_of world.new)) }
+    {
+        for place in 0..self.stages.len() {
+            if let Err(fault) = self.stages[place].turn_kept(crew, world) {
+                return Err(at_stage(place, fault));
+            }
+        }
+        Ok(())
+    }
+
     /// Sets up what stands in the plan, in its order, up to the first that is not Done. What was done before it stays.
     pub fn setup(&mut self, world: &mut World<V>) -> Result<(), DispatchError<E>>
         ensures { SetUp (setups_of (lists_of S.reads S.writes C.reads C.writes) S.sets_up C.sets_up) dispatch_fault (plan_with self.old (world_held V.kind_of world.old)) result (plan_with self.new (world_held V.kind_of world.new)) }

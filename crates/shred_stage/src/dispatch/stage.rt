@@ -20,6 +20,7 @@ ghost use Rattle.shred_run.specs.OwnDepth.{OwnsItself};
 ghost use Rattle.shred_run.specs.OwnFacts.{owns_itself-is_fact};
 ghost use Rattle.std.specs.Coded.{Coded-set};
 
+use shred_kept::{StageCrew, turn_kept};
 use shred_run::dispose::dispose_of_groups;
 use shred_run::entry::{Group, GroupEntry, Side};
 use shred_run::setup::set_up_groups;
@@ -30,6 +31,7 @@ use shred_world::parting::{keep, twin_of_local};
 use shred_world::{LocalWorld, OutOfMemory, ResourceId, ResourceValue, World};
 use smallvec::SmallVec;
 use std::alloc::Global;
+use std::sync::Wait;
 use std::thread::Threads;
 
 /// Which groups of a stage an entry has to come after.
@@ -335,6 +337,30 @@ where
         ensures { Dispatched V.kind_of (relations_of (lists_of S.reads S.writes C.reads C.writes) S.step C.begins C.asks) stage_answer (stage_over V.kind_of self.old world.old) result (stage_over V.kind_of self.new world.new) }
     {
         self.turn_beside(rt, world.local(), workers)
+    }
+}
+
+impl<
+    V: ResourceValue + Drop,
+    S: System<V, Error = E> + Drop,
+    C: BatchController<V, Error = E> + Drop,
+    E: Drop,
+> Stage<V, S, C> {
+    ghost use Rattle.shred_stage.specs.Situations.{StageTook};
+    ghost use Rattle.shred_world.specs.Worlds.{local_held};
+
+    // The turn of its groups, beside each other on workers that are kept, over what a world holds.
+    pub(crate) fn turn_kept<R: Threads + Wait>(
+        &mut self,
+        crew: &mut StageCrew<R, V, S, C>,
+        world: &mut LocalWorld<V>,
+    ) -> Result<(), StageFault<E>>
+        ensures { StageTook V.kind_of (relations_of (lists_of S.reads S.writes C.reads C.writes) S.step C.begins C.asks) self.old (local_held V.kind_of world.old) result self.new (local_held V.kind_of world.new) }
+    {
+        let twin = twin_of_local(world);
+        let answer = turn_kept(crew, &mut self.groups, &mut twin.table);
+        keep(world);
+        answer
     }
 }
 

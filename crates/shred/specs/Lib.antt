@@ -13,6 +13,7 @@ pub mod Builders
 pub mod Built
 pub mod Dispatchers
 pub mod FullRuns
+pub mod KeptDispatchers
 pub mod LocalRuns
 pub mod Made
 pub mod Setups

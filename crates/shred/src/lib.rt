@@ -23,6 +23,7 @@ pub use dispatch::async_dispatcher::{AsyncDispatcher, new_async};
 pub use dispatch::async_error::AsyncError;
 pub use dispatch::builder::DispatcherBuilder;
 pub use dispatch::dispatcher::{Dispatcher, new_dispatcher};
+pub use dispatch::kept_dispatcher::KeptDispatcher;
 pub use dispatch::names::SystemNames;
 pub use dispatch::told::Told;
 pub use one_of::OneOf;
@@ -50,6 +51,7 @@ pub use shred_stage::{
     ToWriter,
 };
 pub use shred_trees::{Nil, Par, ParError, ParSeq, RunWithPool, Seq, Shape, single};
+pub use shred_workers::DEFAULT_LOOKS;
 pub use shred_world::{
     Accessor, BatchAccessor, Behind, DataError, DefaultProvider, DynamicSystemData, Entry, Fetch,
     FetchMut, Kind, Lent, LocalLent, LocalWorld, Only, OutOfMemory, PanicHandler, Parts, Read,

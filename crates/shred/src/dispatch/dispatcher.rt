@@ -112,7 +112,7 @@ pub(crate) fn set_up_both<
 }
 
 // A dispatch's answer, as the outcome of one run.
-fn as_run<E>(answer: Result<(), DispatchError<E>>) -> Result<(), Fault<DispatchError<E>>>
+pub(crate) fn as_run<E>(answer: Result<(), DispatchError<E>>) -> Result<(), Fault<DispatchError<E>>>
     ensures { IsRefusedBy answer result }
 {
     match answer {

@@ -7,5 +7,6 @@ mod async_run;
 pub mod async_world;
 pub mod builder;
 pub mod dispatcher;
+pub mod kept_dispatcher;
 pub mod names;
 pub mod told;

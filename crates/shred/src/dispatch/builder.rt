@@ -1,6 +1,7 @@
 //! The builder of dispatchers.
 ghost use Rattle.std.specs.HashMap.{IsUnique};
-ghost use Rattle.std.specs.Prelude.{◌≡◌, ◌<◌, ◌++◌, ℕ, List, [], None, Some, true, All, IfOk, OnOk, OnErr, IfErr};
+ghost use Rattle.std.specs.Prelude.{◌≡◌, ◌<◌, ◌++◌, ℕ, List, [], None, Some, true, All, IfOk, IfSome, OnOk, OnErr, IfErr};
+ghost use Rattle.std.specs.Option.{option_map};
 ghost use Rattle.std.specs.String.{string_eq};
 ghost use Rattle.std.proofs.Props.{props};
 ghost use Rattle.shred_run.specs.Batches.{IsTierOf};
@@ -29,6 +30,7 @@ ghost use Rattle.shred_stage.specs.Known.{texts_of};
 ghost use Rattle.shred_stage.specs.Names.{AreNames, first_unnamed, names_of};
 ghost use Rattle.shred_stage.specs.Printed.{line_feed, plan_text};
 ghost use Rattle.shred_stage.specs.Prints.{IsPrinted};
+ghost use Rattle.shred_stage.specs.StagePlan.{plan_of};
 ghost use Rattle.shred_world.specs.Worlds.{world_held};
 
 use crate::dispatch::async_dispatcher::{AsyncDispatcher, new_async};
@@ -40,8 +42,8 @@ use shred_run::kept::{batch_entry, system_entry};
 use shred_run::{BatchController, Nested, NoBatch, Now, System, SystemId, Tier, Work};
 use shred_stage::dispatch::inner::tiers_of;
 use shred_stage::dispatch::printing::print_with_end;
-use shred_stage::look_up::{enter, forget, ids_of, may_add};
-use shred_stage::{AddError, PlanSink, PrintError, Rule, StagesBuilder};
+use shred_stage::look_up::{enter, forget, id_of, ids_of, may_add};
+use shred_stage::{AddError, PlanSink, PrintError, Rule, Stage, StagesBuilder};
 use shred_world::{ResourceValue, World};
 use std::alloc::Global;
 use std::collections::HashMap;
@@ -197,6 +199,21 @@ impl<V: ResourceValue, S: System<V>, C: BatchController<V>, L: Drop> DispatcherB
         ensures consistent { IsConsistent (built self.now) }
     {
         print_with_end(&self.stages, sink, &self.names, b"\n")
+    }
+
+    /// The stages of the plan so far.
+    pub fn stages(&self) -> &[Stage<V, S, C>]
+        ensures { plan_of result.now ≡ (built self.now).plan }
+    {
+        self.stages.stages()
+    }
+
+    /// The id that a name stands for, if it does.
+    pub fn id_of(&self, name: &str) -> Option<SystemId>
+        ensures known { option_map (λ id. id.0) result ≡ (built self.now).known name.now }
+        ensures below { IfSome result (λ id. id.0 < (built self.now).next) }
+    {
+        id_of(&self.names, name)
     }
 
     /// The dispatcher of the plan. It takes no memory.

@@ -89,6 +89,13 @@ impl<V: ResourceValue, S: System<V>, C: BatchController<V>> StagesBuilder<V, S, 
         Self::new(alloc)
     }
 
+    /// The stages of the plan so far.
+    pub fn stages(&self) -> &[Stage<V, S, C>]
+        ensures { plan_of result.now ≡ planned self.now }
+    {
+        self.stages.as_slice()
+    }
+
     /// The stages of the plan. It takes no memory.
     pub fn build(self) -> Vec<Stage<V, S, C>>
     where

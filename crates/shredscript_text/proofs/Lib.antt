@@ -5,3 +5,4 @@ pub mod Trimmed
 pub mod Written
 pub mod Parsing
 pub mod Changed
+pub mod Kept

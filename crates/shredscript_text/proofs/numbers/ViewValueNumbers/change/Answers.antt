@@ -5,6 +5,7 @@ use Rattle.shredscript_text.specs.Change.{change_outcome, change_left}
 use Rattle.shredscript_text.specs.Place.{id_at, seen_through}
 use Rattle.shredscript_text.specs.declared.step.Operand.TheVariants.{Number}
 use Rattle.shredscript_text.proofs.Changed.{change_left-put, changed-missing}
+use Rattle.shredscript_text.proofs.Kept.{written-kept}
 use Rattle.shredscript_text.proofs.Shown.{number-missing, number-written, shown-same, shown-written}
 use Rattle.shredscript_text.proofs.numbers.ViewValueNumbers.change.Goals as goal
 
@@ -30,3 +31,10 @@ returns-in-Err c =
       left = shown-same view _ kept.0 kept.1 ∙ ap (change_left (seen_through view) c.args.place) (sym refused);
       keeps = record { view = kept.0; ids = λ q. ap is_some (kept.1 q); frame = λ q out. kept.1 q };
     }
+
+pub returns-in-Ok-clause-keeps : goal.returns-in-Ok-clause-keeps
+returns-in-Ok-clause-keeps c =
+    let new = c.change_number.new.number in
+    let wrote : IsOk c.write.result = (λ i. is_ok (c.in-Ok.is i)) in
+    let ends = c.write.follows.holds new wrote in
+    written-kept c.args.self.now (c.write.follows.lender new) (id_at c.args.place) (record { 0 = c.in-Ok.number.now }) (record { 0 = new }) ends.0 c.requires.allowed (rw c.id_at.ensures at c.in-Ok.ensures.shown) (rw c.id_at.ensures at ends.1)

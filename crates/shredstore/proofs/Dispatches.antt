@@ -12,7 +12,6 @@ use Rattle.shred_model.specs.Access.{Access}
 use Rattle.shred_model.specs.Plan.{PlanEntry, Plan, entry_at}
 use Rattle.shred_model.specs.Record.{Agent}
 use Rattle.shred_model.specs.Runs.{Answer}
-use Rattle.shred_model.proofs.Records.Framed.{AllByRecursion-weaker}
 use Rattle.shred_table.specs.declared.id.ResourceId.{ResourceId}
 use Rattle.shred_table.specs.declared.only.Only.{Only}
 use Rattle.shred_world.specs.Worked.{Held}
@@ -43,6 +42,7 @@ use Rattle.shredstore.specs.Rules.{IsFirstOverflow, applied, applied_all, with_t
 use Rattle.shredstore.specs.Tables.{kind_of, table_id, value_in, values_in}
 use Rattle.shredstore.specs.Ticks.{IsDispatch, IsOfSystems, IsOverflowOf, IsTick, RuleRecord, Tells}
 use Rattle.shredstore.proofs.KeptStates.{Keeps, KeepsRows, replay-found, replay-keeps}
+use Rattle.shredstore.proofs.Lists.{AllByRecursion-weaker}
 use Rattle.shredstore.proofs.PlanOrder.{order-at, order-counts}
 use Rattle.shredstore.proofs.RuleRuns.{HasItsRule, entries-run, in-order}
 use Rattle.shredstore.proofs.Ticked.{runs-apply}

@@ -4,15 +4,13 @@ use Rattle.std.specs.List.{AllByRecursion}
 use Rattle.std.specs.Prelude.{is_some}
 use Rattle.shred_model.specs.Record.{Agent, Record}
 use Rattle.shred_model.specs.Replay.{Configuration, Goes, Replays}
-use Rattle.shred_model.proofs.Records.Framed.{AllByRecursion-weaker}
-use Rattle.shred_model.proofs.Records.Membership.{is_declared}
-use Rattle.shred_model.proofs.Records.Telling.{tell_agents}
 use Rattle.shred_table.specs.declared.id.ResourceId.{ResourceId}
 use Rattle.shred_table.specs.declared.only.Only.{Only}
-use Rattle.shred_table.proofs.Tables.Ids.{tell_ids}
 use Rattle.shred_world.specs.Worked.{Held}
 use Rattle.shredstore.specs.Rows.{Pairs}
 use Rattle.shredstore.specs.Tables.{table_id, value_in, values_in}
+use Rattle.shredstore.proofs.Lists.{AllByRecursion-weaker}
+use Rattle.shredstore.proofs.Told.{is_declared, same_agent}
 
 -- the same entities have values in the same tables
 abbrev pub KeepsRows : Held (Only Pairs) → Held (Only Pairs) → Type 0
@@ -28,13 +26,13 @@ module _ {S O : Type 0} where
   goes-keeps : (r : Record Agent ResourceId (Only Pairs) S O) (x y : Configuration Agent ResourceId (Only Pairs) S) → Keeps r → Goes r x y → ((path : Agent) → y.states path ≡ x.states path) × KeepsRows x.values y.values
   goes-keeps r x y keeps goes = (states, rows) where
     states : (path : Agent) → y.states path ≡ x.states path
-    states path = elim (tell_agents path r.agent) [
+    states path = elim (same_agent path r.agent) [
       | inl e ↦ ap y.states e ∙ goes.puts_state ∙ ap (λ s. Some s) keeps.state ∙ sym goes.finds_state ∙ sym (ap x.states e)
       | inr ne ↦ goes.other_states path ne
     ]
 
     rows : KeepsRows x.values y.values
-    rows entity table = elim (is_declared tell_ids r.access (table_id table)) [
+    rows entity table = elim (is_declared r.access (table_id table)) [
       | inl d ↦ ap (λ o. is_some (value_in o entity)) (goes.puts (table_id table) d) ∙ keeps.rows entity table ∙ sym (ap (λ o. is_some (value_in o entity)) (goes.finds (table_id table) d))
       | inr n ↦ ap (λ o. is_some (value_in o entity)) (goes.other_values (table_id table) n)
     ]

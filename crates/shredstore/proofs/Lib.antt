@@ -1,3 +1,5 @@
+mod Told
+mod Lists
 mod Found
 mod Place
 mod Remade

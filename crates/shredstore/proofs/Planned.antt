@@ -5,7 +5,6 @@ use Rattle.std.proofs.lemmas.Bool.{cases_eq}
 use Rattle.shred_model.specs.Plan.{PlanEntry, Plan, entry_at}
 use Rattle.shred_model.specs.Record.{Agent}
 use Rattle.shred_model.specs.States.{listed_states, own_state}
-use Rattle.shred_model.proofs.Records.Telling.{tell_agents}
 use Rattle.shred_table.specs.declared.id.ResourceId.{ResourceId}
 use Rattle.shred_table.specs.declared.only.Only.{Only}
 use Rattle.shred_run.specs.AdditionOrder.{KeepsAddition}
@@ -15,7 +14,6 @@ use Rattle.shred_run.specs.declared.work.Work.{Work}
 use Rattle.shred_run.specs.declared.work.Work.TheVariants.{System}
 use Rattle.shred_run.specs.Occupants.{a_system, by_path, inside_each, of_system, work_occupants, work_states}
 use Rattle.shred_stage.specs.declared.dispatch.rule.Rule.TheVariants.{Ordered}
-use Rattle.shred_stage.proofs.Planner.Earlier.{slice_get-push_end}
 use Rattle.shred.specs.Built.{IsConsistent, IsNewBuilt, IsRuleSet, KeepsAdditionIfOrdered}
 use Rattle.shred.specs.declared.plain.Plain.{Plain}
 use Rattle.shredstore.specs.declared.rule.Overflow.{Overflow}
@@ -23,6 +21,8 @@ use Rattle.shredstore.specs.declared.rule.StoreRule.{StoreRule}
 use Rattle.shredstore.specs.Plans.{IsAddedRule, IsPlanned, RulesBuilt, RulesOver, RunsRules}
 use Rattle.shredstore.specs.RuleSteps.{rule_reads}
 use Rattle.shredstore.specs.Rows.{Pairs}
+use Rattle.shredstore.proofs.Lists.{slice_get-push_end}
+use Rattle.shredstore.proofs.Told.{same_agent}
 
 -- a builder without rules
 pub planned-none : (empty ordered : RulesBuilt) → IsNewBuilt empty → IsRuleSet empty ordered Ordered → IsPlanned [] ordered
@@ -62,7 +62,7 @@ planned-more rules rule old new planned added =
           let apart : place ≢ add.place = λ e. absurd (let f : Some other ≡ None = sym at ∙ ap (entry_at old.plan) e ∙ add.entry_is_new.was_free in cc) in
           (place, (other, add.entry_is_new.others place apart ∙ at, is)))
           (cases_eq id (length rules));
-      stands = λ place other at. elim (tell_agents place add.place) [
+      stands = λ place other at. elim (same_agent place add.place) [
         | inl e ↦ (let f : Some other ≡ Some entry = sym at ∙ ap (entry_at new.plan) e ∙ add.entry_is_new.stands in
             let same : other ≡ entry = cc in (
               rule,

@@ -5,15 +5,15 @@ use Rattle.shred_table.specs.declared.id.ResourceId.{ResourceId}
 use Rattle.shred_table.specs.declared.only.Only.{Only}
 use Rattle.shred_table.specs.Id.{same_id}
 use Rattle.shred_table.specs.Slots.{with_at}
-use Rattle.shred_table.proofs.Tables.Slots.{same_id-true}
 use Rattle.shred_world.specs.declared.world.view.View.{View}
 use Rattle.shred_world.specs.Views.{IsSameView, declared_held, may_read, may_write, view_held}
-use Rattle.shredstore.specs.declared.rule.StoreRule.TheVariants.{Add}
-use Rattle.shredstore.specs.Rows.{NoneUnfit, Pairs, value_at, with_sum}
+use Rattle.shredstore.specs.declared.rule.StoreRule.TheVariants.{Add, Set}
+use Rattle.shredstore.specs.Rows.{NoneUnfit, Pairs, value_at, with_constant, with_sum}
 use Rattle.shredstore.specs.Rules.{AllSumsFit, applied}
 use Rattle.shredstore.specs.Tables.{IsRemade, kind_of, table_id, table_of, value_in, values_in}
 use Rattle.shredstore.proofs.RemadeTables.{not-remade, remade, remade-others, remade-values}
 use Rattle.shredstore.proofs.Shown.{may_read-same}
+use Rattle.shredstore.proofs.Told.{same_id-true}
 
 -- what may be read is declared
 declared : (view : View (Only Pairs)) (id : ResourceId) → may_read view id ≡ true → declared_held kind_of view id ≡ view_held kind_of view id
@@ -57,3 +57,8 @@ added-step old new same x y may_x may_y fit done =
           (declared-remade old new same (λ e value. with_sum value (value_in (view_held kind_of old (table_id y)) e)) x may_x done) entity table
           ∙ ap (λ o. cond (x == table) (with_sum (values_in (declared_held kind_of old) entity x) (value_in o entity)) (values_in (declared_held kind_of old) entity table)) (sym other),
     )
+
+-- where all of a table were set
+pub set-step : (old new : View (Only Pairs)) → IsSameView old new → (x : ℕ) (value : ℤ) → may_read old (table_id x) ≡ true → IsRemade (λ entity had. with_constant value had) x (view_held kind_of old) (view_held kind_of new)
+    → (entity table : ℕ) → values_in (declared_held kind_of new) entity table ≡ applied (Set x value) (values_in (declared_held kind_of old)) entity table
+set-step old new same x value may done = remade-values (λ entity had. with_constant value had) x (declared_held kind_of old) (declared_held kind_of new) (λ e nothing. refl) (declared-remade old new same (λ entity had. with_constant value had) x may done)

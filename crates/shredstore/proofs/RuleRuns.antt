@@ -1,5 +1,5 @@
 -- The runs of entries in which rules stand are runs of these rules; and a dispatch that is Done applies the rules in the order of their ids.
-use Rattle.std.proofs.Common.{◌≡◌, ℕ, zero, suc, ◌+◌, true, List, [], ◌∷◌, ◌++◌, length, map, Option, Some, Ok, slice_get, append-nil, sym, ◌∙◌, ap, subst, arith}
+use Rattle.std.proofs.Common.{◌≡◌, ℕ, zero, suc, ◌+◌, List, [], ◌∷◌, ◌++◌, length, map, Option, Some, Ok, slice_get, append-nil, sym, ◌∙◌, ap, subst, arith}
 use Rattle.std.specs.List.{AllByRecursion, AllZip}
 use Rattle.std.proofs.lemmas.Option.{slice_get_within}
 use Rattle.shred_model.specs.Access.{Access}
@@ -11,13 +11,12 @@ use Rattle.shred_world.specs.Worked.{Held}
 use Rattle.shred_run.specs.AdditionOrder.{EntriesRun, PlacedEntry, under_place}
 use Rattle.shred_run.specs.Depths.{Related}
 use Rattle.shred_run.specs.NestedRecords.{NestedRecord, IsNestedStep, done}
-use Rattle.shred_run.specs.NestedRuns.{NestedRun}
-use Rattle.shred_run.specs.Occupants.{AgentState, Occupants, a_system, of_system}
+use Rattle.shred_run.specs.NestedRuns.{NestedBatchRun, NestedPlanRun, NestedRun, OccupantRun}
+use Rattle.shred_run.specs.Occupants.{AgentState, Occupant, Occupants, a_system, of_system}
 use Rattle.shredstore.specs.declared.rule.StoreRule.{StoreRule}
 use Rattle.shredstore.specs.Rows.{Pairs}
 use Rattle.shredstore.specs.Rules.{applied}
 use Rattle.shredstore.specs.Tables.{values_in}
-use Rattle.shred_run.proofs.Paths.AgentSteps.{system-step}
 use Rattle.shredstore.proofs.Counted.{Count}
 use Rattle.shredstore.proofs.PlanOrder.{ids_of}
 use Rattle.shredstore.proofs.Ticked.{IsRuleRun, StandsIn}
@@ -26,6 +25,14 @@ module _ (S C E : Type 0) (rule_of : S → StoreRule) (kind : Only Pairs → Kin
     (applies : (old new : S) (seen left : Held (Only Pairs)) → related.steps old seen (Ok tt) new left → (new ≡ old) × ((entity table : ℕ) → values_in left entity table ≡ applied (rule_of old) (values_in seen) entity table)) where
   abbrev Records : Type 0
   Records = List (NestedRecord (Only Pairs) S C E)
+
+  -- where a system stands, a run is one step of it
+  one-step : (depth : ℕ) (occupants : Occupants) (access : Access ResourceId) (list : Records) → occupants [] ≡ Some a_system → NestedRun kind related depth occupants access list (Ok tt)
+      → (r : NestedRecord (Only Pairs) S C E) × (list ≡ r ∷ []) × IsNestedStep kind related.steps of_system (λ ended. done) access (Ok tt) r
+  unfolding NestedRun
+  one-step zero occupants access list stands run = subst (λ (o : Option Occupant). OccupantRun kind related (λ control plan part ended. ⊥) o access list (Ok tt)) stands run
+  one-step (suc less) occupants access list stands run =
+      subst (λ (o : Option Occupant). OccupantRun kind related (λ control plan. NestedBatchRun kind related.asks control (NestedPlanRun (NestedRun kind related less) (λ place answer. answer) occupants plan) related.begins) o access list (Ok tt)) stands run
 
   -- a system's step, at its entry's place, is a run of its rule
   rule-run : (placed : PlacedEntry ResourceId) (r : NestedRecord (Only Pairs) S C E) → IsNestedStep kind related.steps of_system (λ ended. done) placed.entry.access (Ok tt) r → IsRuleRun S C E rule_of placed (under_place placed.place r)
@@ -43,7 +50,7 @@ module _ (S C E : Type 0) (rule_of : S → StoreRule) (kind : Only Pairs → Kin
       → EntriesRun (λ inside access own. NestedRun kind related depth inside access own (Ok tt)) occupants order list → AllZip (IsRuleRun S C E rule_of) order list
   entries-run depth occupants [] list there run = subst (AllZip (IsRuleRun S C E rule_of) []) (sym run) tt
   entries-run depth occupants (placed ∷ order) list there (own, others, one, is, more) =
-      let (r, only, step) = system-step kind related depth (λ path. occupants (placed.place ++ path)) placed.entry.access own (Ok tt) (ap occupants (append-nil placed.place) ∙ there.0) one in
+      let (r, only, step) = one-step depth (λ path. occupants (placed.place ++ path)) placed.entry.access own (ap occupants (append-nil placed.place) ∙ there.0) one in
       let shape : list ≡ under_place placed.place r ∷ others = is ∙ ap (λ (l : Records). map (under_place placed.place) l ++ others) only in
       subst (AllZip (IsRuleRun S C E rule_of) (placed ∷ order)) (sym shape) (rule-run placed r step, entries-run depth occupants order others there.1 more)
 

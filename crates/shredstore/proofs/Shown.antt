@@ -4,12 +4,12 @@ use Rattle.shred_table.specs.declared.id.ResourceId.{ResourceId}
 use Rattle.shred_table.specs.declared.only.Only.{Only}
 use Rattle.shred_table.specs.Id.{same_id}
 use Rattle.shred_table.specs.Slots.{among, with_at}
-use Rattle.shred_table.proofs.Tables.Slots.{same_id-refl, same_id-true}
 use Rattle.shred_world.specs.declared.world.view.View.{View}
 use Rattle.shred_world.specs.Views.{IsSameView, may_read, may_write}
 use Rattle.shred_world.specs.Worked.{Held}
 use Rattle.shredstore.specs.Rows.{Pairs}
 use Rattle.shredstore.specs.Tables.{table_id, table_of}
+use Rattle.shredstore.proofs.Told.{same_id-refl, same_id-true}
 
 -- the same ids may be written
 pub may_write-same : {V : Type 0} (old new : View V) → IsSameView old new → (id : ResourceId) → may_write new id ≡ may_write old id

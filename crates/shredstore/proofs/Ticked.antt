@@ -6,11 +6,8 @@ use Rattle.std.proofs.lemmas.Bool.Decides.{nat_tests}
 use Rattle.shred_model.specs.Access.{Access, Declares}
 use Rattle.shred_model.specs.Record.{Agent}
 use Rattle.shred_model.specs.Replay.{Configuration, Goes, Replays}
-use Rattle.shred_model.proofs.Records.Membership.{is_declared}
-use Rattle.shred_model.proofs.Records.Telling.{tell_agents}
 use Rattle.shred_table.specs.declared.id.ResourceId.{ResourceId}
 use Rattle.shred_table.specs.declared.only.Only.{Only}
-use Rattle.shred_table.proofs.Tables.Ids.{tell_ids}
 use Rattle.shred_run.specs.AdditionOrder.{PlacedEntry}
 use Rattle.shred_run.specs.NestedRecords.{NestedRecord}
 use Rattle.shred_run.specs.Occupants.{AgentState, of_system}
@@ -21,6 +18,7 @@ use Rattle.shredstore.specs.Rows.{Pairs, with_constant, with_sum}
 use Rattle.shredstore.specs.RuleSteps.{HasListsOf, rule_reads, rule_writes}
 use Rattle.shredstore.specs.Rules.{applied, applied_all}
 use Rattle.shredstore.specs.Tables.{table_id, value_in, values_in}
+use Rattle.shredstore.proofs.Told.{is_declared, same_agent}
 
 -- the rule reads or writes the id
 abbrev pub Touches : StoreRule → ResourceId → Type 0
@@ -78,7 +76,7 @@ module _ (S C E : Type 0) (rule_of : S → StoreRule) where
 
     -- it leads from values to what the rule makes of them
     run-applies : (entity table : ℕ) → values_in y.values entity table ≡ applied rule (values_in x.values) entity table
-    run-applies entity table = elim (is_declared tell_ids r.access (table_id table)) [
+    run-applies entity table = elim (is_declared r.access (table_id table)) [
       | inl d ↦ ap (λ o. value_in o entity) (goes.puts (table_id table) d) ∙ run.ran.3 entity table ∙ ap (λ w. applied w (values_in r.seen) entity table) its_rule
           ∙ applied-same entity table (values_in r.seen) (values_in x.values) rule (saw entity) (saw entity table (to-touched (table_id table) d))
       | inr n ↦ ap (λ o. value_in o entity) (goes.other_values (table_id table) n) ∙ sym (applied-else entity table (values_in x.values) rule (λ d. n (of-touched (table_id table) d)))
@@ -86,7 +84,7 @@ module _ (S C E : Type 0) (rule_of : S → StoreRule) where
 
     -- and keeps all states
     run-states : (path : Agent) → y.states path ≡ x.states path
-    run-states path = elim (tell_agents path r.agent) [
+    run-states path = elim (same_agent path r.agent) [
       | inl e ↦ ap y.states e ∙ goes.puts_state ∙ ap (λ s. Some s) (run.ran.2 ∙ sym run.ran.1) ∙ sym goes.finds_state ∙ sym (ap x.states e)
       | inr ne ↦ goes.other_states path ne
     ]

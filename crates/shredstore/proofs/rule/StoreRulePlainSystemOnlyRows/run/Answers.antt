@@ -1,14 +1,16 @@
-use Rattle.std.proofs.Common.{◌≡◌, ◌||◌, Bool, true, false, to_z, of_z, w64, refl, sym, ◌∙◌, ap, subst}
+use Rattle.std.proofs.Common.{◌≡◌, ◌||◌, Bool, true, false, FitsSigned, to_z, of_z, w64, refl, sym, ◌∙◌, ap, subst, arith, rules}
+use Rattle.std.proofs.lemmas.Int.{ints}
 use Rattle.shred_table.specs.Slots.{among}
-use Rattle.shred_table.proofs.Tables.Slots.{same_id-refl}
 use Rattle.shred_world.specs.Views.{declared_held, may_read, may_write, view_held}
 use Rattle.shredstore.specs.declared.rule.StoreRule.{StoreRule}
+use Rattle.shredstore.specs.declared.rule.StoreRule.TheVariants.{Set}
 use Rattle.shredstore.specs.Rows.{with_constant, with_sum}
 use Rattle.shredstore.specs.Rules.{AllSumsFit, applied}
 use Rattle.shredstore.specs.RuleSteps.{rule_reads, rule_writes}
 use Rattle.shredstore.specs.Tables.{kind_of, table_id, value_in, values_in}
 use Rattle.shredstore.proofs.RemadeTables.{remade-held}
-use Rattle.shredstore.proofs.RuleRun.{added-step, unwritten-stays}
+use Rattle.shredstore.proofs.RuleRun.{added-step, set-step, unwritten-stays}
+use Rattle.shredstore.proofs.Told.{same_id-refl}
 use Rattle.shredstore.proofs.rule.StoreRulePlainSystemOnlyRows.run.Goals as goal
 
 pub returns-in-Ok-clause-step : goal.returns-in-Ok-clause-step
@@ -33,6 +35,16 @@ returns-in-Ok-clause-frame c =
     let x = c.in-Add.x in
     let may : may_write c.args.view.now (table_id x) ≡ true = c.requires.lent.may_write (table_id x) ∙ ap (λ (r : StoreRule). among (rule_writes r) (table_id x)) c.in-Add.is ∙ rw (same_id-refl (table_id x)) refl in
     unwritten-stays c.args.view.now c.add.new.view c.in-Ok.ensures.view (λ entity value. with_sum value (value_in (view_held kind_of c.args.view.now (table_id c.in-Add.y)) entity)) x may c.in-Ok.ensures.remade
+
+pub returns-in-Set-clause-step : goal.returns-in-Set-clause-step
+returns-in-Set-clause-step c =
+    let view = c.args.view.now in
+    let table = c.in-Set.table in
+    let fits : FitsSigned w64 c.in-Set.value = search rules in
+    let value : to_z w64 (of_z w64 c.in-Set.value) ≡ c.in-Set.value = omega (arith, ints, fits) in
+    let may : may_read view (table_id table) ≡ true = c.requires.lent.may_read (table_id table) ∙ ap (λ (r : StoreRule). among (rule_reads r) (table_id table) || among (rule_writes r) (table_id table)) c.in-Set.is ∙ rw (same_id-refl (table_id table)) refl in
+    let step = set-step view c.set_all.new.view c.set_all.ensures.view table (to_z w64 (of_z w64 c.in-Set.value)) may c.set_all.ensures.remade in
+    (refl, (subst (λ (r : StoreRule). AllSumsFit r (values_in (declared_held kind_of view))) (sym c.in-Set.is) tt, λ entity t. step entity t ∙ ap (λ v. applied (Set table v) (values_in (declared_held kind_of view)) entity t) value ∙ ap (λ (r : StoreRule). applied r (values_in (declared_held kind_of view)) entity t) (sym c.in-Set.is)))
 
 pub returns-in-Set-clause-ids : goal.returns-in-Set-clause-ids
 returns-in-Set-clause-ids c = remade-held (λ entity old. with_constant (to_z w64 (of_z w64 c.in-Set.value)) old) c.in-Set.table (view_held kind_of c.args.view.now) (view_held kind_of c.set_all.new.view) c.set_all.ensures.remade

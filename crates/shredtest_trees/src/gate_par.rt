@@ -1,74 +1,27 @@
 //! Two systems beside each other that wait for each other.
-ghost use Rattle.std.specs.Prelude.{[]};
 
 use crate::adds::{DONE, ended, zeros};
-use shred::{
-    BatchAccessor, Fault, Nil, Now, Only, OutOfMemory, Par, ParError, ParSeq, Plain, PlainSystem,
-    RunWithPool, View, par, seq,
-};
-use std::alloc::Global;
+use shred::{Nil, Now, Only, Par, ParSeq, Plain, RunWithPool, par, seq};
+use shredtest_meeting::{Meets, TURNS, VAIN, nobody, waits_for};
+use std::alloc::{AllocError, Global};
 use std::process::Abort;
-use std::sync::atomic::{AtomicBool, Ordering};
+use std::sync::Arc;
+use std::sync::atomic::AtomicU64;
 use std::test::Fail;
-use std::thread;
 use std::thread::Threads;
 
-/// Raises its flag, looks so often at most for the other's, and refuses if it never sees it. After each look it lets others
-/// run, so that a busy machine has the time to start the second thread.
-#[derive(Drop)]
-struct Meets<'f> {
-    own: &'f AtomicBool,
-    other: &'f AtomicBool,
-    turns: u32,
+type Meeting = Now<Plain<Meets>>;
+
+fn meeting(arrived: &Arc<AtomicU64>, turns: u32) -> Result<Meeting, AllocError> {
+    Ok(Now(waits_for(arrived, 2, turns)?))
 }
-
-impl<'f> PlainSystem<Only<i64>> for Meets<'f> {
-    type Error = u8;
-
-    ghost reads = { λ system. [] };
-
-    ghost writes = { λ system. [] };
-
-    ghost step = { λ _ _ _ _ _. Unit {0} };
-
-    fn run(&mut self, _view: &mut View<Only<i64>>) -> Result<(), Fault<u8>> {
-        self.own.store(true, Ordering::SeqCst);
-        for _ in 0..self.turns {
-            if self.other.load(Ordering::SeqCst) {
-                return Ok(());
-            }
-            thread::yield_now();
-        }
-        Err(Fault::Refused(1))
-    }
-
-    fn accessor(&self, alloc: Global) -> Result<BatchAccessor, OutOfMemory> {
-        BatchAccessor::of(alloc, &[], &[])
-    }
-}
-
-type Meeting<'f> = Now<Plain<Meets<'f>>>;
-
-fn meeting<'f>(own: &'f AtomicBool, other: &'f AtomicBool, turns: u32) -> Meeting<'f> {
-    Now(Plain(Meets { own, other, turns }))
-}
-
-/// How often each of two looks that meet on two workers.
-const TURNS: u32 = 10_000_000;
-
-/// How often each looks in vain on one worker. No number of looks would do: the second has not begun.
-const VAIN: u32 = 100_000;
 
 /// Two that wait for each other, beside each other.
-type Both<'f> = Par<Only<i64>, u8, Par<Only<i64>, u8, Meeting<'f>, Meeting<'f>>, Nil>;
+type Both = Par<Only<i64>, u8, Par<Only<i64>, u8, Meeting, Meeting>, Nil>;
 
-fn both<'f>(
-    alloc: Global,
-    one: &'f AtomicBool,
-    other: &'f AtomicBool,
-    turns: u32,
-) -> Result<Both<'f>, ParError> {
-    par![alloc; meeting(one, other, turns), meeting(other, one, turns),]
+fn both(alloc: Global, turns: u32) -> Result<Both, Fail> {
+    let arrived = nobody(alloc)?;
+    Ok(par![alloc; meeting(&arrived, turns)?, meeting(&arrived, turns)?,]?)
 }
 
 /// Whether on so many workers the two meet, by themselves and at the head of a sequence.
@@ -78,12 +31,8 @@ fn expect_meeting(
     turns: u32,
     meet: bool,
 ) -> Result<(), Fail> {
-    let (one, other) = (AtomicBool::new(false), AtomicBool::new(false));
-    let tree = both(rt.alloc(), &one, &other, turns)?;
-    expect_end(rt, tree, workers, meet)?;
-    let (one, other) = (AtomicBool::new(false), AtomicBool::new(false));
-    let tree = both(rt.alloc(), &one, &other, turns)?;
-    expect_end(rt, seq![tree, Nil], workers, meet)
+    expect_end(rt, both(rt.alloc(), turns)?, workers, meet)?;
+    expect_end(rt, seq![both(rt.alloc(), turns)?, Nil], workers, meet)
 }
 
 fn expect_end<T: RunWithPool<Only<i64>, u8> + Send>(

@@ -2,7 +2,6 @@
 
 mod bundle;
 mod cases;
-mod gate;
 mod nested;
 mod script;
 mod workers;

@@ -4,7 +4,7 @@ use Rattle.shred_table.specs.Only.{only_kind}
 use Rattle.shred_world.specs.Views.{view_held}
 use Rattle.shred_world.proofs.Views.KeptIds.{ids-kept}
 use Rattle.shredexamples.specs.Numbers.{kind_of, number_id}
-use Rattle.shredexamples.proofs.Refused.{missing-read, missing-write, seen-by-read}
+use Rattle.shredexamples.proofs.Refused.{declared-stays, missing-read, missing-write, seen-by-read}
 use Rattle.shredexamples.proofs.enum_of_systems.CopyPlainSystemOnlyI64.run.Goals as goal
 
 pub returns-in-Ok-write-clause-ids : goal.returns-in-Ok-write-clause-ids
@@ -30,4 +30,5 @@ returns-in-Err-write-clause-step c =
     let to = number_id c.args.self.now.to in
     let seen = seen-by-read kind_of c.args.view.now (from ∷ []) (to ∷ []) c.requires.lent only_kind from c.only_id.result refl c.only_id.ensures (0, omega arith, λ i. from) _ c.in-Ok.ensures.shown in
     let missing = missing-write kind_of c.args.view.now (from ∷ []) (to ∷ []) c.requires.lent only_kind to c.only_id-2.result refl c.only_id-2.ensures (0, omega arith, λ i. to) c.in-Err-write.error c.from-in-Err-write.result c.in-Err-write.ensures.refused c.from-in-Err-write.ensures in
-    (refl, inr (ap is_some seen, (missing.0, missing.1, search rules)))
+    let stays = rw c.in-Err-write.is at c.write.follows.holds-at-none in
+    (refl, inr (ap is_some seen, (missing.0, missing.1, declared-stays kind_of c.args.view.now _ stays.0 stays.1)))

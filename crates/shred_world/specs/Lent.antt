@@ -1,5 +1,5 @@
 -- What a view or a world ends as where a part of it is lent to be written.
-use Rattle.std.specs.Prelude.{◌≡◌, ℕ, Option, Some, OnSome}
+use Rattle.std.specs.Prelude.{◌≡◌, ℕ, Option, Some, OnSome, is_some}
 use Rattle.std.specs.Borrow.{Lends, LendsSo, LendsSoOk, MutBor, Fml, RattleType}
 use Rattle.std.proofs.lemmas.Bool.{false≢true}
 use Rattle.std.specs.Prelude.{false, List, [], ◌∷◌, Result}
@@ -17,18 +17,30 @@ use Rattle.shred_table.specs.contracts.twin.Twin.{the_row as twin_row}
 use Rattle.shred_world.specs.declared.world.view.View.{View}
 use Rattle.shred_world.specs.contracts.world.view.View.{the_row as view_row}
 use Rattle.shred_table.specs.Slots.{of_kind, with_at}
-use Rattle.shred_world.specs.Views.{view_held, IsSameView}
+use Rattle.shred_world.specs.Views.{declared_held, view_held, IsSameView}
 use Rattle.shred_world.specs.Worlds.{local_held, world_held}
 
 -- the row of a view whose lifetimes stand at these places of a signature
 abbrev pub view_at : ℕ → ℕ → RattleType → RattleType
 view_at s a V = view_row (record { mir = named s; lft = [] }) (record { mir = named a; lft = [] }) V
 
+-- The view is the same. It holds the value under the id, and all else as before; so the same ids are held.
+pub record IsWrittenView {V : Type 0} (kind : V → Kind) (old new : View V) (id : ResourceId) (v : V) : Type 0 where
+  pub view : IsSameView old new
+  pub held : (q : ResourceId) → view_held kind new q ≡ with_at (view_held kind old) id (Some v) q
+  pub ids : (q : ResourceId) → is_some (view_held kind new q) ≡ is_some (view_held kind old q)
+
+-- The view is the same, and shows the same.
+pub record ShowsAsBefore {V : Type 0} (kind : V → Kind) (old new : View V) : Type 0 where
+  pub view : IsSameView old new
+  pub held : (q : ResourceId) → view_held kind new q ≡ view_held kind old q
+  pub declared : declared_held kind new ≡ declared_held kind old
+
 -- the view ends with the resource last written under the id, or as it was where it was refused, and all else as it was
 abbrev pub LendsWritten : (V R : RattleType) → (V.Denot → Kind) → (R.Denot → V.Denot) → MutBor (View V.Denot) → ResourceId → {E : Type 0} → Result (MutBor R.Denot) E → Fml
 LendsWritten V R kind wrapped s id r = LendsSoOk (view_at 1 2 V) R s r
-    (λ n w. IsSameView s.now n × ((q : ResourceId) → view_held kind n q ≡ with_at (view_held kind s.now) id (Some (wrapped w)) q))
-    (λ n. IsSameView s.now n × ((q : ResourceId) → view_held kind n q ≡ view_held kind s.now q))
+    (λ n w. IsWrittenView kind s.now n id (wrapped w))
+    (ShowsAsBefore kind s.now)
 
 -- the view ends with the table that the narrowed one leaves
 abbrev pub LendsNarrow : (V : RattleType) → MutBor (View V.Denot) → View V.Denot → Fml

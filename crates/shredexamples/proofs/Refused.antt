@@ -1,5 +1,5 @@
 -- A system's own view refuses what the system declares only where nothing is held.
-use Rattle.std.proofs.Common.{◌≡◌, Bool, true, false, cond, ◌&&◌, ◌||◌, List, Option, Some, None, Contains, ap, refl, subst, ◌∙◌}
+use Rattle.std.proofs.Common.{◌≡◌, Bool, true, false, cond, ◌||◌, List, Option, Some, None, Contains, ap, refl, subst, ◌∙◌}
 use Rattle.std.specs.Prelude.{is_some}
 use Rattle.shred_run.specs.Faults.{FaultGives}
 use Rattle.shred_run.specs.declared.system.Fault.{Fault}
@@ -12,7 +12,7 @@ use Rattle.shred_world.specs.declared.world.view.View.{View}
 use Rattle.shred_world.specs.declared.world.view.DataError.{DataError}
 use Rattle.shred_world.specs.declared.world.view.DataError.TheVariants.{Missing}
 use Rattle.shred_world.specs.OwnViews.{IsLent}
-use Rattle.shred_world.specs.Views.{declared_held, is_out, may_read, may_write, refusal, view_held, IsSameView}
+use Rattle.shred_world.specs.Views.{declared_held, is_out, may_read, may_write, refusal, view_held}
 use Rattle.shred_world.proofs.Views.Refusals.{refusal-rest}
 
 either-way : {X : Type 0} (b : Bool) (x : X) → cond b x x ≡ x
@@ -55,7 +55,3 @@ module _ {V : Type 0} (kind : V → Kind) (view : View V) (reads writes : List R
   pub missing-write : Contains writes id → (error : DataError) (fault : Fault DataError) → Some error ≡ refusal asked given (may_write view given) (is_out view given) (is_some (view_held kind view given))
       → FaultGives (λ given made. made ≡ given) error fault → (declared_held kind view id ≡ None) × (fault ≡ Refused (Missing id))
   missing-write write = refused-as (may_write view) (lent.may_write id ∙ among-contains writes id write)
-
--- what is shown of the declared ids stays where the view and what it shows stay
-pub declared-stays : {V : Type 0} (kind : V → Kind) (view n : View V) → IsSameView view n → ((q : ResourceId) → view_held kind n q ≡ view_held kind view q) → declared_held kind n ≡ declared_held kind view
-declared-stays kind view n same held = λ i q. cond (among (same.reads i) q || (same.whole i || (among (same.writes i) q && among (same.owned i) q))) (held q i) None

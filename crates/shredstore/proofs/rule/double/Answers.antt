@@ -15,4 +15,4 @@ pub returns-in-Ok-clause-remade : goal.returns-in-Ok-clause-remade
 returns-in-Ok-clause-remade c =
     let wrote : IsOk c.write.result = (λ i. is_ok (c.in-Ok.is i)) in
     remade (λ entity value. with_sum value value) c.args.table (view_held kind_of c.args.view.now) _ c.in-Ok.rows.now c.double.new.self
-    (ap (view_held kind_of c.args.view.now) (sym c.only_id.ensures) ∙ c.in-Ok.ensures.shown) c.double.ensures (rw c.only_id.ensures at (c.write.follows.holds c.double.new.self wrote).1)
+    (ap (view_held kind_of c.args.view.now) (sym c.only_id.ensures) ∙ c.in-Ok.ensures.shown) c.double.ensures (rw c.only_id.ensures at (c.write.follows.holds c.double.new.self wrote).held)

@@ -13,4 +13,4 @@ returns-in-Ok-clause-remade c =
     let value : to_z w64 (of_z w64 c.args.value) ≡ c.args.value = omega (arith, ints, fits) in
     remade (λ entity old. with_constant c.args.value old) c.args.table (view_held kind_of c.args.view.now) _ c.in-Ok.rows.now c.set_all.new.self
     (ap (view_held kind_of c.args.view.now) (sym c.only_id.ensures) ∙ c.in-Ok.ensures.shown) (λ entity. c.set_all.ensures entity ∙ ap (λ v. with_constant v (value_at c.in-Ok.rows.now entity)) value)
-    (rw c.only_id.ensures at (c.write.follows.holds c.set_all.new.self wrote).1)
+    (rw c.only_id.ensures at (c.write.follows.holds c.set_all.new.self wrote).held)

@@ -1,16 +1,9 @@
-use Rattle.std.proofs.Common.{[], ◌∷◌, inl, inr, IsOk, is_ok, ap, arith, refl, rules}
+use Rattle.std.proofs.Common.{[], ◌∷◌, inl, inr, ap, arith, refl, rules}
 use Rattle.std.specs.Prelude.{is_some}
 use Rattle.shred_table.specs.Only.{only_kind}
-use Rattle.shred_world.specs.Views.{view_held}
-use Rattle.shred_world.proofs.Views.KeptIds.{ids-kept}
 use Rattle.shredexamples.specs.Numbers.{kind_of, number_id}
-use Rattle.shredexamples.proofs.Refused.{declared-stays, missing-read, missing-write, seen-by-read}
+use Rattle.shredexamples.proofs.Refused.{missing-read, missing-write, seen-by-read}
 use Rattle.shredexamples.proofs.enum_of_systems.CopyPlainSystemOnlyI64.run.Goals as goal
-
-pub returns-in-Ok-write-clause-ids : goal.returns-in-Ok-write-clause-ids
-returns-in-Ok-write-clause-ids c =
-    let wrote : IsOk c.write.result = (λ i. is_ok (c.in-Ok-write.is i)) in
-    ids-kept (view_held kind_of c.args.view.now) _ _ _ (ap is_some c.in-Ok-write.ensures.shown) (c.write.follows.holds _ wrote).1
 
 pub returns-in-Err-clause-step : goal.returns-in-Err-clause-step
 returns-in-Err-clause-step c =
@@ -31,4 +24,4 @@ returns-in-Err-write-clause-step c =
     let seen = seen-by-read kind_of c.args.view.now (from ∷ []) (to ∷ []) c.requires.lent only_kind from c.only_id.result refl c.only_id.ensures (0, omega arith, λ i. from) _ c.in-Ok.ensures.shown in
     let missing = missing-write kind_of c.args.view.now (from ∷ []) (to ∷ []) c.requires.lent only_kind to c.only_id-2.result refl c.only_id-2.ensures (0, omega arith, λ i. to) c.in-Err-write.error c.from-in-Err-write.result c.in-Err-write.ensures.refused c.from-in-Err-write.ensures in
     let stays = rw c.in-Err-write.is at c.write.follows.holds-at-none in
-    (refl, inr (ap is_some seen, (missing.0, missing.1, declared-stays kind_of c.args.view.now _ stays.0 stays.1)))
+    (refl, inr (ap is_some seen, (missing.0, missing.1, stays.declared)))

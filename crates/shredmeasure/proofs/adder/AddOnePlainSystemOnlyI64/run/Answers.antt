@@ -1,15 +1,5 @@
-use Rattle.std.proofs.Common.{IsOk, is_ok, ap, rules, refl}
-use Rattle.std.specs.Prelude.{is_some}
-use Rattle.shred_world.specs.Views.{view_held}
-use Rattle.shred_world.proofs.Views.KeptIds.{ids-kept}
-use Rattle.shredmeasure.specs.Counts.{kind_of}
+use Rattle.std.proofs.Common.{refl, rules}
 use Rattle.shredmeasure.proofs.adder.AddOnePlainSystemOnlyI64.run.Goals as goal
 
 pub returns-in-Ok-clause-step : goal.returns-in-Ok-clause-step
-returns-in-Ok-clause-step c =
-    (refl, (c.in-Ok.count.now, search rules, search rules))
-
-pub returns-in-Ok-clause-ids : goal.returns-in-Ok-clause-ids
-returns-in-Ok-clause-ids c =
-    let wrote : IsOk c.write.result = (λ i. is_ok (c.in-Ok.is i)) in
-    ids-kept (view_held kind_of c.args.view.now) _ _ _ (ap is_some c.in-Ok.ensures.shown) (c.write.follows.holds _ wrote).1
+returns-in-Ok-clause-step c = (refl, (c.in-Ok.count.now, search rules, search rules))

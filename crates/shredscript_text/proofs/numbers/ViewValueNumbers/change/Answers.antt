@@ -17,7 +17,7 @@ returns-in-Ok-clause-left c =
     let wrote : IsOk c.write.result = (λ i. is_ok (c.in-Ok.is i)) in
     let ends = c.write.follows.holds new wrote in
     let held = number-written view c.args.place c.in-Ok.number.now c.requires.allowed (rw c.id_at.ensures at c.in-Ok.ensures.shown) in
-    shown-written view (c.write.follows.lender new) (id_at c.args.place) (record { 0 = new }) ends.0 c.requires.allowed (rw c.id_at.ensures at ends.1)
+    shown-written view (c.write.follows.lender new) (id_at c.args.place) (record { 0 = new }) ends.view c.requires.allowed (rw c.id_at.ensures at ends.held)
     ∙ change_left-put (seen_through view) c.args.place c.args.operation c.in-Ok.number.now c.args.operand new held (simp to_z-of_z at c.change_number.ensures.left)
 
 pub returns-in-Err : goal.returns-in-Err
@@ -28,8 +28,8 @@ returns-in-Err c =
     let kept = rw c.in-Err.is at c.write.follows.holds-at-none in
     record {
       outcome = ap (λ fault. Err fault) missing.1 ∙ ap change_outcome (sym refused);
-      left = shown-same view _ kept.0 kept.1 ∙ ap (change_left (seen_through view) c.args.place) (sym refused);
-      keeps = record { view = kept.0; ids = λ q. ap is_some (kept.1 q); frame = λ q out. kept.1 q };
+      left = shown-same view _ kept.view kept.held ∙ ap (change_left (seen_through view) c.args.place) (sym refused);
+      keeps = record { view = kept.view; ids = λ q. ap is_some (kept.held q); frame = λ q out. kept.held q };
     }
 
 pub returns-in-Ok-clause-keeps : goal.returns-in-Ok-clause-keeps
@@ -37,4 +37,4 @@ returns-in-Ok-clause-keeps c =
     let new = c.change_number.new.number in
     let wrote : IsOk c.write.result = (λ i. is_ok (c.in-Ok.is i)) in
     let ends = c.write.follows.holds new wrote in
-    written-kept c.args.self.now (c.write.follows.lender new) (id_at c.args.place) (record { 0 = c.in-Ok.number.now }) (record { 0 = new }) ends.0 c.requires.allowed (rw c.id_at.ensures at c.in-Ok.ensures.shown) (rw c.id_at.ensures at ends.1)
+    written-kept c.args.self.now (c.write.follows.lender new) (id_at c.args.place) (record { 0 = c.in-Ok.number.now }) (record { 0 = new }) ends.view c.requires.allowed (rw c.id_at.ensures at c.in-Ok.ensures.shown) (rw c.id_at.ensures at ends.held)

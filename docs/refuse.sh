@@ -14,6 +14,7 @@ differ=0
 tests='shredtest refusals::
 shredtest_cells refusals::
 shredtest_trees refusals::
+shredtest_kept refusals::once_a_stage_has_run
 shredtest_async refusals::a_run_is_begun_or_all_is_lost
 shredtest_store refusals::
 shredtest_dispatch refusals::

@@ -1,8 +1,9 @@
-//! Tests of workers that are kept, and two examples of them.
+//! Tests of workers that are kept, two examples of them, and a runtime of which few copies can be made.
 #![tactic(auto)]
 
 #[cfg(test)]
 mod dropped;
+pub mod few_copies;
 #[cfg(test)]
 mod gates;
 #[cfg(test)]

@@ -32,7 +32,17 @@ fn expect_meeting(
     meet: bool,
 ) -> Result<(), Fail> {
     expect_end(rt, both(rt.alloc(), turns)?, workers, meet)?;
-    expect_end(rt, seq![both(rt.alloc(), turns)?, Nil], workers, meet)
+    expect_first(rt, both(rt.alloc(), turns)?, workers, meet)
+}
+
+// Of its own, so that the bounds of the tree are those of a parameter.
+fn expect_first<T: RunWithPool<Only<i64>, u8> + Send>(
+    rt: &(impl Abort + AllocGlobal + Threads + Sync),
+    tree: T,
+    workers: usize,
+    meet: bool,
+) -> Result<(), Fail> {
+    expect_end(rt, seq![tree, Nil], workers, meet)
 }
 
 fn expect_end<T: RunWithPool<Only<i64>, u8> + Send>(

@@ -1,7 +1,7 @@
 -- What a dispatch that is Done has in its list, by the entries of the plan alone.
 use Rattle.std.proofs.Common.{◌≡◌, ℕ, suc, List, [], ◌∷◌, ◌++◌, map, refl, ap, ◌∙◌, subst}
 use Rattle.std.specs.List.{AllZip, AllByRecursion, flat_map}
-use Rattle.shred_model.specs.Plan.{PlanEntry, Group, Stage, Plan}
+use Rattle.shred_model.specs.Plan.{PlanEntry, Group, Plan}
 use Rattle.shred_model.specs.Record.{Agent}
 use Rattle.shred_table.specs.declared.id.Kind.{Kind}
 use Rattle.shred_table.specs.declared.id.ResourceId.{ResourceId}

@@ -1,15 +1,27 @@
 -- Worlds of counts, filled and summed.
-use Rattle.std.proofs.Common.{◌≡◌, ℕ, zero, suc, ◌+◌, ◌*◌, ◌%◌, ◌^◌, ◌<◌, ◌≤◌, ◌&&◌, ◌==◌, Bool, true, false, cond, nat_le, ℤ, pos, ◌+ℤ◌, Some, None, of_z, to_z, refl, sym, ap, ◌∙◌, arith}
+use Rattle.std.proofs.Common.{◌≡◌, ℕ, zero, suc, ◌+◌, ◌*◌, ◌%◌, ◌^◌, ◌<◌, ◌≤◌, ◌&&◌, ◌==◌, true, cond, nat_le, ℤ, pos, ◌+ℤ◌, Some, None, of_z, to_z, sym, ap, ◌∙◌, arith}
 use Rattle.std.specs.Prelude.{FitsSigned}
 use Rattle.std.specs.Int.{w64, int_wrap, int_wrapping_add}
 use Rattle.std.proofs.lemmas.Bool.Decides.{nat_tests}
-use Rattle.std.proofs.lemmas.Int.{SFits-int_wrap, int_wrap-add_left, int_wrap-add_right, int_wrap-add_same, of_z-to_z, wrapping_add_is}
+use Rattle.std.proofs.lemmas.Int.{SFits-int_wrap, int_wrap-add_left, int_wrap-add_right, int_wrap-add_same, int_wrap_fits, of_z-to_z, wrapping_add_is}
 use Rattle.shred_table.specs.declared.id.ResourceId.{ResourceId}
-use Rattle.shred_table.specs.Slots.{with_at}
 use Rattle.shred_world.specs.Worked.{Held}
 use Rattle.shred_table.specs.declared.only.Only.{Only}
 use Rattle.shredmeasure.specs.Counts.{count_id, count_value, number_of, sum_to, zeros_to}
 use Rattle.shredmeasure.specs.Measured.{HasCountEach}
+
+zero_fits : FitsSigned w64 (pos 0)
+zero_fits = record { sfits = omega arith }
+
+zero_at : (most number : ℕ) → number ≤ most → zeros_to most (count_id number) ≡ Some (count_value (pos 0))
+zero_at most number below =
+    let low : nat_le number most ≡ true = grind (arith, nat_tests) in
+    ap (λ b. cond ((0 == 0) && b) (Some (count_value (pos 0))) None) low
+
+-- where all counts are 0, each was counted no time
+pub zeros_each : (held : Held (Only ℤ)) (most : ℕ) → ((id : ResourceId) → held id ≡ zeros_to most id) → HasCountEach most 0 held
+zeros_each held most zeros number above below =
+    zeros (count_id number) ∙ zero_at most number below ∙ ap (λ n. Some (count_value n)) (sym (int_wrap_fits w64 (pos 0) zero_fits))
 
 -- the sum of counts that are the same, within 64 bits with sign
 pub same_counts : (held : Held (Only ℤ)) (most times : ℕ) → HasCountEach most times held → int_wrap w64 (sum_to held most) ≡ int_wrap w64 (pos (most * times))

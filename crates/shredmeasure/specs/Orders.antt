@@ -5,12 +5,14 @@ use Rattle.std.specs.Str.Parse.{IsNumeral, digits_value, without_leading_plus}
 use Rattle.shredmeasure.specs.declared.order.Mode.{Mode}
 use Rattle.shredmeasure.specs.declared.order.Mode.TheVariants.{Dispatching, Planning}
 use Rattle.shredmeasure.specs.declared.order.Order.{Order}
-use Rattle.shredmeasure.specs.declared.order.Place.TheVariants.{OnCaller, OnThreads}
+use Rattle.shredmeasure.specs.declared.order.Place.TheVariants.{OnCaller, OnKept, OnSleeping, OnThreads}
 
 -- the word that stands for a mode
 abbrev pub order_word : Mode → List ℕ
 order_word (Dispatching OnCaller) = codes "seq"
 order_word (Dispatching OnThreads) = codes "par"
+order_word (Dispatching OnKept) = codes "kept"
+order_word (Dispatching OnSleeping) = codes "asleep"
 order_word Planning = codes "plan"
 
 -- The word writes this number of 64 bits, in digits after a plus or none.
@@ -29,17 +31,18 @@ first_line text = before_first (λ byte. byte == 10) text
 abbrev pub HasSpace : List ℕ → Type 0
 HasSpace text = position_or_len is_blank text < length text
 
--- These words are the mode's, the number of systems, of which there are at most ten thousand, and the number of times.
-pub record AreWords (mode systems times : List ℕ) (order : Order) : Type 0 where
+-- These words are the mode's, the number of systems, of which there are at most ten thousand, the number of times, and that of pauses.
+pub record AreWords (mode systems times work : List ℕ) (order : Order) : Type 0 where
   pub mode_is : mode ≡ order_word order.mode
   pub systems_are : Writes systems order.systems
   pub few : order.systems ≤ 10000
   pub times_are : Writes times order.times
+  pub work_is : Writes work order.work
 
--- The text is this order: three words, with a space between them.
+-- The text is this order: four words, with a space between them.
 abbrev pub IsOrder : List ℕ → Order → Type 0
-IsOrder text order = let numbers = after_first is_blank text in
-    HasSpace text × HasSpace numbers × AreWords (before_first is_blank text) (before_first is_blank numbers) (after_first is_blank numbers) order
+IsOrder text order = let numbers = after_first is_blank text in let others = after_first is_blank numbers in
+    HasSpace text × HasSpace numbers × HasSpace others × AreWords (before_first is_blank text) (before_first is_blank numbers) (before_first is_blank others) (after_first is_blank others) order
 
 -- The line is text, and up to its first line feed it is this order.
 abbrev pub Asks : List ℕ → Order → Type 0

@@ -1,9 +1,9 @@
 //! Dispatches the same plan many times, or builds plans, to be timed from outside.
 //!
-//! Standard input is one line, `MODE SYSTEMS TIMES`, with one space between the words. Where MODE is `seq` or `par`,
-//! each system adds 1 to a count of its own and declares to read one that all share, and the sum of the counts is
-//! printed. Where it is `plan`, the systems have random accesses of one to six ids over 300 resources, and the number of
-//! stages of all plans is printed.
+//! Standard input is one line, `MODE SYSTEMS TIMES WORK`, with one space between the words. Where MODE is `seq`, `par`, `kept`
+//! or `asleep`, each system waits for WORK pauses of the processor, adds 1 to a count of its own and declares to read one that
+//! all share, and the sum of the counts is printed. Where it is `plan`, the systems have random accesses of one to six ids over
+//! 300 resources, and the number of stages of all plans is printed.
 #![tactic(auto)]
 
 ghost use Rattle.std.specs.Prelude.{◌≡◌, ℕ, ◌*◌, [], length, IfOk, OnOk, pos};
@@ -16,6 +16,7 @@ ghost use Rattle.shred_stage.specs.SearchStart.{IsPlacedBy};
 ghost use Rattle.shred_table.specs.declared.id.ResourceId.{ResourceId};
 ghost use Rattle.shred_world.specs.Worlds.{world_held};
 ghost use Rattle.shred.specs.Dispatchers.{dispatcher_plan};
+ghost use Rattle.shred.specs.KeptDispatchers.{dispatcher_of as dispatcher_of_kept};
 ghost use Rattle.shredmeasure.specs.Adders.{HasOneForEach};
 ghost use Rattle.shredmeasure.specs.Counts.{count_id as id_of, kind_of, number_of, sum_to, zeros_to};
 ghost use Rattle.shredmeasure.specs.Measured.{HasCountEach, IsCountedOnce, IsMeasured};
@@ -29,11 +30,13 @@ use adder::AddOne;
 use order::{Mode, Order, Place};
 use random::Planned;
 use shred::{
-    Dispatcher, Only, Plain, StagesBuilder, SystemId, ThreadLocal, World, new_dispatcher, only_id,
+    DEFAULT_LOOKS, Dispatcher, KeptDispatcher, Only, Plain, StagesBuilder, SystemId, ThreadLocal,
+    World, new_dispatcher, only_id,
 };
 use std::alloc::Global;
 use std::io::{Read, Write};
 use std::process::ExitCode;
+use std::sync::Wait;
 use std::thread::Threads;
 
 /// Why nothing is printed.
@@ -60,12 +63,16 @@ fn world_of(alloc: Global, systems: u64) -> Result<World<Only<i64>>, Stopped>
 fn dispatcher_of(
     alloc: Global,
     systems: u64,
+    work: u64,
 ) -> Result<Dispatcher<Only<i64>, Plain<AddOne>>, Stopped>
     ensures { IfOk result (λ dispatcher. HasOneForEach systems (dispatcher_plan dispatcher)) }
 {
     let mut builder = StagesBuilder::new(alloc);
     for number in 0..systems {
-        let system = Plain(AddOne { number: number + 1 });
+        let system = Plain(AddOne {
+            number: number + 1,
+            work,
+        });
         if builder
             .insert(&[], SystemId(number as usize), system)
             .is_err()
@@ -174,7 +181,7 @@ fn dispatched_on_caller(alloc: Global, order: Order) -> Result<World<Only<i64>>,
     ensures { IfOk result (λ world. HasCountEach order.systems order.times (world_held kind_of world)) }
 {
     let mut world = world_of(alloc, order.systems)?;
-    let mut dispatcher = dispatcher_of(alloc, order.systems)?;
+    let mut dispatcher = dispatcher_of(alloc, order.systems, order.work)?;
     for _ in 0..order.times {
         if dispatch_once_on_caller(&mut dispatcher, &mut world).is_err() {
             return Err(Stopped);
@@ -192,7 +199,7 @@ fn dispatched_on_threads<R: Threads + Sync>(
     ensures { IfOk result (λ world. HasCountEach order.systems order.times (world_held kind_of world)) }
 {
     let mut world = world_of(alloc, order.systems)?;
-    let mut dispatcher = dispatcher_of(alloc, order.systems)?;
+    let mut dispatcher = dispatcher_of(alloc, order.systems, order.work)?;
     for _ in 0..order.times {
         if dispatch_once_on_threads(rt, &mut dispatcher, &mut world).is_err() {
             return Err(Stopped);
@@ -201,8 +208,47 @@ fn dispatched_on_threads<R: Threads + Sync>(
     Ok(world)
 }
 
+/// One dispatch, the groups of a stage beside each other on workers that are kept.
+fn dispatch_once_on_kept<R: Threads + Wait + Drop>(
+    kept: &mut KeptDispatcher<R, Only<i64>, Plain<AddOne>>,
+    world: &mut World<Only<i64>>,
+) -> Result<(), Stopped>
+    ensures { OnOk result (IsCountedOnce (dispatcher_plan (dispatcher_of_kept kept.old)) (world_held kind_of world.old) (dispatcher_plan (dispatcher_of_kept kept.new)) (world_held kind_of world.new)) }
+{
+    match kept.dispatch_par(world) {
+        Ok(()) => Ok(()),
+        Err(_) => Err(Stopped),
+    }
+}
+
+/// The world after the dispatches that are asked for, the groups of a stage beside each other on workers that are kept.
+fn dispatched_on_kept<R: Threads + Wait + Clone + Drop + Send + 'static>(
+    rt: &R,
+    alloc: Global,
+    order: Order,
+    looks: u32,
+) -> Result<World<Only<i64>>, Stopped>
+    ensures { IfOk result (λ world. HasCountEach order.systems order.times (world_held kind_of world)) }
+{
+    let mut world = world_of(alloc, order.systems)?;
+    let dispatcher = dispatcher_of(alloc, order.systems, order.work)?;
+    let Ok(mut kept) = dispatcher.keep(rt, alloc, looks) else {
+        return Err(Stopped);
+    };
+    for _ in 0..order.times {
+        if dispatch_once_on_kept(&mut kept, &mut world).is_err() {
+            return Err(Stopped);
+        }
+    }
+    Ok(world)
+}
+
 /// What is printed: the sum of the counts, or the number of stages.
-fn measured<R: Threads + Sync>(rt: &R, alloc: Global, order: Order) -> Result<i64, Stopped>
+fn measured<R: Threads + Wait + Sync + Clone + Drop + Send + 'static>(
+    rt: &R,
+    alloc: Global,
+    order: Order,
+) -> Result<i64, Stopped>
     ensures { IfOk result (λ sum. IsMeasured order.mode order.systems order.times sum) }
 {
     match order.mode {
@@ -212,6 +258,14 @@ fn measured<R: Threads + Sync>(rt: &R, alloc: Global, order: Order) -> Result<i6
         }
         Mode::Dispatching(Place::OnThreads) => {
             let world = dispatched_on_threads(rt, alloc, order)?;
+            Ok(sum_of(&world, order.systems))
+        }
+        Mode::Dispatching(Place::OnKept) => {
+            let world = dispatched_on_kept(rt, alloc, order, DEFAULT_LOOKS)?;
+            Ok(sum_of(&world, order.systems))
+        }
+        Mode::Dispatching(Place::OnSleeping) => {
+            let world = dispatched_on_kept(rt, alloc, order, 0)?;
             Ok(sum_of(&world, order.systems))
         }
         Mode::Planning => {

@@ -2,11 +2,14 @@
 ghost use Rattle.std.specs.Prelude.{◌≡◌, ◌≢◌, ℕ, MatchOption};
 ghost use Rattle.shredmeasure.specs.Orders.{AreWords, Asks, Writes, first_line, order_word};
 
-/// Where the groups of a stage run.
+/// Where the groups of a stage run: on the caller's thread, on threads that are started for it, on workers that are kept and look
+/// for a job before they sleep, or on such that sleep at once.
 #[derive(Clone, Copy)]
 pub(crate) enum Place {
     OnCaller,
     OnThreads,
+    OnKept,
+    OnSleeping,
 }
 
 /// What is done with the systems: they are dispatched, or a plan of random ones is built.
@@ -16,12 +19,13 @@ pub(crate) enum Mode {
     Planning,
 }
 
-/// So many systems, dispatched or planned so often.
+/// So many systems, dispatched or planned so often. In each run one waits for so many pauses of the processor.
 #[derive(Clone, Copy)]
 pub(crate) struct Order {
     pub(crate) mode: Mode,
     pub(crate) systems: u64,
     pub(crate) times: u64,
+    pub(crate) work: u64,
 }
 
 /// The most systems that are made.
@@ -35,6 +39,8 @@ impl Mode {
         match word {
             "seq" => Some(Mode::Dispatching(Place::OnCaller)),
             "par" => Some(Mode::Dispatching(Place::OnThreads)),
+            "kept" => Some(Mode::Dispatching(Place::OnKept)),
+            "asleep" => Some(Mode::Dispatching(Place::OnSleeping)),
             "plan" => Some(Mode::Planning),
             _ => None,
         }
@@ -60,13 +66,14 @@ fn number_of(word: &str) -> Option<u64>
 
 impl Order {
     /// The order of these words, if they are one's.
-    fn of_words(mode: &str, systems: &str, times: &str) -> Option<Order>
-        ensures { MatchOption result ((order : Order) → AreWords mode.now systems.now times.now order → ⊥) (λ order. AreWords mode.now systems.now times.now order) }
+    fn of_words(mode: &str, systems: &str, times: &str, work: &str) -> Option<Order>
+        ensures { MatchOption result ((order : Order) → AreWords mode.now systems.now times.now work.now order → ⊥) (λ order. AreWords mode.now systems.now times.now work.now order) }
     {
         let order = Order {
             mode: Mode::of_word(mode)?,
             systems: number_of(systems)?,
             times: number_of(times)?,
+            work: number_of(work)?,
         };
         if order.systems > MOST_SYSTEMS {
             return None;
@@ -80,7 +87,8 @@ impl Order {
     {
         let text = first_line_of(str::from_utf8(line).ok()?);
         let (mode, numbers) = text.split_once(' ')?;
-        let (systems, times) = numbers.split_once(' ')?;
-        Order::of_words(mode, systems, times)
+        let (systems, others) = numbers.split_once(' ')?;
+        let (times, work) = others.split_once(' ')?;
+        Order::of_words(mode, systems, times, work)
     }
 }

@@ -1,15 +1,12 @@
--- What the builders of a script have come to.
-use Rattle.std.specs.Prelude.{map}
-use Rattle.shred.specs.Builders.{built}
-use Rattle.shredscript.specs.declared.build.Building.{Building as Builders}
-use Rattle.shredscript.specs.declared.build.Open.{Open}
-use Rattle.shredscript_text.specs.declared.script.BatchLine.{BatchLine}
-use Rattle.shredscript.specs.Lines.{Building, ScriptBuilt}
+-- What takes the lines of a script, and what its builders have come to.
+use Rattle.shredscript.specs.declared.build.Building.{Building as Takers}
+use Rattle.shredscript.specs.Lines.{Building, Builts}
+use Rattle.shredscript.specs.Notes.{Noting, builts_of}
 
--- a batch that is open, with what the builder has come to that is to take it
-abbrev pub begun : Open → BatchLine × ScriptBuilt
-begun one = (one.batch, built one.outer)
+-- what takes the next line, and what is to take the open batches
+abbrev pub values_of : {B : Type 0} → Takers B → Building B
+values_of building = record { current = building.current; pending = building.pending.items }
 
--- what the builders have come to: that which takes the next line, and those around it
-abbrev pub state_of : Builders → Building
-state_of building = record { current = built building.builder; pending = map begun building.«open».items }
+-- what their builders have come to
+abbrev pub state_of : {B : Type 0} → Noting B → Takers B → Builts
+state_of N building = builts_of N (values_of building)

@@ -1,7 +1,9 @@
 pub mod Steps
 pub mod Overlaid
 pub mod Lines
+pub mod Notes
 pub mod PlanTexts
 pub mod Runs
+pub mod Ready
 pub mod Building
 pub mod Tables

@@ -1,5 +1,7 @@
 -- What the lines of a script make of a builder.
 use Rattle.std.specs.Prelude.{◌≡◌, ℕ, ◌<◌, List, [], ◌∷◌, ◌++◌, ◌⊎◌}
+use Rattle.shred_model.specs.Access.{Access}
+use Rattle.shred_table.specs.declared.id.ResourceId.{ResourceId}
 use Rattle.shredscript.specs.declared.local.ScriptLocal.{ScriptLocal}
 use Rattle.shred.specs.Batches.{IsBatchAddition}
 use Rattle.shred.specs.Built.{Built, IsAddition, IsBarrierSet, IsLocalAdded, IsNewBuilt, IsRuleSet}
@@ -35,10 +37,14 @@ ScriptWork = Work ScriptSystem (Nested Value ScriptSystem ScriptBatch)
 abbrev pub ScriptBuilt : Type 0
 ScriptBuilt = Built ScriptWork ScriptLocal
 
--- What the builder that takes the next line has come to, and the batches that are open around it, each with what the builder has come to that is to take it, the outermost first.
-pub record Building : Type 0 where
-  pub current : ScriptBuilt
-  pub pending : List (BatchLine × ScriptBuilt)
+-- What takes the next line, and the batches that are open around it, each with what is to take it, the outermost first.
+pub record Building (B : Type 0) : Type 0 where
+  pub current : B
+  pub pending : List (BatchLine × B)
+
+-- what the builders of a script's plan and of its open batches have come to
+abbrev pub Builts : Type 0
+Builts = Building ScriptBuilt
 
 -- the names that a line's system depends on
 abbrev pub needed : SystemLine → List (List ℕ)
@@ -57,28 +63,36 @@ abbrev pub IsLocalTaken : List Step → ScriptBuilt → ScriptBuilt → Type 0
 IsLocalTaken steps old new = (system : ScriptLocal) × (system.steps.items ≡ steps) × IsLocalAdded old new system
 
 -- an empty plan is gone on with, that of the batch
-abbrev pub IsBatchOpened : BatchLine → Building → Building → Type 0
+abbrev pub IsBatchOpened : BatchLine → Builts → Builts → Type 0
 IsBatchOpened batch old new = IsNewBuilt new.current × (new.pending ≡ old.pending ++ (batch, old.current) ∷ [])
+
+-- the lists of a batch's controller, which are empty
+abbrev pub no_access : Access ResourceId
+no_access = record { reads = []; writes = [] }
 
 -- the names that a batch depends on
 abbrev pub batch_needs : BatchLine → List (List ℕ)
 batch_needs batch = texts_of batch.dependencies.items
 
+-- Its names are as a builder asks, and a batch of what was made of the inner plan, which has no thread-local system, is added under them.
+pub record IsBatchAdded (batch : BatchLine) (inner old new : ScriptBuilt) : Type 0 where
+  pub controller : ScriptBatch
+  pub rounds : controller.rounds ≡ batch.rounds
+  pub no_local : inner.locals ≡ []
+  pub allowed : MayAdd old.known old.next batch.name.now (batch_needs batch)
+  pub addition : IsBatchAddition old new batch.name.now (batch_needs batch) no_access VeryLong controller inner
+
 -- The innermost open batch is added to the plan around it, with what was made of its plan, and that is gone on with.
-pub record IsBatchEnded (old new : Building) : Type 0 where
+pub record IsBatchEnded (old new : Builts) : Type 0 where
   pub outer : List (BatchLine × ScriptBuilt)
   pub batch : BatchLine
   pub around : ScriptBuilt
   pub innermost : old.pending ≡ outer ++ (batch, around) ∷ []
-  pub controller : ScriptBatch
-  pub rounds : controller.rounds ≡ batch.rounds
-  pub no_local : old.current.locals ≡ []
-  pub allowed : MayAdd around.known around.next batch.name.now (batch_needs batch)
-  pub addition : IsBatchAddition around new.current batch.name.now (batch_needs batch) (record { reads = []; writes = [] }) VeryLong controller old.current
+  pub added : IsBatchAdded batch old.current around new.current
   pub rest : new.pending ≡ outer
 
 -- what a line makes of the builders: its system is added, staged or thread-local, or the barrier or its rule is set, in the innermost one; or a batch begins, or ends
-abbrev pub IsLineTaken : PlanLine → Building → Building → Type 0
+abbrev pub IsLineTaken : PlanLine → Builts → Builts → Type 0
 IsLineTaken (System line) old new = IsLineAdded line old.current new.current × (new.pending ≡ old.pending)
 IsLineTaken (Local steps) old new = IsLocalTaken steps.items old.current new.current × (new.pending ≡ old.pending)
 IsLineTaken Barrier old new = IsBarrierSet old.current new.current × (new.pending ≡ old.pending)
@@ -87,12 +101,12 @@ IsLineTaken (Batch batch) old new = IsBatchOpened batch old new
 IsLineTaken (End line) old new = IsBatchEnded old new
 
 -- what lines make of the builders, one after another
-abbrev pub AreTaken : List PlanLine → Building → Building → Type 0
+abbrev pub AreTaken : List PlanLine → Builts → Builts → Type 0
 AreTaken [] old new = new ≡ old
-AreTaken (line ∷ lines) old new = (next : Building) × IsLineTaken line old next × AreTaken lines next new
+AreTaken (line ∷ lines) old new = (next : Builts) × IsLineTaken line old next × AreTaken lines next new
 
 -- what lines make of an empty builder, and of those that they open
-abbrev pub AreBuiltBy : List PlanLine → Building → Type 0
+abbrev pub AreBuiltBy : List PlanLine → Builts → Type 0
 AreBuiltBy lines building = (empty : ScriptBuilt) × IsNewBuilt empty × AreTaken lines (record { current = empty; pending = [] }) building
 
 -- what lines make of an empty builder, which end each batch that they begin
@@ -132,12 +146,12 @@ IsBatchNotAdded line batch around inner (Unnamed id) = ⊥
 IsBatchNotAdded line batch around inner OutputFailed = ⊥
 
 -- why a batch is not ended: none is open, or it is not added
-abbrev pub IsBatchNotEnded : ℕ → Building → ScriptError → Type 0
+abbrev pub IsBatchNotEnded : ℕ → Builts → ScriptError → Type 0
 IsBatchNotEnded line old error = ((old.pending ≡ []) × (error ≡ Line line EndWithoutBatch))
     ⊎ ((outer : List (BatchLine × ScriptBuilt)) × (batch : BatchLine) × (around : ScriptBuilt) × (old.pending ≡ outer ++ (batch, around) ∷ []) × IsBatchNotAdded line batch around old.current error)
 
 -- why a line is not taken: its system is not added, a thread-local one and the beginning of a batch only for want of memory, its rule is not set, and a batch is not ended; a barrier always is set
-abbrev pub IsNotTaken : PlanLine → Building → ScriptError → Type 0
+abbrev pub IsNotTaken : PlanLine → Builts → ScriptError → Type 0
 IsNotTaken (System line) old error = IsNotAdded line old.current error
 IsNotTaken (Local steps) old error = error ≡ OutOfMemory
 IsNotTaken Barrier old error = ⊥
@@ -151,13 +165,13 @@ pub record IsStopped (lines : List PlanLine) (error : ScriptError) : Type 0 wher
   pub line : PlanLine
   pub after : List PlanLine
   pub at : lines ≡ before ++ line ∷ after
-  pub building : Building
+  pub building : Builts
   pub made : AreBuiltBy before building
   pub stops : IsNotTaken line building error
 
 -- No line ends the innermost batch that is open after all of them.
 pub record IsUnended (lines : List PlanLine) (error : ScriptError) : Type 0 where
-  pub building : Building
+  pub building : Builts
   pub made : AreBuiltBy lines building
   pub outer : List (BatchLine × ScriptBuilt)
   pub batch : BatchLine

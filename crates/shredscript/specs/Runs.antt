@@ -22,7 +22,6 @@ use Rattle.shredscript_text.specs.declared.error.ScriptError.TheVariants.{TooLon
 use Rattle.shredscript_text.specs.declared.input.TheConstants.{MOST_BYTES}
 use Rattle.shredscript_text.specs.declared.outcome.Outcome.{Outcome}
 use Rattle.shredscript_text.specs.declared.outcome.Refusal.{Refusal}
-use Rattle.shredscript_text.specs.declared.script.Manner.{Manner}
 use Rattle.shredscript_text.specs.declared.script.PlanLine.{PlanLine}
 use Rattle.shredscript_text.specs.declared.script.Script.{Script}
 use Rattle.shredscript.specs.declared.batch.ScriptBatch.{ScriptBatch}
@@ -98,14 +97,6 @@ pub record IsSetUpFrom (before after : Program) : Type 0 where
 abbrev pub AreSetUpAndDispatched : ℕ → Program → Answer (DispatchError Refusal) → Program → Type 0
 AreSetUpAndDispatched times before answer after = (ready : Program) × IsSetUpFrom before ready × AreDispatched times ready answer after
 
--- The program is set up and dispatched that many times, and the text goes on with what this left and how it ended.
-pub record IsDispatch (before : Program) (times : ℕ) (resources : List (List ℕ)) (begins : List ℕ) (outcome : Outcome) (text : List ℕ) : Type 0 where
-  pub answer : Answer (DispatchError Refusal)
-  pub after : Program
-  pub ran : AreSetUpAndDispatched times before answer after
-  pub outcome_is : outcome ≡ outcome_of answer
-  pub text_is : text ≡ begins ++ report resources after.staged.values outcome
-
 -- what lines make of an empty builder, which is then given this number of workers
 abbrev pub IsMadeOf : List PlanLine → ℕ → ScriptBuilt → Type 0
 IsMadeOf lines workers built = (all : ScriptBuilt) × IsBuiltBy lines all × IsPoolSet all built workers
@@ -114,54 +105,42 @@ IsMadeOf lines workers built = (all : ScriptBuilt) × IsBuiltBy lines all × IsP
 abbrev pub program_of : ScriptBuilt → Held Value → Program
 program_of built held = record { staged = record { plan = built.plan; works = built.states; values = held }; locals = built.locals; workers = built.workers }
 
--- Lines are run: with the number of workers that is asked for they make a plan, which is printed where that is asked for, and is set up and dispatched, from these first values on, as often as asked.
-pub record AreLinesRun (lines : List PlanLine) (prints : Bool) (manner : Manner) (first : Held Value) (resources : List (List ℕ)) (outcome : Outcome) (text : List ℕ) : Type 0 where
+-- What a script prints before it is run: with the number of workers that is asked for its lines make a plan, and this is its part of the text.
+pub record IsPlanOf (script : Script) (text : List ℕ) : Type 0 where
   pub built : ScriptBuilt
-  pub made : IsMadeOf lines manner.workers built
+  pub made : IsMadeOf script.plan.items script.manner.workers built
   pub names : List NamedId
   pub known : AreNames names built.known
+  pub planned : IsPlanPart script.prints_plan names built.plan text
+
+-- A script is run: its plan is set up and dispatched, from the first values of its resources on, as often as asked; the text is what is printed before it, and what this left and how it ended.
+pub record IsRunOf (script : Script) (outcome : Outcome) (text : List ℕ) : Type 0 where
   pub begins : List ℕ
-  pub planned : IsPlanPart prints names built.plan begins
-  pub dispatch : IsDispatch (program_of built first) manner.times resources begins outcome text
+  pub plan : IsPlanOf script begins
+  pub answer : Answer (DispatchError Refusal)
+  pub after : Program
+  pub ran : AreSetUpAndDispatched script.manner.times (program_of plan.built (first_held (values script.resources))) answer after
+  pub outcome_is : outcome ≡ outcome_of answer
+  pub text_is : text ≡ begins ++ report (resource_names script.resources) after.staged.values outcome
 
--- What lines print before they are run: with the number of workers that is asked for they make a plan, and this is its part of the text.
-pub record AreLinesPlanned (lines : List PlanLine) (prints : Bool) (manner : Manner) (text : List ℕ) : Type 0 where
+-- A script is not run, since its plan is asked for and a system has no name, of which the first in the plan's order has this id.
+pub record IsUnnamed (script : Script) (id : ℕ) : Type 0 where
+  pub asked : script.prints_plan ≡ true
   pub built : ScriptBuilt
-  pub made : IsMadeOf lines manner.workers built
-  pub names : List NamedId
-  pub known : AreNames names built.known
-  pub planned : IsPlanPart prints names built.plan text
-
--- what a script prints before it is run: what its lines do
-abbrev pub IsPlanOf : Script → List ℕ → Type 0
-IsPlanOf script = AreLinesPlanned script.plan.items script.prints_plan script.manner
-
--- a script is run: its lines are, from the first values of its resources on
-abbrev pub IsRunOf : Script → Outcome → List ℕ → Type 0
-IsRunOf script = AreLinesRun script.plan.items script.prints_plan script.manner (first_held (values script.resources)) (resource_names script.resources)
-
--- Lines are not run, since their plan is asked for and a system has no name, of which the first in the plan's order has this id.
-pub record IsUnnamed (lines : List PlanLine) (prints : Bool) (manner : Manner) (id : ℕ) : Type 0 where
-  pub asked : prints ≡ true
-  pub built : ScriptBuilt
-  pub made : IsMadeOf lines manner.workers built
+  pub made : IsMadeOf script.plan.items script.manner.workers built
   pub names : List NamedId
   pub known : AreNames names built.known
   pub first : Some id ≡ first_unnamed names (plan_ids built.plan)
 
--- why lines are not run: one of them is refused, a batch has no end or an end no batch, a system has no name to be printed, or memory is refused
-abbrev pub AreLinesNotRun : List PlanLine → Bool → Manner → ScriptError → Type 0
-AreLinesNotRun lines prints manner (Refused number refusal) = IsNotBuilt lines (Refused number refusal)
-AreLinesNotRun lines prints manner (Unnamed id) = IsUnnamed lines prints manner id
-AreLinesNotRun lines prints manner OutOfMemory = Unit {0}
-AreLinesNotRun lines prints manner TooLong = ⊥
-AreLinesNotRun lines prints manner InputFailed = ⊥
-AreLinesNotRun lines prints manner (Line number fault) = IsNotBuilt lines (Line number fault)
-AreLinesNotRun lines prints manner OutputFailed = ⊥
-
--- why a script that was read is not run: why its lines are not
+-- why a script that was read is not run: one of its lines is refused, a batch has no end or an end no batch, a system has no name to be printed, or memory is refused
 abbrev pub IsNotRun : Script → ScriptError → Type 0
-IsNotRun script = AreLinesNotRun script.plan.items script.prints_plan script.manner
+IsNotRun script (Refused number refusal) = IsNotBuilt script.plan.items (Refused number refusal)
+IsNotRun script (Unnamed id) = IsUnnamed script id
+IsNotRun script OutOfMemory = Unit {0}
+IsNotRun script TooLong = ⊥
+IsNotRun script InputFailed = ⊥
+IsNotRun script (Line number fault) = IsNotBuilt script.plan.items (Line number fault)
+IsNotRun script OutputFailed = ⊥
 
 -- all that was left, where that is known, was read, and it is not too long
 abbrev pub IsRead : Option (List ℕ) → Option (List ℕ) → Type 0
@@ -186,16 +165,16 @@ IsReadFor (Err TooLong) old new = IsLongerThan MOST_BYTES old
 IsReadFor (Err InputFailed) old new = Unit {0}
 IsReadFor (Err OutOfMemory) old new = Unit {0}
 
--- what standard output holds after an end: of an outcome its text was added; where output failed, a beginning of the text before the run, or of some outcome's; of any other error nothing, and this is why
-abbrev pub IsPrinted : (List ℕ → Type 0) → (Outcome → List ℕ → Type 0) → (ScriptError → Type 0) → Result Outcome ScriptError → Option (List ℕ) → Option (List ℕ) → Type 0
-IsPrinted Planned Ran Why (Ok outcome) old new = (text : List ℕ) × Ran outcome text × Appends old new text
-IsPrinted Planned Ran Why (Err OutputFailed) old new = (text : List ℕ) × (Planned text ⊎ ((outcome : Outcome) × Ran outcome text)) × AppendsBeginning old new text
-IsPrinted Planned Ran Why (Err OutOfMemory) old new = Why OutOfMemory × Keeps old new
-IsPrinted Planned Ran Why (Err TooLong) old new = Why TooLong × Keeps old new
-IsPrinted Planned Ran Why (Err InputFailed) old new = Why InputFailed × Keeps old new
-IsPrinted Planned Ran Why (Err (Line number fault)) old new = Why (Line number fault) × Keeps old new
-IsPrinted Planned Ran Why (Err (Refused number refusal)) old new = Why (Refused number refusal) × Keeps old new
-IsPrinted Planned Ran Why (Err (Unnamed id)) old new = Why (Unnamed id) × Keeps old new
+-- what standard output holds after a script's end: of an outcome the text of its run was added; where output failed, a beginning of what it prints before it is run, or of the text of some outcome's run; of any other error nothing, and this is why it is not run
+abbrev pub IsPrinted : Script → Result Outcome ScriptError → Option (List ℕ) → Option (List ℕ) → Type 0
+IsPrinted script (Ok outcome) old new = (text : List ℕ) × IsRunOf script outcome text × Appends old new text
+IsPrinted script (Err OutputFailed) old new = (text : List ℕ) × (IsPlanOf script text ⊎ ((outcome : Outcome) × IsRunOf script outcome text)) × AppendsBeginning old new text
+IsPrinted script (Err OutOfMemory) old new = IsNotRun script OutOfMemory × Keeps old new
+IsPrinted script (Err TooLong) old new = IsNotRun script TooLong × Keeps old new
+IsPrinted script (Err InputFailed) old new = IsNotRun script InputFailed × Keeps old new
+IsPrinted script (Err (Line number fault)) old new = IsNotRun script (Line number fault) × Keeps old new
+IsPrinted script (Err (Refused number refusal)) old new = IsNotRun script (Refused number refusal) × Keeps old new
+IsPrinted script (Err (Unnamed id)) old new = IsNotRun script (Unnamed id) × Keeps old new
 
 -- the text of an outcome's run was added, of the script that was read
 abbrev pub IsTold : Outcome → Option (List ℕ) → Option (List ℕ) → Option (List ℕ) → Option (List ℕ) → Type 0

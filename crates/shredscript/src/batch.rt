@@ -9,7 +9,7 @@ use std::alloc::Global;
 
 /// The controller of a batch of a script, which runs its plan so often.
 #[derive(Drop)]
-pub(crate) struct ScriptBatch {
+pub struct ScriptBatch {
     pub(crate) rounds: usize,
 }
 

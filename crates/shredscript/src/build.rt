@@ -1,177 +1,108 @@
-//! The plan that a script's lines make.
+//! The walk over a script's lines, which make its plan.
 ghost use Rattle.std.specs.Prelude.{◌≡◌, OnOk, IfOk, IfErr};
-ghost use Rattle.shred.specs.Builders.{built};
-ghost use Rattle.shred.specs.Built.{IsRuleSet};
-ghost use Rattle.shredscript.specs.Building.{state_of};
-ghost use Rattle.shredscript.specs.Lines.{IsBatchOpened, IsBatchEnded, IsBatchNotEnded, IsBuiltBy, IsLineAdded, IsLineTaken, IsLocalTaken, IsNotAdded, IsNotBuilt, IsNotTaken, IsRuleNotSet};
-ghost use Rattle.shredscript.specs.Runs.{IsMadeOf};
+ghost use Rattle.shred.specs.Built.{IsNewBuilt};
+ghost use Rattle.shredscript.specs.Lines.{IsBatchNotEnded, IsBuiltBy, IsNotBuilt, IsNotTaken};
+ghost use Rattle.shredscript_text.specs.declared.script.PlanLine.TheVariants.{Batch, End};
+ghost use Rattle.shredscript.specs.Notes.{AreNotedBy, TakesLine};
+ghost use Rattle.shredscript.specs.Building.{state_of, values_of};
 
-use crate::batch::ScriptBatch;
-use crate::local::ScriptLocal;
-use crate::system::ScriptSystem;
-use shred::DispatcherBuilder;
+use crate::taker::LineTaker;
 use shred_run::entry::push_or_drop;
 use shredscript_text::error::{LineFault, ScriptError};
-use shredscript_text::script::{BatchLine, PlanLine, RuleLine, SystemLine};
-use shredscript_text::step::Step;
-use shredscript_text::value::Value;
+use shredscript_text::script::{BatchLine, PlanLine};
 use std::alloc::Global;
 use std::mem;
 
-/// A builder of plans of a script's systems and batches.
-pub(crate) type ScriptBuilder = DispatcherBuilder<Value, ScriptSystem, ScriptBatch, ScriptLocal>;
-
-/// A batch that no line has ended yet, and the builder that is to take it.
+/// What takes the next line, and the batches that are open around it, each with what is to take it, the outermost first.
 #[derive(Drop)]
-struct Open<'text> {
-    outer: ScriptBuilder,
-    batch: BatchLine<'text>,
+struct Building<'text, B> {
+    current: B,
+    pending: Vec<(BatchLine<'text>, B)>,
 }
 
-/// The builder that takes the next line, and the batches that are open around it, the outermost first.
-#[derive(Drop)]
-struct Building<'text> {
-    builder: ScriptBuilder,
-    open: Vec<Open<'text>>,
-}
-
-// The builder that has taken all lines, in their order, with the workers of an empty one.
-fn builder_of(alloc: Global, lines: Vec<PlanLine<'_>>) -> Result<ScriptBuilder, ScriptError>
-    ensures built { IfOk result (λ builder. IsBuiltBy lines.entry.items (built builder)) }
+/// What this empty one becomes that takes all lines, in their order. Refused where a line does not go into the plan, where a
+/// batch has no end or an end no batch, and where memory is wanting.
+pub fn take_lines<B: LineTaker + Drop>(
+    alloc: Global,
+    lines: Vec<PlanLine<'_>>,
+    empty: B,
+) -> Result<B, ScriptError>
+    requires { IsNewBuilt (B.noting.comes_to empty) }
+    ensures built { IfOk result (λ taker. IsBuiltBy lines.entry.items (B.noting.comes_to taker)) }
+    ensures noted { IfOk result (AreNotedBy B.noting lines.entry.items empty) }
     ensures not_built { IfErr result (IsNotBuilt lines.entry.items) }
 {
     let mut building = Building {
-        builder: ScriptBuilder::new(alloc),
-        open: Vec::new(alloc),
+        current: empty,
+        pending: Vec::new(alloc),
     };
     for line in lines {
         if let Err(error) = take_line(alloc, &mut building, line) {
             return Err(error);
         }
     }
-    match building.open.pop() {
-        None => Ok(building.builder),
-        Some(open) => Err(ScriptError::Line {
-            line: open.batch.line,
+    match building.pending.pop() {
+        None => Ok(building.current),
+        Some((batch, _)) => Err(ScriptError::Line {
+            line: batch.line,
             fault: LineFault::BatchWithoutEnd,
         }),
     }
 }
 
-/// The builder that has taken all lines, in their order, with this number of workers. Refused where a line does not go into the
-/// plan, where a batch has no end or an end no batch, and where memory is wanting.
-pub(crate) fn builder_with(
+fn take_line<'text, B: LineTaker + Drop>(
     alloc: Global,
-    lines: Vec<PlanLine<'_>>,
-    workers: usize,
-) -> Result<ScriptBuilder, ScriptError>
-    ensures made { IfOk result (λ builder. IsMadeOf lines.entry.items workers (built builder)) }
-    ensures not_built { IfErr result (IsNotBuilt lines.entry.items) }
-{
-    let mut builder = builder_of(alloc, lines)?;
-    builder.add_pool(workers);
-    Ok(builder)
-}
-
-fn take_line<'text>(
-    alloc: Global,
-    building: &mut Building<'text>,
+    building: &mut Building<'text, B>,
     line: PlanLine<'text>,
 ) -> Result<(), ScriptError>
-    ensures taken { OnOk result (IsLineTaken line.entry (state_of building.old) (state_of building.new)) }
-    ensures not_taken { IfErr result (IsNotTaken line.entry (state_of building.old)) }
+    ensures taken { OnOk result (TakesLine B.noting line.entry (values_of building.old) (values_of building.new)) }
+    ensures not_taken { IfErr result (IsNotTaken line.entry (state_of B.noting building.old)) }
 {
     match line {
-        PlanLine::System(line) => add_system(alloc, &mut building.builder, line),
-        PlanLine::Local(steps) => add_local(&mut building.builder, steps),
+        PlanLine::System(line) => building.current.add_system(alloc, line),
+        PlanLine::Local(steps) => building.current.add_local(steps),
         PlanLine::Barrier => {
-            building.builder.add_barrier();
+            building.current.add_barrier();
             Ok(())
         }
-        PlanLine::Rule(line) => set_rule(&mut building.builder, line),
-        PlanLine::Batch(batch) => open_batch(alloc, building, batch),
-        PlanLine::End(line) => end_batch(building, line),
-    }
-}
-
-/// Sets the rule of a line, which is refused where a system or a batch was added before.
-fn set_rule(builder: &mut ScriptBuilder, line: RuleLine) -> Result<(), ScriptError>
-    ensures set { OnOk result (IsRuleSet (built builder.old) (built builder.new) line.rule) }
-    ensures not_set { IfErr result (IsRuleNotSet line (built builder.old)) }
-{
-    match builder.add_rule(line.rule) {
-        Ok(()) => Ok(()),
-        Err(error) => Err(ScriptError::of_add(line.line, error)),
+        PlanLine::Rule(line) => building.current.set_rule(line),
+        PlanLine::Batch(batch) => begin_batch(alloc, building, batch),
+        PlanLine::End(line) => end_batch(alloc, building, line),
     }
 }
 
 /// Goes on with an empty plan, that of the batch.
-fn open_batch<'text>(
+fn begin_batch<'text, B: LineTaker + Drop>(
     alloc: Global,
-    building: &mut Building<'text>,
+    building: &mut Building<'text, B>,
     batch: BatchLine<'text>,
 ) -> Result<(), ScriptError>
-    ensures opened { OnOk result (IsBatchOpened batch.entry (state_of building.old) (state_of building.new)) }
-    ensures not_opened { IfErr result (λ error. error ≡ ScriptError.OutOfMemory) }
+    ensures begun { OnOk result (TakesLine B.noting (Batch batch.entry) (values_of building.old) (values_of building.new)) }
+    ensures not_begun { IfErr result (λ error. error ≡ ScriptError.OutOfMemory) }
 {
-    let outer = mem::replace(&mut building.builder, ScriptBuilder::new(alloc));
-    match push_or_drop(&mut building.open, Open { outer, batch }) {
+    let inner = building.current.begin_batch(alloc, &batch)?;
+    let outer = mem::replace(&mut building.current, inner);
+    match push_or_drop(&mut building.pending, (batch, outer)) {
         Ok(()) => Ok(()),
         Err(_) => Err(ScriptError::OutOfMemory),
     }
 }
 
-/// Adds the innermost open batch to the builder around it, and goes on with that.
-fn end_batch(building: &mut Building<'_>, end: usize) -> Result<(), ScriptError>
-    ensures ended { OnOk result (IsBatchEnded (state_of building.old) (state_of building.new)) }
-    ensures not_ended { IfErr result (IsBatchNotEnded end (state_of building.old)) }
+/// Adds the innermost open batch to the plan around it, and goes on with that.
+fn end_batch<B: LineTaker + Drop>(
+    alloc: Global,
+    building: &mut Building<'_, B>,
+    end: usize,
+) -> Result<(), ScriptError>
+    ensures ended { OnOk result (TakesLine B.noting (End end) (values_of building.old) (values_of building.new)) }
+    ensures not_ended { IfErr result (IsBatchNotEnded end (state_of B.noting building.old)) }
 {
-    let Some(Open { outer, batch }) = building.open.pop() else {
+    let Some((batch, outer)) = building.pending.pop() else {
         return Err(ScriptError::Line {
             line: end,
             fault: LineFault::EndWithoutBatch,
         });
     };
-    let inner = mem::replace(&mut building.builder, outer);
-    let controller = ScriptBatch {
-        rounds: batch.rounds,
-    };
-    match building.builder.add_batch(controller, inner, batch.name, batch.dependencies.as_slice()) {
-        Ok(_) => Ok(()),
-        Err(error) => Err(ScriptError::of_add(end, error)),
-    }
-}
-
-/// Adds the thread-local system of these steps.
-fn add_local(builder: &mut ScriptBuilder, steps: Vec<Step>) -> Result<(), ScriptError>
-    ensures added { OnOk result (IsLocalTaken steps.items (built builder.old) (built builder.new)) }
-    ensures not_added { IfErr result (λ error. error ≡ ScriptError.OutOfMemory) }
-{
-    match builder.add_thread_local(ScriptLocal { steps }) {
-        Ok(()) => Ok(()),
-        Err(_) => Err(ScriptError::OutOfMemory),
-    }
-}
-
-/// Adds the system of a line.
-fn add_system(
-    alloc: Global,
-    builder: &mut ScriptBuilder,
-    line: SystemLine<'_>,
-) -> Result<(), ScriptError>
-    ensures added { OnOk result (IsLineAdded line.entry (built builder.old) (built builder.new)) }
-    ensures not_added { IfErr result (IsNotAdded line.entry (built builder.old)) }
-{
-    let SystemLine {
-        line,
-        name,
-        time,
-        dependencies,
-        steps,
-    } = line;
-    let system = ScriptSystem::new(alloc, time, steps)?;
-    match builder.add(system, name, dependencies.as_slice()) {
-        Ok(_) => Ok(()),
-        Err(error) => Err(ScriptError::of_add(line, error)),
-    }
+    let inner = mem::replace(&mut building.current, outer);
+    building.current.add_batch(alloc, end, batch, inner)
 }

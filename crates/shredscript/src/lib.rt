@@ -3,6 +3,7 @@
 
 mod batch;
 mod build;
+mod builder;
 mod declared;
 mod engine;
 mod kept;
@@ -13,6 +14,13 @@ mod run_plan;
 mod stepping;
 mod system;
 mod table;
+mod taker;
 
+pub use batch::ScriptBatch;
+pub use build::take_lines;
+pub use builder::ScriptBuilder;
+pub use declared::Declared;
 pub use engine::run;
+pub use system::ScriptSystem;
 pub use table::{Case, run_table};
+pub use taker::LineTaker;

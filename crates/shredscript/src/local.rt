@@ -11,7 +11,7 @@ use std::thread::Threads;
 
 /// A thread-local system of a script: steps that run in order, up to the first that refuses, over the whole world.
 #[derive(Drop)]
-pub(crate) struct ScriptLocal {
+pub struct ScriptLocal {
     pub(crate) steps: Vec<Step>,
 }
 

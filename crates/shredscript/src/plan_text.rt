@@ -3,7 +3,7 @@ ghost use Rattle.std.specs.Prelude.{IfOk, IfErr};
 ghost use Rattle.shred.specs.Builders.{built, builder_pairs};
 ghost use Rattle.shredscript.specs.PlanTexts.{IsNotPrinted, IsPrint};
 
-use crate::build::ScriptBuilder;
+use crate::builder::ScriptBuilder;
 use shred::{PlanSink, PrintError, SinkFailed};
 use shredscript_text::error::ScriptError;
 use std::alloc::Global;

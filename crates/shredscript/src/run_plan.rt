@@ -1,21 +1,20 @@
 //! A script, looked through, run over a world.
-ghost use Rattle.std.specs.Prelude.{◌≡◌, IfOk, IfErr, OnErr, OnOk, []};
+ghost use Rattle.std.specs.Prelude.{◌≡◌, IfErr, IfOk, OnErr, OnOk, []};
 ghost use Rattle.std.specs.Io.KnownBytes.{Appends};
 ghost use Rattle.shred_model.specs.Record.{Agent};
 ghost use Rattle.shred_stage.specs.Sinks.{AppendsBeginning};
 ghost use Rattle.shred.specs.Builders.{built, builder_pairs};
 ghost use Rattle.shred.specs.Dispatchers.{dispatcher_locals, dispatcher_plan, dispatcher_states, dispatcher_workers};
-ghost use Rattle.indexmap.specs.IndexMap.{values};
-ghost use Rattle.shred.specs.FullRuns.{whole_over, whole_with};
-ghost use Rattle.shredscript_text.specs.declared.error.ScriptError.TheVariants.{OutOfMemory};
+ghost use Rattle.shred.specs.FullRuns.{whole_over};
 ghost use Rattle.shred_world.specs.Worlds.{world_held};
-ghost use Rattle.shredscript_text.specs.Report.{first_held, report, resource_names};
-ghost use Rattle.shredscript.specs.PlanTexts.{IsNotPlanned, IsPlanPart};
-ghost use Rattle.shredscript.specs.Runs.{AreDispatched, AreLinesNotRun, AreLinesPlanned, AreLinesRun, AreSetUpAndDispatched, IsDispatch, IsNotRun, IsOnce, IsPlanOf, IsPrinted, IsRunOf};
+ghost use Rattle.shredscript_text.specs.Report.{report, resource_names};
 ghost use Rattle.shredscript_text.specs.Value.{kind_of};
+ghost use Rattle.shredscript.specs.PlanTexts.{IsNotPlanned, IsPlanPart};
+ghost use Rattle.shredscript.specs.Ready.{IsReadyFor};
+ghost use Rattle.shredscript.specs.Runs.{AreDispatched, AreSetUpAndDispatched, IsNotRun, IsOnce, IsPrinted};
 
 use crate::batch::ScriptBatch;
-use crate::build::{ScriptBuilder, builder_with};
+use crate::builder::{ScriptBuilder, builder_with};
 use crate::local::ScriptLocal;
 use crate::plan_text::plan_text;
 use crate::system::ScriptSystem;
@@ -25,7 +24,7 @@ use shredscript_text::first_values::world_of;
 use shredscript_text::outcome::{Outcome, Refusal, write_threads};
 use shredscript_text::output::print;
 use shredscript_text::report::{most_bytes, write_report};
-use shredscript_text::script::{Manner, Mode, PlanLine, Script};
+use shredscript_text::script::{Manner, Mode, Script};
 use shredscript_text::step::Resources;
 use shredscript_text::value::Value;
 use std::alloc::Global;
@@ -36,6 +35,17 @@ use std::thread::Threads;
 /// A dispatcher of a script's systems and batches.
 type ScriptDispatcher = Dispatcher<Value, ScriptSystem, ScriptBatch, ScriptLocal>;
 
+/// A script that is ready to run: its plan, a world of its first values, and what is printed before the run, with room behind it
+/// for the report.
+#[derive(Drop)]
+struct Ready<'text> {
+    dispatcher: ScriptDispatcher,
+    world: World<Value>,
+    text: Vec<u8>,
+    resources: Resources<'text>,
+    manner: Manner,
+}
+
 /// Runs the systems over the resources, prints what that left, and says how it ended. All memory but that of the stages is
 /// taken before anything is printed, and the plan, where it is asked for, is printed before the dispatch.
 pub(crate) fn run_plan<T: Threads + Sync, O: Write>(
@@ -44,7 +54,31 @@ pub(crate) fn run_plan<T: Threads + Sync, O: Write>(
     script: Script<'_>,
     out: &mut O,
 ) -> Result<Outcome, ScriptError>
-    ensures { IsPrinted (IsPlanOf script.entry) (IsRunOf script.entry) (IsNotRun script.entry) result (O.contents out.old) (O.contents out.new) }
+    ensures { IsPrinted script.entry result (O.contents out.old) (O.contents out.new) }
+{
+    let ready = prepare(alloc, script)?;
+    let Ready {
+        mut dispatcher,
+        mut world,
+        mut text,
+        resources,
+        manner,
+    } = ready;
+    if let Err(_) = print_plan(out, text.as_slice()) {
+        return Err(ScriptError::OutputFailed);
+    }
+    text.clear();
+    let outcome = Outcome::of(set_up_and_dispatch(rt, &mut dispatcher, &mut world, manner));
+    match print_report(out, text, &resources, &world, outcome) {
+        Ok(()) => Ok(outcome),
+        Err(_) => Err(ScriptError::OutputFailed),
+    }
+}
+
+/// Makes the plan of a script's lines, and takes all memory for its run.
+fn prepare<'text>(alloc: Global, script: Script<'text>) -> Result<Ready<'text>, ScriptError>
+    ensures ready { IfOk result (IsReadyFor script.entry) }
+    ensures not_ready { IfErr result (IsNotRun script.entry) }
 {
     let Script {
         resources,
@@ -53,60 +87,17 @@ pub(crate) fn run_plan<T: Threads + Sync, O: Write>(
         manner,
         ..
     } = script;
-    run_lines(rt, alloc, plan, prints_plan, manner, &resources, out)
-}
-
-/// Runs the systems of these lines over the resources, prints what that left, and says how it ended.
-fn run_lines<T: Threads + Sync, O: Write>(
-    rt: &T,
-    alloc: Global,
-    lines: Vec<PlanLine<'_>>,
-    prints_plan: bool,
-    manner: Manner,
-    resources: &Resources<'_>,
-    out: &mut O,
-) -> Result<Outcome, ScriptError>
-    ensures { IsPrinted (AreLinesPlanned lines.entry.items prints_plan manner) (AreLinesRun lines.entry.items prints_plan manner (first_held (values resources.now)) (resource_names resources.now)) (AreLinesNotRun lines.entry.items prints_plan manner) result (O.contents out.old) (O.contents out.new) }
-{
-    let builder = builder_with(alloc, lines, manner.workers)?;
-    let (dispatcher, text) = planned(alloc, builder, prints_plan)?;
-    dispatch_from_first(rt, alloc, dispatcher, manner, resources, text, out)
-}
-
-/// Prints the text, sets the systems up, dispatches them over a world of the first values, and prints what that left.
-fn dispatch_from_first<T: Threads + Sync, O: Write>(
-    rt: &T,
-    alloc: Global,
-    dispatcher: ScriptDispatcher,
-    manner: Manner,
-    resources: &Resources<'_>,
-    text: Vec<u8>,
-    out: &mut O,
-) -> Result<Outcome, ScriptError>
-    ensures { IsPrinted (λ begins. begins ≡ text.items) (IsDispatch (whole_with dispatcher (first_held (values resources.now))) manner.times (resource_names resources.now) text.items) (λ error. error ≡ OutOfMemory) result (O.contents out.old) (O.contents out.new) }
-{
-    let world = world_of(alloc, resources)?;
-    print_and_dispatch(rt, dispatcher, world, manner, resources, text, out)
-}
-
-/// Prints the text, once there is room for the report, sets the systems up, dispatches them over the world, and prints what
-/// that left.
-fn print_and_dispatch<T: Threads + Sync, O: Write>(
-    rt: &T,
-    dispatcher: ScriptDispatcher,
-    world: World<Value>,
-    manner: Manner,
-    resources: &Resources<'_>,
-    mut text: Vec<u8>,
-    out: &mut O,
-) -> Result<Outcome, ScriptError>
-    ensures { IsPrinted (λ begins. begins ≡ text.items) (IsDispatch (whole_over kind_of dispatcher world) manner.times (resource_names resources.now) text.items) (λ error. error ≡ OutOfMemory) result (O.contents out.old) (O.contents out.new) }
-{
-    text.reserve(most_bytes(resources))?;
-    match print_plan(out, text.as_slice()) {
-        Ok(()) => dispatch(rt, dispatcher, world, manner, resources, text, out),
-        Err(_) => Err(ScriptError::OutputFailed),
-    }
+    let builder = builder_with(alloc, plan, manner.workers)?;
+    let (dispatcher, mut text) = planned(alloc, builder, prints_plan)?;
+    let world = world_of(alloc, &resources)?;
+    text.reserve(most_bytes(&resources))?;
+    Ok(Ready {
+        dispatcher,
+        world,
+        text,
+        resources,
+        manner,
+    })
 }
 
 /// Prints what is printed before the run, where there is something.
@@ -118,27 +109,6 @@ fn print_plan<O: Write>(out: &mut O, text: &[u8]) -> io::Result<()>
         Ok(())
     } else {
         print(out, text)
-    }
-}
-
-/// Sets the systems up, dispatches them over the world, and prints what that left. What is in `room` goes, and the report is
-/// made there.
-fn dispatch<T: Threads + Sync, O: Write>(
-    rt: &T,
-    mut dispatcher: ScriptDispatcher,
-    mut world: World<Value>,
-    manner: Manner,
-    resources: &Resources<'_>,
-    mut room: Vec<u8>,
-    out: &mut O,
-) -> Result<Outcome, ScriptError>
-    ensures { IsPrinted (λ begins. ⊥) (IsDispatch (whole_over kind_of dispatcher world) manner.times (resource_names resources.now) []) (λ error. ⊥) result (O.contents out.old) (O.contents out.new) }
-{
-    room.clear();
-    let outcome = Outcome::of(set_up_and_dispatch(rt, &mut dispatcher, &mut world, manner));
-    match print_report(out, room, resources, &world, outcome) {
-        Ok(()) => Ok(outcome),
-        Err(_) => Err(ScriptError::OutputFailed),
     }
 }
 
@@ -203,21 +173,10 @@ fn dispatch_once<T: Threads + Sync>(
 {
     match mode {
         Mode::Parallel => dispatcher.dispatch(rt, world),
-        Mode::Sequential => dispatch_in_sequence(rt, dispatcher, world),
-    }
-}
-
-/// One dispatch, on the caller's thread alone.
-fn dispatch_in_sequence<T: Threads + Sync>(
-    rt: &T,
-    dispatcher: &mut ScriptDispatcher,
-    world: &mut World<Value>,
-) -> Result<(), DispatchError<Refusal>>
-    ensures { IsOnce (whole_over kind_of dispatcher.old world.old) result (whole_over kind_of dispatcher.new world.new) }
-{
-    match dispatcher.dispatch_seq(world) {
-        Ok(()) => dispatcher.dispatch_thread_local(rt, world),
-        Err(error) => Err(error),
+        Mode::Sequential => match dispatcher.dispatch_seq(world) {
+            Ok(()) => dispatcher.dispatch_thread_local(rt, world),
+            Err(error) => Err(error),
+        },
     }
 }
 

@@ -14,7 +14,7 @@ use std::alloc::{AllocError, Global};
 
 /// A system of a script: steps that run in order, up to the first that refuses.
 #[derive(Drop)]
-pub(crate) struct ScriptSystem {
+pub struct ScriptSystem {
     declared: Declared,
     time: RunningTime,
     steps: Vec<Step>,

@@ -1,15 +1,12 @@
 -- What the steps of a system declare.
-use Rattle.std.specs.Prelude.{ℕ, Bool, ◌==◌, Option, Some, None, List, [], ◌∷◌, ◌++◌, cond, map, IsTrue, IfSome}
+use Rattle.std.specs.Prelude.{ℕ, Bool, ◌==◌, Option, Some, None, List, [], ◌∷◌, ◌++◌, cond, map, IfSome}
 use Rattle.std.specs.List.{list_any}
 use Rattle.shred_table.specs.declared.id.ResourceId.{ResourceId}
-use Rattle.shred_world.specs.declared.world.view.View.{View}
-use Rattle.shred_world.specs.Views.{may_write}
 use Rattle.shredscript_text.specs.declared.step.Operand.{Operand}
 use Rattle.shredscript_text.specs.declared.step.Operand.TheVariants.{Number, Resource}
 use Rattle.shredscript_text.specs.declared.step.Step.{Step}
 use Rattle.shredscript_text.specs.declared.step.Step.TheVariants.{Change, Declare, Refuse}
 use Rattle.shredscript_text.specs.declared.step.Use.TheVariants.{Read, Write}
-use Rattle.shredscript_text.specs.declared.value.Value.{Value}
 use Rattle.shredscript_text.specs.Place.{id_at}
 
 -- the resource that an operand reads
@@ -72,7 +69,3 @@ write_ids steps = map id_at (places_written [] steps)
 -- the step may write the resource that it declares to write
 abbrev pub AllowsStep : {X : Type 0} → (X → ℕ → Type 0) → X → Step → Type 0
 AllowsStep allows numbers step = IfSome (write_place step) (allows numbers)
-
--- the view lets the step write the resource that it declares to write
-abbrev pub MayWrite : View Value → Step → Type 0
-MayWrite view step = IfSome (write_place step) (λ place. IsTrue (may_write view (id_at place)))

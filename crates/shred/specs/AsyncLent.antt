@@ -31,7 +31,7 @@ module _ (V S C L N A B : RattleType) (vd : of_value.Ghosts V.Denot) (sd : of_sy
         (λ n. JoinsAndShows (λ world. world_held kind world.now) Run (state_of kind s.now) r (state_of kind n))
 
     -- the dispatcher ends joined, over what the world last written holds
-    abbrev pub LendsWritten : MutBor row_of.Denot → Result (MutBor (World V.Denot)) (AsyncError N.Denot) → Fml
-    LendsWritten s r = LendsSoOk row_of (world_row V) s r
+    abbrev pub LendsJoined : MutBor row_of.Denot → Result (MutBor (World V.Denot)) (AsyncError N.Denot) → Fml
+    LendsJoined s r = LendsSoOk row_of (world_row V) s r
         (λ n w. (joined : AsyncState (Over V.Denot (Dispatcher V.Denot S.Denot C.Denot L.Denot N.Denot A.Denot N.Denot B.Denot vd sd ad cd bd)) N.Denot) × JoinsAndShows (λ world. world_held kind world.now) Run (state_of kind s.now) r joined × (state_of kind n ≡ with_values joined (world_held kind w)))
         (λ n. JoinsAndShows (λ world. world_held kind world.now) Run (state_of kind s.now) r (state_of kind n))

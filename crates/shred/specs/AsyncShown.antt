@@ -19,10 +19,10 @@ module _ {V D E F W : Type 0} (seen : W → Held V) where
   JoinsAndShows Run before answer after = Joins Run before after × Shows after answer
 
 -- no run is out
-abbrev pub IsBack : {X E : Type 0} → AsyncState X E → Type 0
-IsBack (home x untold) = ⊤
-IsBack (out x) = ⊥
-IsBack lost = ⊤
+abbrev pub IsHome : {X E : Type 0} → AsyncState X E → Type 0
+IsHome (home x untold) = ⊤
+IsHome (out x) = ⊥
+IsHome lost = ⊤
 
 -- the same, over other values
 abbrev pub with_values : {V D E : Type 0} → AsyncState (Over V D) E → Held V → AsyncState (Over V D) E

@@ -4,7 +4,7 @@ use Rattle.shred_model.specs.Runs.{Answer}
 use Rattle.shred_table.specs.declared.id.Kind.{Kind}
 use Rattle.shred_world.specs.declared.world.World.{World}
 use Rattle.shred_world.specs.Worked.{Held}
-use Rattle.shred_world.specs.Worlds.{world_held}
+use Rattle.shred_world.specs.Worlds.{world_held, local_held}
 use Rattle.shred_run.specs.declared.system.Fault.TheVariants.{Refused}
 use Rattle.shred_run.specs.Depths.{Related}
 use Rattle.shred_run.specs.Dispatched.{Dispatched, Situation}
@@ -16,6 +16,7 @@ use Rattle.shred.specs.declared.dispatch.dispatcher.Dispatcher.{Dispatcher}
 use Rattle.shred.specs.LocalRuns.{LocalsRun}
 use Rattle.shred.specs.ThreadLocals.{systems_of}
 use Rattle.shred.specs.declared.thread_local.ThreadLocal.{ThreadLocal}
+use Rattle.shred_world.specs.declared.world.local.LocalWorld.{LocalWorld}
 
 -- A plan with what stands in it and the values of a world, the thread-local systems, and on how many threads a stage runs at most.
 pub record Whole (V S C L : Type 0) : Type 0 where
@@ -45,6 +46,10 @@ module _ {V S C L N A M B : Type 0} {vd : _} {sd : _} {ad : _} {cd : _} {bd : _}
   -- a dispatcher with its systems, over a world
   abbrev pub whole_over : (V → Kind) → Dispatcher V S C L N A M B vd sd ad cd bd → World V → Whole V S C L
   whole_over kind dispatcher world = whole_with dispatcher (world_held kind world)
+
+  -- a dispatcher with its systems, over a local world
+  abbrev pub whole_over_local : (V → Kind) → Dispatcher V S C L N A M B vd sd ad cd bd → LocalWorld V → Whole V S C L
+  whole_over_local kind dispatcher local = whole_with dispatcher (local_held kind local)
 
 -- the outcome of a run that answered so: each refusal is told as the run's own
 abbrev pub IsRefusedBy : {E : Type 0} → Answer (DispatchError E) → Outcome (DispatchError E) → Type 0

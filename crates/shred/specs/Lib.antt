@@ -3,12 +3,14 @@ pub mod AsyncBegun
 pub mod AsyncBuilt
 pub mod AsyncDispatchers
 pub mod AsyncLent
+pub mod AsyncOver
 pub mod AsyncPlaces
 pub mod AsyncRuns
 pub mod AsyncShown
 pub mod AsyncState
 pub mod AsyncSteps
 pub mod Batches
+pub mod Adding
 pub mod Builders
 pub mod Built
 pub mod Dispatchers
@@ -17,6 +19,7 @@ pub mod KeptDispatchers
 pub mod LocalRuns
 pub mod Made
 pub mod Setups
+pub mod OverWorlds
 pub mod SystemNames
 pub mod ThreadLocals
 pub mod Places

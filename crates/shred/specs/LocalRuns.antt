@@ -8,6 +8,9 @@ use Rattle.shred_run.specs.Alone.{KeepsKinds}
 use Rattle.shred_run.specs.Steps.{Outcome, Step}
 use Rattle.shred_stage.specs.declared.dispatch.dispatch_error.DispatchError.{DispatchError}
 use Rattle.shred_stage.specs.declared.dispatch.dispatch_error.DispatchError.TheVariants.{ThreadLocal}
+use Rattle.shred_world.specs.Worlds.{local_held, world_held}
+use Rattle.shred_world.specs.declared.world.local.LocalWorld.{LocalWorld}
+use Rattle.shred_world.specs.declared.world.World.{World}
 
 -- the answer where the system at this place had this outcome
 abbrev pub local_answer : {E : Type 0} → ℕ → Outcome E → Answer (DispatchError E)
@@ -37,3 +40,16 @@ LocalDisposal {E = E} disposes index old before answer after = (o : Outcome E) �
 -- the disposals of all systems, in order; the answer is the first that is not Done
 abbrev pub LocalsDisposal : {V L E : Type 0} → (L → Held V → Outcome E → Held V → Type 0) → List L → Held V → Answer (DispatchError E) → Held V → Type 0
 LocalsDisposal disposes olds before answer after = AllInTurn (LocalDisposal disposes) 0 olds before answer after
+
+module _ {V L E : Type 0} (kind : V → Kind) (runs : Step V L E) where
+  -- the system at this place ran over what the local world holds
+  abbrev pub LocalRanOver : ℕ → L → LocalWorld V → Answer (DispatchError E) → L → LocalWorld V → Type 0
+  LocalRanOver index old before answer new after = LocalRun kind runs index old (local_held kind before) answer new (local_held kind after)
+
+  -- the systems ran, in order, over what the local world holds
+  abbrev pub LocalsRanOver : List L → LocalWorld V → Answer (DispatchError E) → List L → LocalWorld V → Type 0
+  LocalsRanOver olds before answer news after = LocalsRun kind runs olds (local_held kind before) answer news (local_held kind after)
+
+-- the systems were set up, in order, over what the world holds
+abbrev pub LocalsSetUpOver : {V L E : Type 0} → (V → Kind) → Step V L E → List L → World V → Answer (DispatchError E) → List L → World V → Type 0
+LocalsSetUpOver kind sets_up olds before answer news after = LocalsSetup sets_up olds (world_held kind before) answer news (world_held kind after)

@@ -1,9 +1,11 @@
 //! Systems of which only a run and two lists are said.
-ghost use Rattle.std.specs.Prelude.{◌≡◌, List, IfOk, false, is_some};
+ghost use Rattle.std.specs.Prelude.{◌≡◌, List, IfOk};
 ghost use Rattle.shred_run.specs.declared.system.RunningTime.TheVariants.{Average};
 ghost use Rattle.shred.specs.Made.{IsLeftAlone};
 ghost use Rattle.shred_table.specs.Accessors.{batch_reads, batch_writes};
 ghost use Rattle.shred_table.specs.declared.id.ResourceId.{ResourceId};
+ghost use Rattle.shred_table.specs.Changes.{StaysOutside, KeepsIdsOf};
+ghost use Rattle.shred_world.specs.Between.{OverView};
 
 use shred_run::{Fault, RunningTime, System};
 use shred_world::{BatchAccessor, OutOfMemory, ResourceId, ResourceValue, View, World};
@@ -13,7 +15,7 @@ use std::alloc::Global;
 pub trait PlainSystem<V: ResourceValue> {
     ghost use Rattle.shred_world.specs.OwnViews.{IsLent};
     ghost use Rattle.shred_run.specs.Steps.{Step};
-    ghost use Rattle.shred_world.specs.Views.{view_held, declared_held, may_write, table_of, IsSameView};
+    ghost use Rattle.shred_world.specs.Views.{view_held, may_write, table_name, IsSameView};
 
     type Error;
 
@@ -26,11 +28,11 @@ pub trait PlainSystem<V: ResourceValue> {
     /// One step, as `System::run`.
     fn run(&mut self, view: &mut View<V>) -> Result<(), Fault<Self::Error>>
         requires lent { IsLent view.old (reads self.old) (writes self.old) }
-        ensures step { step self.old (declared_held V.kind_of view.old) result self.new (declared_held V.kind_of view.new) }
-        ensures table { table_of view.new ≡ table_of view.old }
+        ensures step { OverView V.kind_of step self.old view.old result self.new view.new }
+        ensures table { table_name view.new ≡ table_name view.old }
         ensures view { IsSameView view.old view.new }
-        ensures ids { (id : ResourceId) → is_some (view_held V.kind_of view.new id) ≡ is_some (view_held V.kind_of view.old id) }
-        ensures frame { (id : ResourceId) → may_write view.old id ≡ false → view_held V.kind_of view.new id ≡ view_held V.kind_of view.old id }
+        ensures ids { KeepsIdsOf (view_held V.kind_of) view.old view.new }
+        ensures frame { StaysOutside (may_write view.old) (view_held V.kind_of) view.old view.new }
         ensures reads { reads self.new ≡ reads self.old }
         ensures writes { writes self.new ≡ writes self.old };
 

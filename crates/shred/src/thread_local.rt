@@ -1,8 +1,9 @@
 //! The thread-local systems of a dispatcher, and their runs, one after the other.
 ghost use Rattle.std.specs.Prelude.{◌≡◌, ◌++◌, ◌∷◌, [], length, OnOk, OnErr};
-ghost use Rattle.shred_run.specs.Alone.{KeepsKinds};
-ghost use Rattle.shred.specs.LocalRuns.{LocalDisposal, LocalRun, LocalSetup, LocalsDisposal, LocalsRun, LocalsSetup};
-ghost use Rattle.shred_world.specs.Worlds.{local_held, world_held};
+ghost use Rattle.shred_run.specs.Alone.{KeepsKindsIn};
+ghost use Rattle.shred.specs.LocalRuns.{LocalDisposal, LocalSetup, LocalsDisposal, LocalRanOver, LocalsRanOver, LocalsSetUpOver};
+ghost use Rattle.shred_world.specs.Worlds.{local_held};
+ghost use Rattle.shred_world.specs.Between.{OverWorld, LeavesWorld};
 
 use shred_run::RunNow;
 use shred_run::first::first;
@@ -52,8 +53,8 @@ impl<L: Drop> ThreadLocal<L> {
     ) -> Result<(), DispatchError<L::Error>>
     where
         L: RunNow<V>,
-        ensures run { LocalsRun V.kind_of L.runs (systems_of self.old) (local_held V.kind_of world.old) result (systems_of self.new) (local_held V.kind_of world.new) }
-        ensures kinds { KeepsKinds V.kind_of (local_held V.kind_of world.old) (local_held V.kind_of world.new) }
+        ensures run { LocalsRanOver V.kind_of L.runs (systems_of self.old) world.old result (systems_of self.new) world.new }
+        ensures kinds { KeepsKindsIn local_held V.kind_of world.old world.new }
     {
         run_locals(rt, self.systems.as_mut_slice(), world)
     }
@@ -65,7 +66,7 @@ impl<L: Drop> ThreadLocal<L> {
     ) -> Result<(), DispatchError<L::Error>>
     where
         L: RunNow<V>,
-        ensures { LocalsSetup L.sets_up (systems_of self.old) (world_held V.kind_of world.old) result (systems_of self.new) (world_held V.kind_of world.new) }
+        ensures { LocalsSetUpOver V.kind_of L.sets_up (systems_of self.old) world.old result (systems_of self.new) world.new }
     {
         set_up_each(self.systems.as_mut_slice(), world)
     }
@@ -77,7 +78,7 @@ impl<L: Drop> ThreadLocal<L> {
     ) -> Result<(), DispatchError<E>>
     where
         L: RunNow<V, Error = E>,
-        ensures { LocalsDisposal L.disposes (systems_of self) (world_held V.kind_of world.old) result (world_held V.kind_of world.new) }
+        ensures { LeavesWorld V.kind_of (LocalsDisposal L.disposes (systems_of self)) world.old result world.new }
     {
         dispose_of_each(self.systems, world)
     }
@@ -90,8 +91,8 @@ fn run_one<R: Threads + Sync, V: ResourceValue, L: RunNow<V>>(
     local: &mut L,
     world: &mut LocalWorld<V>,
 ) -> Result<(), DispatchError<L::Error>>
-    ensures run { LocalRun V.kind_of L.runs index local.old (local_held V.kind_of world.old) result local.new (local_held V.kind_of world.new) }
-    ensures kinds { KeepsKinds V.kind_of (local_held V.kind_of world.old) (local_held V.kind_of world.new) }
+    ensures run { LocalRanOver V.kind_of L.runs index local.old world.old result local.new world.new }
+    ensures kinds { KeepsKindsIn local_held V.kind_of world.old world.new }
 {
     match local.run_now(rt, world) {
         Ok(()) => Ok(()),
@@ -105,8 +106,8 @@ fn run_locals<R: Threads + Sync, V: ResourceValue, L: RunNow<V>>(
     locals: &mut [L],
     world: &mut LocalWorld<V>,
 ) -> Result<(), DispatchError<L::Error>>
-    ensures run { LocalsRun V.kind_of L.runs locals.old (local_held V.kind_of world.old) result locals.new (local_held V.kind_of world.new) }
-    ensures kinds { KeepsKinds V.kind_of (local_held V.kind_of world.old) (local_held V.kind_of world.new) }
+    ensures run { LocalsRanOver V.kind_of L.runs locals.old world.old result locals.new world.new }
+    ensures kinds { KeepsKindsIn local_held V.kind_of world.old world.new }
 {
     for (index, local) in locals.iter_mut().enumerate() {
         if let Err(error) = run_one(rt, index, local, world) {
@@ -122,7 +123,7 @@ fn set_up_one<V: ResourceValue, L: RunNow<V>>(
     local: &mut L,
     world: &mut World<V>,
 ) -> Result<(), DispatchError<L::Error>>
-    ensures { LocalSetup L.sets_up index local.old (world_held V.kind_of world.old) result local.new (world_held V.kind_of world.new) }
+    ensures { OverWorld V.kind_of (LocalSetup L.sets_up index) local.old world.old result local.new world.new }
 {
     match local.setup(world) {
         Ok(()) => Ok(()),
@@ -135,7 +136,7 @@ fn set_up_each<V: ResourceValue, L: RunNow<V>>(
     locals: &mut [L],
     world: &mut World<V>,
 ) -> Result<(), DispatchError<L::Error>>
-    ensures { LocalsSetup L.sets_up locals.old (world_held V.kind_of world.old) result locals.new (world_held V.kind_of world.new) }
+    ensures { LocalsSetUpOver V.kind_of L.sets_up locals.old world.old result locals.new world.new }
 {
     for (index, local) in locals.iter_mut().enumerate() {
         if let Err(error) = set_up_one(index, local, world) {
@@ -151,7 +152,7 @@ fn dispose_of<V: ResourceValue, L: RunNow<V>>(
     local: L,
     world: &mut World<V>,
 ) -> Result<(), DispatchError<L::Error>>
-    ensures { LocalDisposal L.disposes index local (world_held V.kind_of world.old) result (world_held V.kind_of world.new) }
+    ensures { LeavesWorld V.kind_of (LocalDisposal L.disposes index local) world.old result world.new }
 {
     match local.dispose(world) {
         Ok(()) => Ok(()),
@@ -164,7 +165,7 @@ fn dispose_of_each<V: ResourceValue, L: RunNow<V, Error = E> + Drop, E: Drop>(
     locals: Vec<L>,
     world: &mut World<V>,
 ) -> Result<(), DispatchError<E>>
-    ensures { LocalsDisposal L.disposes locals.items (world_held V.kind_of world.old) result (world_held V.kind_of world.new) }
+    ensures { LeavesWorld V.kind_of (LocalsDisposal L.disposes locals.items) world.old result world.new }
 {
     let mut answer = Ok(());
     let mut index = 0;

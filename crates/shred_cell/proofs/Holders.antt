@@ -7,10 +7,10 @@ use Rattle.shred_cell.specs.declared.word.Word.TheVariants.{Free, Readers, Write
 use Rattle.shred_cell.specs.declared.word.Ask.{Ask}
 use Rattle.shred_cell.specs.declared.word.Ask.TheVariants.{Read, Write, Copy, EndRead, EndWrite}
 use Rattle.shred_cell.specs.Word.{most_readers, step, step_of_readers}
-use Rattle.shred_cell.specs.Agreement.{Step, Holders, MayAsk, without, word_after, holders_after, Goes, Agrees}
+use Rattle.shred_cell.specs.Agreement.{PartyStep, Holders, MayAsk, without_hold, word_after, holders_after, AsksLead, Agrees}
 
 -- one hold less of who has one
-without_length : (party : ℕ) (ps : List ℕ) → Contains ps party → length (without party ps) + 1 ≡ length ps
+without_length : (party : ℕ) (ps : List ℕ) → Contains ps party → length (without_hold party ps) + 1 ≡ length ps
 without_length party [] (k, below, at) = absurd (omega (arith, below))
 without_length party (p ∷ ps) (zero, below, at) = grind (arith, common_steps)
 without_length party (p ∷ ps) (suc k, below, at) = let rest = without_length party ps (k, omega arith, at) in grind (arith, common_steps)
@@ -25,7 +25,7 @@ one_more n h party true room agrees = let below : n < most_readers = grind (arit
 one_more n h party false room agrees = agrees
 
 one_less : (n : ℕ) (h : Holders) (party : ℕ) (last : Bool) → (n == 1) ≡ last → Contains h.readers party → Agrees (Readers n) h
-    → Agrees (unwrap_or (cond last (Some Free) (Some (Readers (n - 1)))) (Readers n)) (cond (is_some (cond last (Some Free) (Some (Readers (n - 1))))) (record { readers = without party h.readers; writers = h.writers }) h)
+    → Agrees (unwrap_or (cond last (Some Free) (Some (Readers (n - 1)))) (Readers n)) (cond (is_some (cond last (Some Free) (Some (Readers (n - 1))))) (record { readers = without_hold party h.readers; writers = h.writers }) h)
 one_less n h party true last may agrees = let one : n ≡ 1 = grind (arith, common_steps) in let less = without_length party h.readers may in (omega arith, agrees.3)
 one_less n h party false last may agrees = let more : n ≢ 1 = grind (arith, common_steps) in let less = without_length party h.readers may in (omega arith, omega arith, omega arith, agrees.3)
 
@@ -49,6 +49,6 @@ keeps Writer h party Copy may agrees = agrees
 keeps Writer h party EndRead may agrees = agrees
 keeps Writer h party EndWrite may agrees = let less = without_length party h.writers may in (agrees.0, omega arith)
 
-pub agreed : (word : Word) (h : Holders) (steps : List Step) (last : Word) (holders : Holders) → Agrees word h → Goes word h steps last holders → Agrees last holders
+pub agreed : (word : Word) (h : Holders) (steps : List PartyStep) (last : Word) (holders : Holders) → Agrees word h → AsksLead word h steps last holders → Agrees last holders
 agreed word h [] last holders agrees goes = rw (goes.0, goes.1) agrees
 agreed word h (s ∷ ss) last holders agrees goes = agreed (word_after word s.ask) (holders_after word h s) ss last holders (keeps word h s.party s.ask goes.0 agrees) goes.1

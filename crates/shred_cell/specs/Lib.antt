@@ -4,4 +4,5 @@ pub mod Bits
 pub mod Cells
 pub mod Shared
 pub mod SharedWorlds
+pub mod Refusals
 pub mod Texts

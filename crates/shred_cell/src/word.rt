@@ -1,7 +1,7 @@
 //! The borrow word: who holds a cell, and what each ask makes of it.
 ghost use Rattle.std.specs.Prelude.{◌≡◌, List};
 ghost use Rattle.shred_cell.specs.Word.{step};
-ghost use Rattle.shred_cell.specs.Agreement.{Step, Holders, nobody, Goes, Agrees};
+ghost use Rattle.shred_cell.specs.Agreement.{PartyStep, Holders, nobody, AsksLead, Agrees};
 
 /// Who holds a cell.
 #[derive(Clone, Copy, Debug, PartialEq, Eq)]
@@ -75,5 +75,5 @@ fn next_of_readers(count: u32, ask: Ask) -> Option<Word>
 
 /// For every list of steps of every party, from a cell that nobody holds, the word agrees with who holds the cell.
 pub fn agreement()
-    ensures { (steps : List Step) (word : Word) (holders : Holders) → Goes Word.Free nobody steps word holders → Agrees word holders }
+    ensures { (steps : List PartyStep) (word : Word) (holders : Holders) → AsksLead Word.Free nobody steps word holders → Agrees word holders }
 {}

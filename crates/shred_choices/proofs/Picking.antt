@@ -2,7 +2,7 @@
 use Rattle.std.proofs.Common.{◌≡◌, ◌<◌, ◌+◌, ℕ, List, [], ◌∷◌, ◌++◌, length, take, drop, get_or, map, inl, inr, refl, ap, sym, ◌∙◌, subst, append-nil}
 use Rattle.std.proofs.lemmas.List.{drop_more, map-append, take_more}
 use Rattle.shred_choices.specs.declared.choices.Choice.{Choice}
-use Rattle.shred_choices.specs.Choices.{Picks, pairs_of, pairs_with}
+use Rattle.shred_choices.specs.Choices.{Picks, later_pairs, pairs_with}
 
 pub picks-append : {X : Type 0} (P : X → Type 0) (xs ys picked more : List X) → Picks P xs picked → Picks P ys more → Picks P (xs ++ ys) (picked ++ more)
 picks-append P [] ys picked more none picks = rw none picks
@@ -31,6 +31,6 @@ picks-left P first rest i picked within picks fails =
     subst (λ (pairs : List Choice). Picks P pairs picked) (sym (with-more first rest i within)) (subst (λ (all : List Choice). Picks P (pairs_with first (take i rest) ++ record { first = first; second = get_or rest i 0 } ∷ []) all) (append-nil picked) all)
 
 -- what is picked with the next entry stands before what is picked behind it
-pub picks-next : (P : Choice → Type 0) (plan : List ℕ) (i : ℕ) (more behind : List Choice) → i < length plan → Picks P (pairs_with (get_or plan i 0) (drop (i + 1) plan)) more → Picks P (pairs_of (drop (i + 1) plan)) behind → Picks P (pairs_of (drop i plan)) (more ++ behind)
+pub picks-next : (P : Choice → Type 0) (plan : List ℕ) (i : ℕ) (more behind : List Choice) → i < length plan → Picks P (pairs_with (get_or plan i 0) (drop (i + 1) plan)) more → Picks P (later_pairs (drop (i + 1) plan)) behind → Picks P (later_pairs (drop i plan)) (more ++ behind)
 picks-next P plan i more behind within picks later =
-    subst (λ (entries : List ℕ). Picks P (pairs_of entries) (more ++ behind)) (sym (drop_more plan i 0 within)) (picks-append P _ _ more behind picks later)
+    subst (λ (entries : List ℕ). Picks P (later_pairs entries) (more ++ behind)) (sym (drop_more plan i 0 within)) (picks-append P _ _ more behind picks later)

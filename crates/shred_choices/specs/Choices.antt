@@ -10,9 +10,9 @@ abbrev pub pairs_with : ℕ → List ℕ → List Choice
 pairs_with first rest = map (λ second. record { first = first; second = second }) rest
 
 -- each entry of a list and each that stands behind it there, in order
-abbrev pub pairs_of : List ℕ → List Choice
-pairs_of [] = []
-pairs_of (first ∷ rest) = pairs_with first rest ++ pairs_of rest
+abbrev pub later_pairs : List ℕ → List Choice
+later_pairs [] = []
+later_pairs (first ∷ rest) = pairs_with first rest ++ later_pairs rest
 
 -- what is left of a list where just those stay of which this holds, in their order
 abbrev pub Picks : {X : Type 0} → (X → Type 0) → List X → List X → Type 0

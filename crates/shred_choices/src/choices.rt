@@ -2,7 +2,7 @@
 ghost use Rattle.std.specs.Prelude.{◌≡◌, ◌↔◌, IfOk, IsTrue, length};
 ghost use Rattle.shred_model.specs.Access.{Conflicts};
 ghost use Rattle.shred_choices.specs.Entries.{access_at};
-ghost use Rattle.shred_choices.specs.Choices.{AreOrdered, IsChoice, Picks, pairs_of, pairs_with};
+ghost use Rattle.shred_choices.specs.Choices.{AreOrdered, IsChoice, Picks, later_pairs, pairs_with};
 ghost use Rattle.shred_choices.specs.Dependence.{TellUpTo};
 
 use crate::declaration::Declaration;
@@ -21,7 +21,7 @@ impl Declarations {
     /// Of the entries of a plan, listed in the plan's order, the pairs that conflict with no path of dependencies from one to
     /// the other: each once, in that order.
     pub fn choices(&self, alloc: Global, plan: &[usize]) -> Result<Vec<Choice>, AllocError>
-        ensures { IfOk result (λ choices. Picks (IsChoice self.now.entries.items) (pairs_of plan.now) choices.items) }
+        ensures { IfOk result (λ choices. Picks (IsChoice self.now.entries.items) (later_pairs plan.now) choices.items) }
     {
         let entries = self.entries.as_slice();
         let rows = dependence(alloc, entries)?;
@@ -37,7 +37,7 @@ fn choices_among(
     plan: &[usize],
 ) -> Result<Vec<Choice>, AllocError>
     requires { TellUpTo entries.now (length entries.now) rows.now }
-    ensures { IfOk result (λ choices. Picks (IsChoice entries.now) (pairs_of plan.now) choices.items) }
+    ensures { IfOk result (λ choices. Picks (IsChoice entries.now) (later_pairs plan.now) choices.items) }
 {
     let mut choices = Vec::new(alloc);
     for (place, first) in plan.iter().enumerate() {

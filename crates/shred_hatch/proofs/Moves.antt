@@ -6,7 +6,7 @@ use lib.ListN.{get_elem?}
 use Rattle.atomic_table.specs.Table.{State, Me, Act, keeps, takes, gives, Valid, stepped, carried_after, Allows, Splits, opening}
 use Rattle.shred_hatch.specs.declared.view.View.{View}
 use Rattle.shred_hatch.specs.declared.view.View.TheVariants.{Fresh, Paired, Holding, Sent, Ended, Idle, Working}
-use Rattle.shred_hatch.specs.Phases.{Phase, alone, paired, free, sent, taken, done, ended, word_at, home_at, views_at, standing, holding, sending, working, handed_over, finished, Fact, Stands, collected, fetched}
+use Rattle.shred_hatch.specs.Phases.{Phase, alone, paired, free, sent, taken, done, ended, word_at, home_at, views_at, standing, holding, sending, working, handed_over, finished, Fact, Stands, collected, looked}
 
 module _ {J : Type 0} (ready : J → Type 0) (ran : J → J → Type 0) where
   abbrev M : Type 0
@@ -94,10 +94,10 @@ module _ {J : Type 0} (ready : J → Type 0) (ran : J → J → Type 0) where
       go (suc (suc n)) alone _ e = absurd (cc)
       go (suc (suc n)) _ _ e = absurd (cc)
 
-  pub fetches : (slots id : ℕ) (me : M) → finished me → Allows (Stands ready ran) slots id me 0 (λ n. n) (fetched ready me)
-  fetches slots id me at = subst (λ (v : M). Allows (Stands ready ran) slots id v 0 (λ n. n) (fetched ready v)) (sym at) (by_phase slots id (Idle, []) (λ n. n) (λ r m. fetched ready (Idle, []) r m) (go id))
+  pub fetches : (slots id : ℕ) (me : M) → finished me → Allows (Stands ready ran) slots id me 0 (λ n. n) (looked ready me)
+  fetches slots id me at = subst (λ (v : M). Allows (Stands ready ran) slots id v 0 (λ n. n) (looked ready v)) (sym at) (by_phase slots id (Idle, []) (λ n. n) (λ r m. looked ready (Idle, []) r m) (go id))
     where
-      go : (i : ℕ) (p : Phase J) → Fact ready ran p → get_elem? (views_at p) i ≡ some Idle → Steps i (Idle, []) (λ n. n) (λ r m. fetched ready (Idle, []) r m) p
+      go : (i : ℕ) (p : Phase J) → Fact ready ran p → get_elem? (views_at p) i ≡ some Idle → Steps i (Idle, []) (λ n. n) (λ r m. looked ready (Idle, []) r m) p
       go zero alone _ e = absurd (cc)
       go zero _ _ e = absurd (cc)
       go (suc zero) paired fact e = (Idle, keeps, tt, (paired, refl, tt), ((λ no. absurd (omega arith)), λ _. refl))

@@ -94,5 +94,5 @@ module _ {J : Type 0} (ran : J → J → Type 0) where
 
 module _ {J : Type 0} (ready : J → Type 0) where
   -- at 1 a job is there, ready to be run; else none is
-  abbrev pub fetched : Me (Option J) (View J) → ℕ → Me (Option J) (View J) → Type 0
-  fetched m r n = (r ≡ 1 → (x : J) × (n ≡ working x x) × ready x) × (r ≢ 1 → n ≡ (Idle, []))
+  abbrev pub looked : Me (Option J) (View J) → ℕ → Me (Option J) (View J) → Type 0
+  looked m r n = (r ≡ 1 → (x : J) × (n ≡ working x x) × ready x) × (r ≢ 1 → n ≡ (Idle, []))

@@ -1,7 +1,7 @@
 //! The rule of a hatch, and what each step tells. These types are for the proofs alone.
 ghost use Rattle.std.specs.Prelude.{◌≡◌, [], None, Option};
 ghost use Rattle.shred_hatch.specs.declared.view.View.TheVariants.{Fresh, Paired, Holding, Ended, Idle};
-ghost use Rattle.shred_hatch.specs.Phases.{Stands, holding, handed_over, collected, fetched, finished};
+ghost use Rattle.shred_hatch.specs.Phases.{Stands, holding, handed_over, collected, looked, finished};
 
 use crate::job::Job;
 use crate::view::View;
@@ -45,7 +45,7 @@ impl<J: Job> Play<Option<J>, View<J>> for Collect {
 pub(crate) struct Fetch;
 
 impl<J: Job> Play<Option<J>, View<J>> for Fetch {
-    ghost then = { λ _. fetched J.ready };
+    ghost then = { λ _. looked J.ready };
 }
 
 pub(crate) struct Finish;

@@ -1,9 +1,7 @@
 //! Groups that run beside each other on workers that are kept.
 ghost use Rattle.std.specs.Prelude.{◌≡◌, ◌≤◌, ◌++◌, IfSome, IfNone, vec_capacity, vec_len};
 ghost use Rattle.std.specs.Arc.{arc_value};
-ghost use Rattle.shred_run.specs.Depths.{lists_of, relations_of};
-ghost use Rattle.shred_run.specs.Rules.{RuleOwns, RuleStep};
-ghost use Rattle.shred_kept.specs.Lanes.{AreReadyOver, WentOver};
+ghost use Rattle.shred_run.specs.Circles.{GroupsReadyOver, GroupsRanOver};
 
 use crate::crew::Crew;
 use crate::cut::{cut_off, put_back};
@@ -70,8 +68,8 @@ pub(crate) fn run_beside<
     groups: &mut Vec<Group<V, Work<S, Nested<V, S, C>>>>,
     behind: &Arc<Table<V>>,
 ) -> Result<(), StageFault<E>>
-    requires { AreReadyOver (RuleOwns (lists_of S.reads S.writes C.reads C.writes) at) (arc_value behind.now) groups.old.items }
-    ensures ran { WentOver (RuleOwns (lists_of S.reads S.writes C.reads C.writes) at) V.kind_of (RuleStep V.kind_of (relations_of (lists_of S.reads S.writes C.reads C.writes) S.step C.begins C.asks) at) (arc_value behind.now) groups.old.items result groups.new.items }
+    requires { GroupsReadyOver S.System C.BatchController at (arc_value behind.now) groups.old.items }
+    ensures ran { GroupsRanOver V.kind_of S.System C.BatchController at (arc_value behind.now) groups.old.items result groups.new.items }
     ensures room { vec_capacity groups.old ≤ vec_capacity groups.new }
 {
     if groups.len() <= 1 || left == 0 {

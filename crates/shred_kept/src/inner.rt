@@ -3,23 +3,14 @@
 ghost use Rattle.std.specs.Prelude.{◌≡◌, [], ◌∷◌, true, All};
 ghost use Rattle.shred_model.specs.Beside.{AreApart};
 ghost use Rattle.shred_model.specs.Plan.{group_access};
-ghost use Rattle.shred_run.specs.BatchRuns.{RanAsBatch};
-ghost use Rattle.shred_run.specs.Controls.{keeping};
-ghost use Rattle.shred_run.specs.Depths.{Owns, WorkStep, lists_of, relations_of};
+ghost use Rattle.shred_run.specs.Depths.{lists_of};
 ghost use Rattle.shred_run.specs.Hands.{KeepsRoom};
-ghost use Rattle.shred_run.specs.KeptControllers.{control_access};
 ghost use Rattle.shred_run.specs.OneBatch.{is_batch, is_one_batch};
 ghost use Rattle.shred_run.specs.OwnLists.{IsGroupOf};
 ghost use Rattle.shred_run.specs.OwnSlots.{LiesBefore};
-ghost use Rattle.shred_run.specs.Parts.{ArePartsWithin, KeepsParts, KeepsTiers};
 ghost use Rattle.shred_run.specs.PlanOf.{groups_plan};
-ghost use Rattle.shred_run.specs.Rounds.{Rounds};
-ghost use Rattle.shred_run.specs.Rules.{RuleOwns, RuleStep};
-ghost use Rattle.shred_run.specs.Steppers.{IsStepBy};
-ghost use Rattle.shred_run.specs.TurnsOver.{TookTurnOver};
-ghost use Rattle.shred_run.specs.Works.{InnerRun, IsBatchWithin, IsTierWithin};
-ghost use Rattle.shred_table.specs.Shown.{shown};
-ghost use Rattle.shred_world.specs.Views.{lent_slot};
+ghost use Rattle.shred_run.specs.Rules.{RuleOwns};
+ghost use Rattle.shred_run.specs.Circles.{BatchFits, PartsFit, TierFits, TiersFit, GroupsOwn, WorkStepped, BatchRan, RoundsRan, TiersRan, TierTurned, GroupsTurned, PartsStay, TiersStay};
 
 use crate::stage_crew::StageCrew;
 use crate::turn::turn_beside;
@@ -52,8 +43,8 @@ fn run_batch<
     own: &mut Table<V>,
 ) -> Result<(), Fault<E>>
     requires before { LiesBefore writes.now [] own.old }
-    requires within { IsBatchWithin C.reads C.writes (Owns (lists_of S.reads S.writes C.reads C.writes) less) reads.now writes.now batch.old }
-    ensures { RanAsBatch V.kind_of (Owns (lists_of S.reads S.writes C.reads C.writes) less) (WorkStep V.kind_of (relations_of (lists_of S.reads S.writes C.reads C.writes) S.step C.begins C.asks) less) C.reads C.writes (keeping C.reads C.writes C.begins) (keeping C.reads C.writes C.asks) reads.now writes.now (lent_slot []) batch.old own.old result batch.new own.new }
+    requires within { BatchFits S.System C.BatchController less reads.now writes.now batch.old }
+    ensures { BatchRan V.kind_of S.System C.BatchController less reads.now writes.now [] batch.old own.old result batch.new own.new }
 {
     let loan = Loan {
         reads,
@@ -93,9 +84,9 @@ fn rounds<
 ) -> Result<(), Fault<E>>
     requires bare { loan.now.shelf.now ≡ [] }
     requires has { LiesBefore loan.now.writes.now loan.now.shelf.now own.old }
-    requires parts { ArePartsWithin (Owns (lists_of S.reads S.writes C.reads C.writes) less) loan.now C.reads C.writes control.old tiers.old }
-    ensures ran { Rounds V.kind_of (keeping C.reads C.writes C.asks) (control_access control.old) (InnerRun V.kind_of (WorkStep V.kind_of (relations_of (lists_of S.reads S.writes C.reads C.writes) S.step C.begins C.asks) less)) most control.old.controller tiers.old (shown V.kind_of (lent_slot loan.now.shelf.now) own.old) result control.new.controller tiers.new (shown V.kind_of (lent_slot loan.now.shelf.now) own.new) }
-    ensures kept { KeepsParts V.kind_of (Owns (lists_of S.reads S.writes C.reads C.writes) less) loan.now C.reads C.writes control.old tiers.old own.old control.new tiers.new own.new }
+    requires parts { PartsFit S.System C.BatchController less loan.now control.old tiers.old }
+    ensures ran { RoundsRan V.kind_of S.System C.BatchController less loan.now most control.old tiers.old own.old result control.new tiers.new own.new }
+    ensures kept { PartsStay V.kind_of S.System C.BatchController less loan.now control.old tiers.old own.old control.new tiers.new own.new }
 {
     for round in 0..most {
         match call_kept(control, &Ask, loan, own) {
@@ -128,9 +119,9 @@ fn run_tiers<
 ) -> Result<(), StageFault<E>>
     requires bare { loan.now.shelf.now ≡ [] }
     requires has { LiesBefore loan.now.writes.now loan.now.shelf.now own.old }
-    requires within { All (IsTierWithin (Owns (lists_of S.reads S.writes C.reads C.writes) less) loan.now.reads.now loan.now.writes.now) tiers.old }
-    ensures ran { InnerRun V.kind_of (WorkStep V.kind_of (relations_of (lists_of S.reads S.writes C.reads C.writes) S.step C.begins C.asks) less) tiers.old (shown V.kind_of (lent_slot loan.now.shelf.now) own.old) result tiers.new (shown V.kind_of (lent_slot loan.now.shelf.now) own.new) }
-    ensures kept { KeepsTiers V.kind_of (Owns (lists_of S.reads S.writes C.reads C.writes) less) loan.now tiers.old own.old tiers.new own.new }
+    requires within { TiersFit S.System C.BatchController less loan.now tiers.old }
+    ensures ran { TiersRan V.kind_of S.System C.BatchController less loan.now tiers.old own.old result tiers.new own.new }
+    ensures kept { TiersStay V.kind_of S.System C.BatchController less loan.now tiers.old own.old tiers.new own.new }
 {
     for tier in tiers.iter_mut() {
         if let Err(fault) = turn(crew, less, tier, loan, own) {
@@ -156,8 +147,8 @@ fn turn<
     own: &mut Table<V>,
 ) -> Result<(), StageFault<E>>
     requires bare { loan.now.shelf.now ≡ [] }
-    requires within { IsTierWithin (Owns (lists_of S.reads S.writes C.reads C.writes) less) loan.now.reads.now loan.now.writes.now tier.old }
-    ensures { TookTurnOver V.kind_of (Owns (lists_of S.reads S.writes C.reads C.writes) less) (WorkStep V.kind_of (relations_of (lists_of S.reads S.writes C.reads C.writes) S.step C.begins C.asks) less) (lent_slot loan.now.shelf.now) tier.old.groups.items own.old result tier.new.groups.items own.new }
+    requires within { TierFits S.System C.BatchController less loan.now tier.old }
+    ensures { TierTurned V.kind_of S.System C.BatchController less loan.now tier.old own.old result tier.new own.new }
 {
     turn_groups(crew, Some(less), &mut tier.groups, own)
 }
@@ -177,10 +168,10 @@ pub(crate) fn turn_groups<
     groups: &mut Vec<Group<V, Work<S, Nested<V, S, C>>>>,
     own: &mut Table<V>,
 ) -> Result<(), StageFault<E>>
-    requires own_lists { All (IsGroupOf (RuleOwns (lists_of S.reads S.writes C.reads C.writes) at)) groups.old.items }
+    requires own_lists { GroupsOwn S.System C.BatchController at groups.old.items }
     requires room { All KeepsRoom groups.old.items }
     requires apart { AreApart group_access (groups_plan groups.old.items) }
-    ensures { TookTurnOver V.kind_of (RuleOwns (lists_of S.reads S.writes C.reads C.writes) at) (RuleStep V.kind_of (relations_of (lists_of S.reads S.writes C.reads C.writes) S.step C.begins C.asks) at) (lent_slot []) groups.old.items own.old result groups.new.items own.new }
+    ensures { GroupsTurned V.kind_of S.System C.BatchController at [] groups.old.items own.old result groups.new.items own.new }
 {
     if is_lone_batch(groups.as_slice()) {
         return run_in_place(crew, at, &mut groups[0], own);
@@ -202,10 +193,10 @@ fn run_in_place<
     group: &mut Group<V, Work<S, Nested<V, S, C>>>,
     own: &mut Table<V>,
 ) -> Result<(), StageFault<E>>
-    requires own_lists { IsGroupOf (RuleOwns (lists_of S.reads S.writes C.reads C.writes) at) group.old }
+    requires own_lists { IsGroupOf (RuleOwns (lists_of S.System C.BatchController) at) group.old }
     requires room { KeepsRoom group.old }
     requires one { is_one_batch group.old.entries.items ≡ true }
-    ensures { TookTurnOver V.kind_of (RuleOwns (lists_of S.reads S.writes C.reads C.writes) at) (RuleStep V.kind_of (relations_of (lists_of S.reads S.writes C.reads C.writes) S.step C.begins C.asks) at) (lent_slot []) (group.old ∷ []) own.old result (group.new ∷ []) own.new }
+    ensures { GroupsTurned V.kind_of S.System C.BatchController at [] (group.old ∷ []) own.old result (group.new ∷ []) own.new }
 {
     let entry = &mut group.entries[0];
     match run_work(
@@ -241,9 +232,9 @@ fn run_work<
     own: &mut Table<V>,
 ) -> Result<(), Fault<E>>
     requires batch { is_batch work.old ≡ true }
-    requires own_lists { (RuleOwns (lists_of S.reads S.writes C.reads C.writes) at) work.old reads.now writes.now }
+    requires own_lists { (RuleOwns (lists_of S.System C.BatchController) at) work.old reads.now writes.now }
     requires before { LiesBefore writes.now [] own.old }
-    ensures stepped { IsStepBy V.kind_of (RuleOwns (lists_of S.reads S.writes C.reads C.writes) at) (RuleStep V.kind_of (relations_of (lists_of S.reads S.writes C.reads C.writes) S.step C.begins C.asks) at) reads.now writes.now (lent_slot []) work.old own.old result work.new own.new }
+    ensures stepped { WorkStepped V.kind_of S.System C.BatchController at reads.now writes.now [] work.old own.old result work.new own.new }
 {
     let depth = depth_by(at, work);
     match work {

@@ -1,6 +1,6 @@
 //! A lane of a stage.
 ghost use Rattle.std.specs.Arc.{arc_value};
-ghost use Rattle.shred_run.specs.Depths.{lists_of, relations_of};
+ghost use Rattle.shred_run.specs.Depths.{lists_of, steps_of};
 ghost use Rattle.shred_run.specs.Rules.{RuleOwns, RuleStep};
 ghost use Rattle.shred_kept.specs.Lanes.{AreReadyOver, WentOver};
 
@@ -26,9 +26,9 @@ pub struct StageLane<
 
 impl<V: ResourceValue, S: System<V, Error = E>, C: BatchController<V, Error = E>, E> Job
     for StageLane<V, S, C> {
-    ghost ready = { λ lane. AreReadyOver (RuleOwns (lists_of S.reads S.writes C.reads C.writes) lane.at) (arc_value lane.behind) lane.groups.items };
+    ghost ready = { λ lane. AreReadyOver (RuleOwns (lists_of S.System C.BatchController) lane.at) (arc_value lane.behind) lane.groups.items };
 
-    ghost ran = { λ old new. WentOver (RuleOwns (lists_of S.reads S.writes C.reads C.writes) old.at) V.kind_of (RuleStep V.kind_of (relations_of (lists_of S.reads S.writes C.reads C.writes) S.step C.begins C.asks) old.at) (arc_value old.behind) old.groups.items new.answer new.groups.items };
+    ghost ran = { λ old new. WentOver (RuleOwns (lists_of S.System C.BatchController) old.at) V.kind_of (RuleStep V.kind_of (steps_of S.System C.BatchController) old.at) (arc_value old.behind) old.groups.items new.answer new.groups.items };
 }
 
 /// Runs the groups of a lane, one after the other.

@@ -2,18 +2,10 @@
 ghost use Rattle.std.specs.Prelude.{◌≡◌, [], All};
 ghost use Rattle.shred_model.specs.Beside.{AreApart};
 ghost use Rattle.shred_model.specs.Plan.{group_access};
-ghost use Rattle.shred_run.specs.Depths.{lists_of, relations_of};
 ghost use Rattle.shred_run.specs.Hands.{KeepsRoom};
-ghost use Rattle.shred_run.specs.OwnDepth.{OwnStep, OwnsItself};
-ghost use Rattle.shred_run.specs.OwnLists.{IsGroupOf};
 ghost use Rattle.shred_run.specs.PlanOf.{groups_plan};
-ghost use Rattle.shred_run.specs.Rules.{RuleOwns, RuleStep};
-ghost use Rattle.shred_run.specs.Turns.{TookTurn};
-ghost use Rattle.shred_run.specs.TurnsOver.{TookTurnOver};
 ghost use Rattle.shred_table.specs.Shown.{IsSameSlots};
-ghost use Rattle.shred_table.specs.Slots.{held};
-ghost use Rattle.shred_kept.specs.Lanes.{AreReadyOver, WentOver};
-ghost use Rattle.shred_world.specs.Views.{lent_slot};
+ghost use Rattle.shred_run.specs.Circles.{GroupsOwn, GroupsReadyOver, GroupsTurned, StageTurned, GroupsRanOver, StageOwns};
 
 use crate::beside::run_beside;
 use crate::groups::{hand_back, hand_out};
@@ -39,8 +31,8 @@ fn run_shared<
     groups: &mut Vec<Group<V, Work<S, Nested<V, S, C>>>>,
     table: &mut Table<V>,
 ) -> Result<(), StageFault<E>>
-    requires { AreReadyOver (RuleOwns (lists_of S.reads S.writes C.reads C.writes) at) table.old groups.old.items }
-    ensures ran { WentOver (RuleOwns (lists_of S.reads S.writes C.reads C.writes) at) V.kind_of (RuleStep V.kind_of (relations_of (lists_of S.reads S.writes C.reads C.writes) S.step C.begins C.asks) at) table.old groups.old.items result groups.new.items }
+    requires { GroupsReadyOver S.System C.BatchController at table.old groups.old.items }
+    ensures ran { GroupsRanOver V.kind_of S.System C.BatchController at table.old groups.old.items result groups.new.items }
     ensures table { table.new ≡ table.old }
 {
     let rt = crew.pool.runtime();
@@ -73,10 +65,10 @@ pub(crate) fn turn_beside<
     groups: &mut Vec<Group<V, Work<S, Nested<V, S, C>>>>,
     own: &mut Table<V>,
 ) -> Result<(), StageFault<E>>
-    requires own_lists { All (IsGroupOf (RuleOwns (lists_of S.reads S.writes C.reads C.writes) at)) groups.old.items }
+    requires own_lists { GroupsOwn S.System C.BatchController at groups.old.items }
     requires room { All KeepsRoom groups.old.items }
     requires apart { AreApart group_access (groups_plan groups.old.items) }
-    ensures { TookTurnOver V.kind_of (RuleOwns (lists_of S.reads S.writes C.reads C.writes) at) (RuleStep V.kind_of (relations_of (lists_of S.reads S.writes C.reads C.writes) S.step C.begins C.asks) at) (lent_slot []) groups.old.items own.old result groups.new.items own.new }
+    ensures { GroupsTurned V.kind_of S.System C.BatchController at [] groups.old.items own.old result groups.new.items own.new }
 {
     hand_out(groups, own);
     let answer = run_shared(crew, at, groups, own);
@@ -97,10 +89,10 @@ pub fn turn_kept<
     groups: &mut Vec<Group<V, Work<S, Nested<V, S, C>>>>,
     table: &mut Table<V>,
 ) -> Result<(), StageFault<E>>
-    requires own_lists { All (IsGroupOf (OwnsItself (lists_of S.reads S.writes C.reads C.writes))) groups.old.items }
+    requires own_lists { StageOwns S.System C.BatchController groups.old.items }
     requires room { All KeepsRoom groups.old.items }
     requires apart { AreApart group_access (groups_plan groups.old.items) }
-    ensures took { TookTurn V.kind_of (OwnStep V.kind_of (relations_of (lists_of S.reads S.writes C.reads C.writes) S.step C.begins C.asks)) (OwnsItself (lists_of S.reads S.writes C.reads C.writes)) groups.old.items (held V.kind_of table.old) result groups.new.items (held V.kind_of table.new) }
+    ensures took { StageTurned V.kind_of S.System C.BatchController groups.old.items table.old result groups.new.items table.new }
     ensures slots { IsSameSlots table.old table.new }
 {
     turn_groups(crew, None, groups, table)

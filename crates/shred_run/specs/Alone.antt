@@ -13,6 +13,10 @@ use Rattle.shred_run.specs.Steps.{Outcome, Step, declared_of}
 abbrev pub KeepsKinds : {V : Type 0} → (V → Kind) → Held V → Held V → Type 0
 KeepsKinds kind before after = (id : ResourceId) → option_map kind (after id) ≡ option_map kind (before id)
 
+-- values of the same kinds are held under the same ids, before and after
+abbrev pub KeepsKindsIn : {T V : Type 0} → ((V → Kind) → T → Held V) → (V → Kind) → (old new : T) → Type 0
+KeepsKindsIn held kind old new = KeepsKinds kind (held kind old) (held kind new)
+
 -- The step lies in the system's relation on what it declares, and all that it does not declare to write stays.
 pub record IsStepOver {V S E : Type 0} (kind : V → Kind) (step : Step V S E) (access : Access ResourceId) (old : S) (before : Held V) (outcome : Outcome E) (new : S) (after : Held V) : Type 0 where
   pub lies : step old (declared_of access before) outcome new (declared_of access after)
@@ -33,3 +37,7 @@ KeepsLists reads writes old new = (reads new ≡ reads old) × (writes new ≡ w
 abbrev pub StepsAlone : {V S E : Type 0} → (V → Kind) → Step V S E → (S → List ResourceId) → (S → List ResourceId) → Step V S E
 StepsAlone kind step reads writes old before outcome new after =
     (IsStepOver kind step (record { reads = reads old; writes = writes old }) old before outcome new after × KeepsLists reads writes old new) ⊎ HadNoRoom old before outcome new after
+
+-- what it declares, as an access
+abbrev pub access_by : {S : Type 0} → (S → List ResourceId) → (S → List ResourceId) → S → Access ResourceId
+access_by reads writes system = record { reads = reads system; writes = writes system }

@@ -9,6 +9,8 @@ use Rattle.shred_run.specs.KeptControllers.{control_access}
 use Rattle.shred_run.specs.Controls.{Control, keeping}
 use Rattle.shred_run.specs.Rounds.{BatchRun}
 use Rattle.shred_run.specs.Works.{InnerRun, IsBatchWithin, tier_numbers, tiers_plan}
+use Rattle.shred_run.specs.declared.controller.BatchController as controllers
+use Rattle.shred_run.specs.declared.system.System as systems
 use Rattle.shred_run.specs.declared.work.Batch.{Batch as OneBatch}
 use Rattle.shred_run.specs.declared.work.Nested.{Nested}
 use Rattle.shred_run.specs.declared.work.Nested.TheViews.{out-Nested}
@@ -28,10 +30,6 @@ pub record Related (V S C E : Type 0) : Type 1 where
   pub begins : Control V C ℕ E
   pub asks : Control V C Bool E
 
--- the lists that these functions tell
-abbrev pub lists_of : {S C : Type 0} → (S → List ResourceId) → (S → List ResourceId) → (C → List ResourceId) → (C → List ResourceId) → Declared S C
-lists_of reads writes control_reads control_writes = record { reads = reads; writes = writes; control_reads = control_reads; control_writes = control_writes }
-
 -- these relations, where the lists stay that are declared
 abbrev pub relations_of : {V S C E : Type 0} → Declared S C → Step V S E → Control V C ℕ E → Control V C Bool E → Related V S C E
 relations_of declared steps begins asks = record {
@@ -39,6 +37,14 @@ relations_of declared steps begins asks = record {
   begins = keeping declared.control_reads declared.control_writes begins;
   asks = keeping declared.control_reads declared.control_writes asks;
 }
+
+-- the lists that systems and controllers tell
+abbrev pub lists_of : {V S C E F A B : Type 0} → systems.Ghosts S V E A → controllers.Ghosts C V F B → Declared S C
+lists_of s c = record { reads = s.reads; writes = s.writes; control_reads = c.reads; control_writes = c.writes }
+
+-- the relations of their steps and calls
+abbrev pub steps_of : {V S C E A B : Type 0} → systems.Ghosts S V E A → controllers.Ghosts C V E B → Related V S C E
+steps_of s c = relations_of (lists_of s c) s.step c.begins c.asks
 
 -- the batch that is nested
 abbrev pub batch_of : {V S C : Type 0} → Nested V S C → OneBatch V C (Work S (Nested V S C))

@@ -19,3 +19,7 @@ pub record IsKept (id : ℕ) (reads writes : List ResourceId) (time : RunningTim
 pub record AreOwnLists (reads writes kept_reads kept_writes : List ResourceId) : Type 0 where
   pub same_reads : (id : ResourceId) → among kept_reads id ≡ among reads id
   pub same_writes : (id : ResourceId) → among kept_writes id ≡ among writes id
+
+-- the two lists have the same ids
+abbrev pub HaveSameIds : (ids others : List ResourceId) → Type 0
+HaveSameIds ids others = (id : ResourceId) → Contains ids id ↔ Contains others id

@@ -4,8 +4,10 @@ pub mod Alone
 pub mod BatchRuns
 pub mod Batches
 pub mod Calls
+pub mod Circles
 pub mod Controls
 pub mod Depths
+pub mod Disposing
 pub mod Entries
 pub mod EntrySetups
 pub mod Faults
@@ -14,6 +16,7 @@ pub mod Kept
 pub mod KeptControllers
 pub mod Lanes
 pub mod Left
+pub mod LoanCalls
 pub mod Multi
 pub mod NestedRecords
 pub mod NestedRuns
@@ -32,9 +35,11 @@ pub mod PlanOf
 pub mod Rounds
 pub mod Rules
 pub mod Setups
+pub mod SettingUp
 pub mod Sides
 pub mod Steppers
 pub mod Steps
+pub mod SystemSteps
 pub mod Texts
 pub mod Time
 pub mod Touching

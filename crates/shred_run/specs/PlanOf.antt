@@ -13,12 +13,12 @@ abbrev pub numbers_of : List SystemId → List ℕ
 numbers_of ids = map (λ id. id.0) ids
 
 -- what the work in an entry may touch
-abbrev pub access_of : {V S : Type 0} → GroupEntry V S → Access ResourceId
-access_of entry = record { reads = entry.reads.items; writes = entry.writes.items }
+abbrev pub entry_access : {V S : Type 0} → GroupEntry V S → Access ResourceId
+entry_access entry = record { reads = entry.reads.items; writes = entry.writes.items }
 
 -- an entry, but for the work in it
 abbrev pub entry_plan : {V S : Type 0} → GroupEntry V S → model.PlanEntry ResourceId
-entry_plan entry = record { id = entry.id.0; access = access_of entry; time = time_count entry.time }
+entry_plan entry = record { id = entry.id.0; access = entry_access entry; time = time_count entry.time }
 
 -- the numbers of the ids beside a group's entries
 abbrev pub group_numbers : {V S : Type 0} → Group V S → List ℕ

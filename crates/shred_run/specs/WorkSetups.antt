@@ -4,12 +4,14 @@ use Rattle.shred_model.specs.States.{listed_states}
 use Rattle.shred_world.specs.Worked.{Held}
 use Rattle.shred_run.specs.AdditionOrder.{plan_entries}
 use Rattle.shred_run.specs.Controls.{keeping}
-use Rattle.shred_run.specs.Depths.{Declared, batch_of}
+use Rattle.shred_run.specs.Depths.{Declared, batch_of, lists_of}
 use Rattle.shred_run.specs.EntrySetups.{DisposedInOrder, SetUpInOrder, own_fault}
 use Rattle.shred_run.specs.KeptControllers.{control_access}
 use Rattle.shred_run.specs.OwnDepth.{depth_of}
 use Rattle.shred_run.specs.Steps.{Outcome, Step}
 use Rattle.shred_run.specs.Works.{tier_numbers, tier_states, tiers_plan}
+use Rattle.shred_run.specs.declared.controller.BatchController as controllers
+use Rattle.shred_run.specs.declared.system.System as systems
 use Rattle.shred_run.specs.declared.work.Batch.{Batch as OneBatch}
 use Rattle.shred_run.specs.declared.work.Nested.{Nested}
 use Rattle.shred_run.specs.declared.work.Work.{Work}
@@ -21,11 +23,15 @@ pub record Setups (V S C E : Type 0) : Type 1 where
   pub controllers : Step V C E
 
 -- these relations, where the lists stay that are declared
-abbrev pub setups_of : {V S C E : Type 0} → Declared S C → Step V S E → Step V C E → Setups V S C E
-setups_of declared systems controllers = record {
+abbrev pub setups_by : {V S C E : Type 0} → Declared S C → Step V S E → Step V C E → Setups V S C E
+setups_by declared systems controllers = record {
   systems = keeping declared.reads declared.writes systems;
   controllers = keeping declared.control_reads declared.control_writes controllers;
 }
+
+-- the relations of the setups of systems and controllers
+abbrev pub setups_of : {V S C E A B : Type 0} → systems.Ghosts S V E A → controllers.Ghosts C V E B → Setups V S C E
+setups_of s c = setups_by (lists_of s c) s.sets_up c.sets_up
 
 -- A batch is set up by its controller; where that is Done, each entry of its inner plan is, in the plan's order, up to the first that is not Done, whose fault is the batch's. What was kept of it stays.
 pub record BatchSetup {V X C E : Type 0} (inner : Step V X E) (control : Step V C E) (old : OneBatch V C X) (before : Held V) (outcome : Outcome E) (new : OneBatch V C X) (after : Held V) : Type 0 where

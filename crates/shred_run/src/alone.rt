@@ -1,16 +1,14 @@
 //! One step of a system over all that a table holds, outside of a plan.
 ghost use Rattle.std.specs.Prelude.{◌≡◌, IfOk};
-ghost use Rattle.shred_run.specs.Alone.{IsStepOver, KeepsKinds, KeepsLists, StepsAlone};
+ghost use Rattle.shred_run.specs.Alone.{KeepsKinds, KeepsLists};
 ghost use Rattle.shred_run.specs.declared.alone.Room.{Room};
 ghost use Rattle.shred_table.specs.Parting.{IsEmptyHand};
 ghost use Rattle.shred_table.specs.Shown.{IsSameSlots};
 ghost use Rattle.shred_table.specs.Slots.{slot_at, held};
 ghost use Rattle.shred_run.specs.Kept.{AreOwnLists};
 ghost use Rattle.shred_run.specs.OwnSlots.{HasOnlySlots};
-ghost use Rattle.shred_run.specs.Controls.{keeping};
-ghost use Rattle.shred_run.specs.OwnLists.{declared_lists};
-ghost use Rattle.shred_run.specs.Steppers.{IsStepBy};
 ghost use Rattle.shred_table.specs.Shown.{HasOwnSlots};
+ghost use Rattle.shred_run.specs.SystemSteps.{SteppedInHand, SteppedOver, RanAlone};
 
 use crate::calls::{Run, call_over};
 use crate::loan::Loan;
@@ -58,7 +56,7 @@ fn step_before<V: ResourceValue, S: System<V>>(
     requires own_lists { AreOwnLists (S.reads system.old) (S.writes system.old) reads.now writes.now }
     requires own_slots { HasOwnSlots writes.now (slot_at table.now) hand.old }
     requires only_own { HasOnlySlots writes.now hand.old }
-    ensures { IsStepBy V.kind_of (declared_lists S.reads S.writes) (keeping S.reads S.writes S.step) reads.now writes.now (slot_at table.now) system.old hand.old result system.new hand.new }
+    ensures { SteppedInHand V.kind_of S.System reads.now writes.now table.now system.old hand.old result system.new hand.new }
 {
     let shelf = &[Shelf::Last(table)];
     let loan = Loan {
@@ -80,7 +78,7 @@ fn step_in<V: ResourceValue + Drop, S: System<V>>(
     requires hand { IsEmptyHand room.old.writes.items room.old.hand }
     ensures lists { KeepsLists S.reads S.writes system.old system.new }
     ensures slots { IsSameSlots table.old table.new }
-    ensures step { IsStepOver V.kind_of S.step (record { reads = S.reads system.old; writes = S.writes system.old }) system.old (held V.kind_of table.old) result system.new (held V.kind_of table.new) }
+    ensures step { SteppedOver V.kind_of S.System system.old table.old result system.new table.new }
 {
     move_each(table, room.writes.as_slice(), &mut room.hand);
     let outcome = step_before(
@@ -101,7 +99,7 @@ pub fn run_alone<V: ResourceValue + Drop, S: System<V>>(
     system: &mut S,
     table: &mut Table<V>,
 ) -> Result<(), Fault<S::Error>>
-    ensures ran { StepsAlone V.kind_of S.step S.reads S.writes system.old (held V.kind_of table.old) result system.new (held V.kind_of table.new) }
+    ensures ran { RanAlone V.kind_of S.System system.old table.old result system.new table.new }
     ensures kinds { KeepsKinds V.kind_of (held V.kind_of table.old) (held V.kind_of table.new) }
     ensures slots { IsSameSlots table.old table.new }
 {

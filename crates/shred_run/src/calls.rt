@@ -1,12 +1,12 @@
 //! The run of a system and the two calls of a controller, over a table and what is lent behind it.
-ghost use Rattle.std.specs.Prelude.{◌≡◌, List, false, is_some};
+ghost use Rattle.std.specs.Prelude.{◌≡◌, List};
 ghost use Rattle.shred_run.specs.OwnSlots.{LendsSome, LiesBefore};
 ghost use Rattle.shred_run.specs.Controls.{keeping};
 ghost use Rattle.shred_run.specs.Kept.{AreOwnLists};
-ghost use Rattle.shred_run.specs.OwnLists.{declared_lists};
-ghost use Rattle.shred_run.specs.Steppers.{IsStepBy};
 ghost use Rattle.shred_table.specs.declared.id.ResourceId.{ResourceId};
-ghost use Rattle.shred_world.specs.Views.{lent_slot};
+ghost use Rattle.shred_table.specs.Changes.{StaysOutside, KeepsIdsOf};
+ghost use Rattle.shred_world.specs.Between.{OverView};
+ghost use Rattle.shred_run.specs.LoanCalls.{IsCallOver};
 
 use crate::controller::BatchController;
 use crate::loan::Loan;
@@ -17,7 +17,7 @@ use shred_world::{ResourceValue, Table, View};
 pub trait Call<V: ResourceValue, C, A, E> {
     ghost use Rattle.shred_world.specs.OwnViews.{IsLent};
     ghost use Rattle.shred_run.specs.Controls.{Control};
-    ghost use Rattle.shred_world.specs.Views.{view_held, declared_held, may_write, table_of, IsSameView};
+    ghost use Rattle.shred_world.specs.Views.{view_held, may_write, table_name, IsSameView};
 
     ghost reads_of: { C → List ResourceId };
 
@@ -28,11 +28,11 @@ pub trait Call<V: ResourceValue, C, A, E> {
     /// The call. It gives back what it took, keeps every id, and changes nothing but what the view may write.
     fn call(&self, on: &mut C, view: &mut View<V>) -> Result<A, Fault<E>>
         requires lent { IsLent view.old (reads_of on.old) (writes_of on.old) }
-        ensures does { does on.old (declared_held V.kind_of view.old) result on.new (declared_held V.kind_of view.new) }
-        ensures table { table_of view.new ≡ table_of view.old }
+        ensures does { OverView V.kind_of does on.old view.old result on.new view.new }
+        ensures table { table_name view.new ≡ table_name view.old }
         ensures view { IsSameView view.old view.new }
-        ensures ids { (id : ResourceId) → is_some (view_held V.kind_of view.new id) ≡ is_some (view_held V.kind_of view.old id) }
-        ensures frame { (id : ResourceId) → may_write view.old id ≡ false → view_held V.kind_of view.new id ≡ view_held V.kind_of view.old id }
+        ensures ids { KeepsIdsOf (view_held V.kind_of) view.old view.new }
+        ensures frame { StaysOutside (may_write view.old) (view_held V.kind_of) view.old view.new }
         ensures reads { reads_of on.new ≡ reads_of on.old }
         ensures writes { writes_of on.new ≡ writes_of on.old };
 }
@@ -97,7 +97,7 @@ pub(crate) fn call_over<V: ResourceValue, C, A, E, K: Call<V, C, A, E>>(
     requires own_lists { AreOwnLists (K.reads_of on.old) (K.writes_of on.old) loan.now.reads.now loan.now.writes.now }
     requires has { LiesBefore loan.now.writes.now loan.now.shelf.now own.old }
     requires behind { LendsSome loan.now.shelf.now }
-    ensures { IsStepBy V.kind_of (declared_lists K.reads_of K.writes_of) K.does loan.now.reads.now loan.now.writes.now (lent_slot loan.now.shelf.now) on.old own.old result on.new own.new }
+    ensures { IsCallOver V.kind_of K.reads_of K.writes_of K.does loan.now on.old own.old result on.new own.new }
 {
     let reads = loan.reads;
     let writes = loan.writes;

@@ -1,15 +1,10 @@
 //! A batch's controller, with what was kept of it, and its calls over a table that lies before what is lent shared.
-ghost use Rattle.std.specs.Prelude.{◌≡◌, true};
+ghost use Rattle.std.specs.Prelude.{◌≡◌};
 ghost use Rattle.shred_run.specs.KeptControllers.{control_access, IsOwnControl};
-ghost use Rattle.shred_run.specs.Rounds.{IsControlOver};
-ghost use Rattle.shred_run.specs.Kept.{AreOwnLists};
-ghost use Rattle.shred_run.specs.OwnSlots.{lent_before, HasOnlySlots, LiesBefore};
-ghost use Rattle.shred_run.specs.OwnLists.{declared_lists};
-ghost use Rattle.shred_run.specs.Steppers.{IsStepBy};
+ghost use Rattle.shred_run.specs.OwnSlots.{HasOnlySlots, LiesBefore};
 ghost use Rattle.shred_table.specs.declared.id.ResourceId.{ResourceId};
-ghost use Rattle.shred_table.specs.Shown.{shown, HasOwnSlots, IsSameSlots};
-ghost use Rattle.shred_table.specs.Slots.{among};
-ghost use Rattle.shred_world.specs.Views.{lent_slot};
+ghost use Rattle.shred_table.specs.Shown.{IsSameSlots};
+ghost use Rattle.shred_run.specs.LoanCalls.{HasOwnLists, HasHandSlots, WritesWithin, IsCallInHand, IsKeptCall};
 
 use crate::calls::{Call, call_over};
 use crate::loan::{Loan, behind};
@@ -34,11 +29,11 @@ fn call_in_hand<V: ResourceValue, C, A, E, K: Call<V, C, A, E>>(
     loan: &Loan<V>,
     own: &Table<V>,
 ) -> Result<A, Fault<E>>
-    requires own_lists { AreOwnLists (K.reads_of entry.old.controller) (K.writes_of entry.old.controller) entry.old.reads.items entry.old.writes.items }
+    requires own_lists { HasOwnLists K.reads_of K.writes_of entry.old }
     requires has { LiesBefore loan.now.writes.now loan.now.shelf.now own.now }
-    requires hand_slots { HasOwnSlots entry.old.writes.items (lent_before own.now (lent_slot loan.now.shelf.now)) entry.old.hand }
+    requires hand_slots { HasHandSlots loan.now own.now entry.old }
     requires only_hand { HasOnlySlots entry.old.writes.items entry.old.hand }
-    ensures called { IsStepBy V.kind_of (declared_lists K.reads_of K.writes_of) K.does entry.old.reads.items entry.old.writes.items (lent_before own.now (lent_slot loan.now.shelf.now)) entry.old.controller entry.old.hand result entry.new.controller entry.new.hand }
+    ensures called { IsCallInHand V.kind_of K.reads_of K.writes_of K.does loan.now own.now entry.old result entry.new }
     ensures reads { entry.new.reads ≡ entry.old.reads }
     ensures writes { entry.new.writes ≡ entry.old.writes }
 {
@@ -62,9 +57,9 @@ pub fn call_kept<V: ResourceValue + Drop, C, A, E, K: Call<V, C, A, E>>(
     own: &mut Table<V>,
 ) -> Result<A, Fault<E>>
     requires own_lists { IsOwnControl K.reads_of K.writes_of entry.old }
-    requires writes_within { (id : ResourceId) → among entry.old.writes.items id ≡ true → among loan.now.writes.now id ≡ true }
+    requires writes_within { WritesWithin loan.now entry.old }
     requires has { LiesBefore loan.now.writes.now loan.now.shelf.now own.old }
-    ensures ran { IsControlOver V.kind_of K.does (control_access entry.old) entry.old.controller (shown V.kind_of (lent_slot loan.now.shelf.now) own.old) result entry.new.controller (shown V.kind_of (lent_slot loan.now.shelf.now) own.new) }
+    ensures ran { IsKeptCall V.kind_of K.does loan.now entry.old own.old result entry.new own.new }
     ensures slots { IsSameSlots own.old own.new }
     ensures own_lists { IsOwnControl K.reads_of K.writes_of entry.new }
     ensures access { control_access entry.new ≡ control_access entry.old }

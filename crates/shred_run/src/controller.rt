@@ -1,7 +1,9 @@
 //! What says how often the plan of a batch is run.
-ghost use Rattle.std.specs.Prelude.{◌≡◌, ℕ, Bool, List, IfOk, false, is_some};
+ghost use Rattle.std.specs.Prelude.{◌≡◌, ℕ, Bool, List, IfOk};
 ghost use Rattle.shred_run.specs.declared.system.RunningTime.{RunningTime};
 ghost use Rattle.shred_table.specs.declared.id.ResourceId.{ResourceId};
+ghost use Rattle.shred_table.specs.Changes.{StaysOutside, KeepsIdsOf};
+ghost use Rattle.shred_world.specs.Between.{OverView, OverWorld};
 
 use crate::system::{Fault, RunningTime};
 use shred_world::{Accessor, OutOfMemory, ResourceValue, View, World};
@@ -13,8 +15,7 @@ pub trait BatchController<V: ResourceValue> {
     ghost use Rattle.shred_world.specs.OwnViews.{IsLent};
     ghost use Rattle.shred_run.specs.Steps.{Step};
     ghost use Rattle.shred_run.specs.Controls.{Control};
-    ghost use Rattle.shred_world.specs.Views.{view_held, declared_held, may_write, table_of, IsSameView};
-    ghost use Rattle.shred_world.specs.Worlds.{world_held};
+    ghost use Rattle.shred_world.specs.Views.{view_held, may_write, table_name, IsSameView};
 
     type Error;
 
@@ -37,11 +38,11 @@ pub trait BatchController<V: ResourceValue> {
     /// the view may write. A `Fault` ends the batch; what was written stays.
     fn begin(&mut self, view: &mut View<V>) -> Result<usize, Fault<Self::Error>>
         requires lent { IsLent view.old (reads self.old) (writes self.old) }
-        ensures begins { begins self.old (declared_held V.kind_of view.old) result self.new (declared_held V.kind_of view.new) }
-        ensures table { table_of view.new ≡ table_of view.old }
+        ensures begins { OverView V.kind_of begins self.old view.old result self.new view.new }
+        ensures table { table_name view.new ≡ table_name view.old }
         ensures view { IsSameView view.old view.new }
-        ensures ids { (id : ResourceId) → is_some (view_held V.kind_of view.new id) ≡ is_some (view_held V.kind_of view.old id) }
-        ensures frame { (id : ResourceId) → may_write view.old id ≡ false → view_held V.kind_of view.new id ≡ view_held V.kind_of view.old id }
+        ensures ids { KeepsIdsOf (view_held V.kind_of) view.old view.new }
+        ensures frame { StaysOutside (may_write view.old) (view_held V.kind_of) view.old view.new }
         ensures reads { reads self.new ≡ reads self.old }
         ensures writes { writes self.new ≡ writes self.old };
 
@@ -49,11 +50,11 @@ pub trait BatchController<V: ResourceValue> {
     /// then. A `Fault` ends it too; what was written stays.
     fn again(&mut self, view: &mut View<V>) -> Result<bool, Fault<Self::Error>>
         requires lent { IsLent view.old (reads self.old) (writes self.old) }
-        ensures asks { asks self.old (declared_held V.kind_of view.old) result self.new (declared_held V.kind_of view.new) }
-        ensures table { table_of view.new ≡ table_of view.old }
+        ensures asks { OverView V.kind_of asks self.old view.old result self.new view.new }
+        ensures table { table_name view.new ≡ table_name view.old }
         ensures view { IsSameView view.old view.new }
-        ensures ids { (id : ResourceId) → is_some (view_held V.kind_of view.new id) ≡ is_some (view_held V.kind_of view.old id) }
-        ensures frame { (id : ResourceId) → may_write view.old id ≡ false → view_held V.kind_of view.new id ≡ view_held V.kind_of view.old id }
+        ensures ids { KeepsIdsOf (view_held V.kind_of) view.old view.new }
+        ensures frame { StaysOutside (may_write view.old) (view_held V.kind_of) view.old view.new }
         ensures reads { reads self.new ≡ reads self.old }
         ensures writes { writes self.new ≡ writes self.old };
 
@@ -68,7 +69,7 @@ pub trait BatchController<V: ResourceValue> {
 
     /// What is done once, before the first run and before the setup of the batch's systems.
     fn setup(&mut self, world: &mut World<V>) -> Result<(), Fault<Self::Error>>
-        ensures sets_up { sets_up self.old (world_held V.kind_of world.old) result self.new (world_held V.kind_of world.new) }
+        ensures sets_up { OverWorld V.kind_of sets_up self.old world.old result self.new world.new }
         ensures reads { reads self.new ≡ reads self.old }
         ensures writes { writes self.new ≡ writes self.old };
 }

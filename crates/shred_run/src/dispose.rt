@@ -1,10 +1,10 @@
 //! Disposal of what stands in an entry: of a system, or of what stands in a batch's inner plan, which leads back here.
 ghost use Rattle.std.specs.Prelude.{◌-◌, All};
-ghost use Rattle.shred_run.specs.Setups.{EntryDisposal, GroupDisposal, GroupsDisposal, TiersDisposal};
 ghost use Rattle.shred_run.specs.Nesting.{IsNoDeeper};
-ghost use Rattle.shred_run.specs.Rules.{EntryNests, GroupNests, RuleDisposal, TierNests};
-ghost use Rattle.shred_run.specs.WorkSetups.{BatchDisposal, WorkDisposal};
-ghost use Rattle.shred_world.specs.Worlds.{world_held};
+ghost use Rattle.shred_run.specs.Rules.{EntryNests, GroupNests, TierNests};
+ghost use Rattle.shred_run.specs.WorkSetups.{WorkDisposal};
+ghost use Rattle.shred_world.specs.Between.{LeavesWorld};
+ghost use Rattle.shred_run.specs.Disposing.{BatchDisposed, TiersDisposed, GroupsDisposed, GroupDisposed, EntryDisposed};
 
 use crate::depth::depth_by;
 use crate::entry::{Group, GroupEntry, StageFault};
@@ -22,7 +22,7 @@ fn dispose_of_work<V: ResourceValue + Drop, S: System<V, Error = E> + Drop, C: D
     world: &mut World<V>,
 ) -> Result<(), Fault<E>>
     requires { IsNoDeeper depth work }
-    ensures { WorkDisposal C S.disposes depth work (world_held V.kind_of world.old) result (world_held V.kind_of world.new) }
+    ensures { LeavesWorld V.kind_of (WorkDisposal C S.disposes depth work) world.old result world.new }
 {
     match work {
         Work::System(system) => system.dispose(world),
@@ -41,7 +41,7 @@ fn dispose_of_batch<V: ResourceValue + Drop, S: System<V, Error = E> + Drop, C: 
     world: &mut World<V>,
 ) -> Result<(), Fault<E>>
     requires { All (TierNests (Some less)) batch.tiers.items }
-    ensures { BatchDisposal (WorkDisposal C S.disposes less) batch (world_held V.kind_of world.old) result (world_held V.kind_of world.new) }
+    ensures { BatchDisposed V.kind_of S.System less batch world.old result world.new }
 {
     match dispose_of_tiers(less, batch.tiers, world) {
         Ok(()) => Ok(()),
@@ -57,7 +57,7 @@ fn dispose_of_tiers<V: ResourceValue + Drop, S: System<V, Error = E> + Drop, C: 
     world: &mut World<V>,
 ) -> Result<(), StageFault<E>>
     requires { All (TierNests (Some less)) tiers.items }
-    ensures { TiersDisposal (WorkDisposal C S.disposes less) tiers.items (world_held V.kind_of world.old) result (world_held V.kind_of world.new) }
+    ensures { TiersDisposed V.kind_of S.System less tiers.items world.old result world.new }
 {
     let mut answer = Ok(());
     for tier in tiers {
@@ -75,7 +75,7 @@ pub fn dispose_of_groups<V: ResourceValue + Drop, S: System<V, Error = E> + Drop
     world: &mut World<V>,
 ) -> Result<(), StageFault<E>>
     requires { All (GroupNests at) groups.items }
-    ensures { GroupsDisposal (RuleDisposal S.disposes at) groups.items (world_held V.kind_of world.old) result (world_held V.kind_of world.new) }
+    ensures { GroupsDisposed V.kind_of S.System at groups.items world.old result world.new }
 {
     let mut answer = Ok(());
     for group in groups {
@@ -92,7 +92,7 @@ fn dispose_of_group<V: ResourceValue + Drop, S: System<V, Error = E> + Drop, C: 
     world: &mut World<V>,
 ) -> Result<(), StageFault<E>>
     requires { GroupNests at group }
-    ensures { GroupDisposal (RuleDisposal S.disposes at) group (world_held V.kind_of world.old) result (world_held V.kind_of world.new) }
+    ensures { GroupDisposed V.kind_of S.System at group world.old result world.new }
 {
     let mut answer = Ok(());
     for entry in group.entries {
@@ -109,7 +109,7 @@ fn dispose_of_entry<V: ResourceValue + Drop, S: System<V, Error = E> + Drop, C: 
     world: &mut World<V>,
 ) -> Result<(), StageFault<E>>
     requires { EntryNests at entry }
-    ensures { EntryDisposal (RuleDisposal S.disposes at) entry (world_held V.kind_of world.old) result (world_held V.kind_of world.new) }
+    ensures { EntryDisposed V.kind_of S.System at entry world.old result world.new }
 {
     let id = entry.id;
     let depth = depth_by(at, &entry.work);

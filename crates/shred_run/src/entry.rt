@@ -4,7 +4,7 @@ ghost use Rattle.shred_model.specs.Plan.{group_ids, group_time};
 ghost use Rattle.shred_table.specs.Id.{same_id};
 ghost use Rattle.shred_table.specs.Parting.{IsEmptyHand};
 ghost use Rattle.shred_run.specs.Hands.{KeepsRoom};
-ghost use Rattle.shred_run.specs.PlanOf.{access_of, entry_plan, group_plan, numbers_of, HasEntryIds};
+ghost use Rattle.shred_run.specs.PlanOf.{entry_access, entry_plan, group_plan, numbers_of, HasEntryIds};
 ghost use Rattle.shred_run.specs.Left.{difference, without_one};
 ghost use Rattle.shred_run.specs.Sides.{side_of, group_side};
 ghost use Rattle.shred_run.specs.Touching.{share_item, accesses_conflict, group_conflicts, holds_any, is_touched};
@@ -94,7 +94,7 @@ fn shares_resource(first: &Vec<ResourceId>, second: &Vec<ResourceId>) -> bool
 impl<V, S> GroupEntry<V, S> {
     /// One of the two kept lists.
     fn side(&self, side: Side) -> &[ResourceId]
-        ensures { result.now ≡ side_of side (access_of self.now) }
+        ensures { result.now ≡ side_of side (entry_access self.now) }
     {
         match side {
             Side::Reads => self.reads.as_slice(),
@@ -104,7 +104,7 @@ impl<V, S> GroupEntry<V, S> {
 
     /// Whether one entry writes what the other reads or writes.
     pub fn conflicts(&self, other: &GroupEntry<V, S>) -> bool
-        ensures { result ≡ accesses_conflict same_id (access_of self.now) (access_of other.now) }
+        ensures { result ≡ accesses_conflict same_id (entry_access self.now) (entry_access other.now) }
     {
         shares_resource(&self.writes, &other.writes)
             || shares_resource(&self.writes, &other.reads)
@@ -115,7 +115,7 @@ impl<V, S> GroupEntry<V, S> {
 impl<V, S> Group<V, S> {
     /// Whether an entry of the group conflicts with this one.
     pub fn conflicts(&self, entry: &GroupEntry<V, S>) -> bool
-        ensures { result ≡ group_conflicts same_id (access_of entry.now) (group_plan self.now) }
+        ensures { result ≡ group_conflicts same_id (entry_access entry.now) (group_plan self.now) }
     {
         self.entries.iter().any(|member| member.conflicts(entry))
     }
@@ -131,7 +131,7 @@ impl<V, S> Group<V, S> {
     /// Whether the entry has to come after this group: they conflict, or the group holds an id that is left.
     pub fn is_touched(&self, left: &[SystemId], entry: &GroupEntry<V, S>) -> bool
         requires { HasEntryIds self.now }
-        ensures { result ≡ is_touched same_id (numbers_of left.now) (access_of entry.now) (group_plan self.now) }
+        ensures { result ≡ is_touched same_id (numbers_of left.now) (entry_access entry.now) (group_plan self.now) }
     {
         self.holds_any(left) || self.conflicts(entry)
     }

@@ -1,10 +1,10 @@
 //! Moving what groups write into their hands, and back.
-ghost use Rattle.std.specs.Prelude.{◌≡◌, false, cond, All};
+ghost use Rattle.std.specs.Prelude.{◌≡◌, All};
 ghost use Rattle.std.specs.List.{AllZip};
-ghost use Rattle.shred_table.specs.Parting.{emptied, given, slot_value};
+ghost use Rattle.shred_table.specs.Parting.{table_value};
 ghost use Rattle.shred_table.specs.Slots.{slot_at, among};
-ghost use Rattle.shred_table.specs.declared.id.ResourceId.{ResourceId};
 ghost use Rattle.shred_run.specs.Hands.{HasEmptyHand, WriteApart, some_writes, FitsGroup, IsBack, IsMovedOut, IsLeftEmpty};
+ghost use Rattle.shred_table.specs.Changes.{StaysOutside, EmptiesEach, ReceivesEach};
 
 use crate::entry::Group;
 use shred_world::Table;
@@ -15,7 +15,7 @@ impl<V: Drop, S> Group<V, S> {
     fn move_out(&mut self, table: &mut Table<V>)
         requires { HasEmptyHand self.old }
         ensures hand { IsMovedOut (slot_at table.old) self.old self.new }
-        ensures left { (q : ResourceId) → slot_at table.new q ≡ cond (among self.old.written.items q) (emptied (slot_at table.old q)) (slot_at table.old q) }
+        ensures left { EmptiesEach slot_at table.old (among self.old.written.items) table.new }
     {
         move_each(table, self.written.as_slice(), &mut self.hand);
     }
@@ -24,7 +24,7 @@ impl<V: Drop, S> Group<V, S> {
     fn move_back(&mut self, table: &mut Table<V>)
         requires { FitsGroup self.old }
         ensures hand { IsLeftEmpty self.old self.new }
-        ensures back { (q : ResourceId) → slot_at table.new q ≡ cond (among self.old.written.items q) (given (slot_value (slot_at self.old.hand q)) (slot_at table.old q)) (slot_at table.old q) }
+        ensures back { ReceivesEach slot_at table.old (table_value self.old.hand) (among self.old.written.items) table.new }
     {
         move_home(&mut self.hand, self.written.as_slice(), table);
     }
@@ -35,7 +35,7 @@ pub fn move_groups_out<V: Drop, S>(groups: &mut [Group<V, S>], table: &mut Table
     requires apart { WriteApart groups.old }
     requires empty { All HasEmptyHand groups.old }
     ensures hands { AllZip (IsMovedOut (slot_at table.old)) groups.old groups.new }
-    ensures left { (q : ResourceId) → slot_at table.new q ≡ cond (some_writes groups.old q) (emptied (slot_at table.old q)) (slot_at table.old q) }
+    ensures left { EmptiesEach slot_at table.old (some_writes groups.old) table.new }
 {
     table.rewind();
     for group in groups.iter_mut() {
@@ -49,7 +49,7 @@ pub fn move_groups_back<V: Drop, S>(groups: &mut [Group<V, S>], table: &mut Tabl
     requires fit { All FitsGroup groups.old }
     ensures hands { AllZip IsLeftEmpty groups.old groups.new }
     ensures back { All (IsBack (slot_at table.old) (slot_at table.new)) groups.old }
-    ensures others { (q : ResourceId) → some_writes groups.old q ≡ false → slot_at table.new q ≡ slot_at table.old q }
+    ensures others { StaysOutside (some_writes groups.old) slot_at table.old table.new }
 {
     for group in groups.iter_mut() {
         group.move_back(table);

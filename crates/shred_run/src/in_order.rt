@@ -1,29 +1,19 @@
 //! One step of what stands in an entry, whose inner plans lead back here: one circle of functions, on the caller's thread.
 ghost use Rattle.std.specs.Prelude.{◌≡◌, ◌-◌, [], ◌∷◌, true, false, All};
-ghost use Rattle.shred_model.specs.Beside.{AllWent, AreApart};
+ghost use Rattle.shred_model.specs.Beside.{AreApart};
 ghost use Rattle.shred_model.specs.Plan.{group_access};
 ghost use Rattle.shred_run.specs.Hands.{HasEntryRoom, HasPlace, KeepsRoom, some_writes};
-ghost use Rattle.shred_run.specs.Turns.{TookTurn};
-ghost use Rattle.shred_table.specs.Slots.{held};
 ghost use Rattle.shred_run.specs.OneBatch.{is_batch, is_one_batch};
-ghost use Rattle.shred_run.specs.Lanes.{IsReady, GroupWent};
 ghost use Rattle.shred_run.specs.OwnLists.{IsEntryOf, IsGroupOf};
-ghost use Rattle.shred_run.specs.OwnSlots.{HasJustSlots, HasSlotsFor, LendsSome, LiesBefore, lent_before};
+ghost use Rattle.shred_run.specs.OwnSlots.{HasJustSlots, HasSlotsFor, LendsSome, LiesBefore};
 ghost use Rattle.shred_run.specs.PlanOf.{entry_plan, groups_plan};
-ghost use Rattle.shred_run.specs.Steppers.{IsStepBy};
-ghost use Rattle.shred_run.specs.BatchRuns.{RanAsBatch};
-ghost use Rattle.shred_run.specs.Depths.{Owns, WorkStep, lists_of, relations_of};
-ghost use Rattle.shred_run.specs.KeptControllers.{control_access};
-ghost use Rattle.shred_run.specs.OwnDepth.{OwnStep, OwnsItself};
-ghost use Rattle.shred_run.specs.Parts.{ArePartsWithin, KeepsParts, KeepsTiers};
-ghost use Rattle.shred_run.specs.Rounds.{Rounds};
-ghost use Rattle.shred_run.specs.Controls.{keeping};
-ghost use Rattle.shred_run.specs.TurnsOver.{TookTurnOver};
-ghost use Rattle.shred_run.specs.Works.{InnerRun, IsBatchWithin, IsTierWithin};
-ghost use Rattle.shred_run.specs.Rules.{RuleOwns, RuleStep};
+ghost use Rattle.shred_run.specs.Depths.{lists_of};
+ghost use Rattle.shred_run.specs.OwnDepth.{OwnsItself};
+ghost use Rattle.shred_run.specs.Rules.{RuleOwns};
 ghost use Rattle.shred_table.specs.declared.id.ResourceId.{ResourceId};
-ghost use Rattle.shred_table.specs.Shown.{shown, HasOwnSlots, IsSameSlots};
+ghost use Rattle.shred_table.specs.Shown.{HasOwnSlots, IsSameSlots};
 ghost use Rattle.shred_world.specs.Views.{lent_slot};
+ghost use Rattle.shred_run.specs.Circles.{BatchFits, PartsFit, TierFits, TiersFit, GroupsOwn, GroupReady, GroupsReady, GroupsReadyOver, WorkStepped, EntryStepped, BatchRan, RoundsRan, TiersRan, TierTurned, GroupsTurned, StageTurned, GroupRan, GroupsRan, GroupsRanOver, PartsStay, TiersStay};
 
 use crate::calls::{Ask, Begin, Run, call_over};
 use crate::control::{KeptController, call_kept};
@@ -57,10 +47,10 @@ fn run_work<
     work: &mut Work<S, Nested<V, S, C>>,
     own: &mut Table<V>,
 ) -> Result<(), Fault<E>>
-    requires own_lists { (RuleOwns (lists_of S.reads S.writes C.reads C.writes) at) work.old reads.now writes.now }
+    requires own_lists { (RuleOwns (lists_of S.System C.BatchController) at) work.old reads.now writes.now }
     requires before { LiesBefore writes.now shelf.now own.old }
     requires behind { is_batch work.old ≡ false → LendsSome shelf.now }
-    ensures stepped { IsStepBy V.kind_of (RuleOwns (lists_of S.reads S.writes C.reads C.writes) at) (RuleStep V.kind_of (relations_of (lists_of S.reads S.writes C.reads C.writes) S.step C.begins C.asks) at) reads.now writes.now (lent_slot shelf.now) work.old own.old result work.new own.new }
+    ensures stepped { WorkStepped V.kind_of S.System C.BatchController at reads.now writes.now shelf.now work.old own.old result work.new own.new }
 {
     let depth = depth_by(at, work);
     match work {
@@ -95,8 +85,8 @@ fn run_batch<
     own: &mut Table<V>,
 ) -> Result<(), Fault<E>>
     requires before { LiesBefore writes.now shelf.now own.old }
-    requires within { IsBatchWithin C.reads C.writes (Owns (lists_of S.reads S.writes C.reads C.writes) less) reads.now writes.now batch.old }
-    ensures { RanAsBatch V.kind_of (Owns (lists_of S.reads S.writes C.reads C.writes) less) (WorkStep V.kind_of (relations_of (lists_of S.reads S.writes C.reads C.writes) S.step C.begins C.asks) less) C.reads C.writes (keeping C.reads C.writes C.begins) (keeping C.reads C.writes C.asks) reads.now writes.now (lent_slot shelf.now) batch.old own.old result batch.new own.new }
+    requires within { BatchFits S.System C.BatchController less reads.now writes.now batch.old }
+    ensures { BatchRan V.kind_of S.System C.BatchController less reads.now writes.now shelf.now batch.old own.old result batch.new own.new }
 {
     let loan = Loan {
         reads,
@@ -132,9 +122,9 @@ fn rounds<
     most: usize,
 ) -> Result<(), Fault<E>>
     requires has { LiesBefore loan.now.writes.now loan.now.shelf.now own.old }
-    requires parts { ArePartsWithin (Owns (lists_of S.reads S.writes C.reads C.writes) less) loan.now C.reads C.writes control.old tiers.old }
-    ensures ran { Rounds V.kind_of (keeping C.reads C.writes C.asks) (control_access control.old) (InnerRun V.kind_of (WorkStep V.kind_of (relations_of (lists_of S.reads S.writes C.reads C.writes) S.step C.begins C.asks) less)) most control.old.controller tiers.old (shown V.kind_of (lent_slot loan.now.shelf.now) own.old) result control.new.controller tiers.new (shown V.kind_of (lent_slot loan.now.shelf.now) own.new) }
-    ensures kept { KeepsParts V.kind_of (Owns (lists_of S.reads S.writes C.reads C.writes) less) loan.now C.reads C.writes control.old tiers.old own.old control.new tiers.new own.new }
+    requires parts { PartsFit S.System C.BatchController less loan.now control.old tiers.old }
+    ensures ran { RoundsRan V.kind_of S.System C.BatchController less loan.now most control.old tiers.old own.old result control.new tiers.new own.new }
+    ensures kept { PartsStay V.kind_of S.System C.BatchController less loan.now control.old tiers.old own.old control.new tiers.new own.new }
 {
     for round in 0..most {
         match call_kept(control, &Ask, loan, own) {
@@ -164,9 +154,9 @@ fn run_tiers<
     own: &mut Table<V>,
 ) -> Result<(), StageFault<E>>
     requires has { LiesBefore loan.now.writes.now loan.now.shelf.now own.old }
-    requires within { All (IsTierWithin (Owns (lists_of S.reads S.writes C.reads C.writes) less) loan.now.reads.now loan.now.writes.now) tiers.old }
-    ensures ran { InnerRun V.kind_of (WorkStep V.kind_of (relations_of (lists_of S.reads S.writes C.reads C.writes) S.step C.begins C.asks) less) tiers.old (shown V.kind_of (lent_slot loan.now.shelf.now) own.old) result tiers.new (shown V.kind_of (lent_slot loan.now.shelf.now) own.new) }
-    ensures kept { KeepsTiers V.kind_of (Owns (lists_of S.reads S.writes C.reads C.writes) less) loan.now tiers.old own.old tiers.new own.new }
+    requires within { TiersFit S.System C.BatchController less loan.now tiers.old }
+    ensures ran { TiersRan V.kind_of S.System C.BatchController less loan.now tiers.old own.old result tiers.new own.new }
+    ensures kept { TiersStay V.kind_of S.System C.BatchController less loan.now tiers.old own.old tiers.new own.new }
 {
     for tier in tiers.iter_mut() {
         if let Err(fault) = turn(less, tier, loan, own) {
@@ -190,8 +180,8 @@ fn turn<
     own: &mut Table<V>,
 ) -> Result<(), StageFault<E>>
     requires has { LiesBefore loan.now.writes.now loan.now.shelf.now own.old }
-    requires within { IsTierWithin (Owns (lists_of S.reads S.writes C.reads C.writes) less) loan.now.reads.now loan.now.writes.now tier.old }
-    ensures { TookTurnOver V.kind_of (Owns (lists_of S.reads S.writes C.reads C.writes) less) (WorkStep V.kind_of (relations_of (lists_of S.reads S.writes C.reads C.writes) S.step C.begins C.asks) less) (lent_slot loan.now.shelf.now) tier.old.groups.items own.old result tier.new.groups.items own.new }
+    requires within { TierFits S.System C.BatchController less loan.now tier.old }
+    ensures { TierTurned V.kind_of S.System C.BatchController less loan.now tier.old own.old result tier.new own.new }
 {
     let groups = tier.groups.as_mut_slice();
     turn_groups(Some(less), groups, &*loan.writes, &*loan.shelf, own)
@@ -213,12 +203,12 @@ fn turn_groups<
     shelf: &[Shelf<V>],
     own: &mut Table<V>,
 ) -> Result<(), StageFault<E>>
-    requires own_lists { All (IsGroupOf (RuleOwns (lists_of S.reads S.writes C.reads C.writes) at)) groups.old }
+    requires own_lists { GroupsOwn S.System C.BatchController at groups.old }
     requires room { All KeepsRoom groups.old }
     requires apart { AreApart group_access (groups_plan groups.old) }
     requires before { LiesBefore ids.now shelf.now own.old }
     requires own_slots { HasSlotsFor (some_writes groups.old) (lent_slot shelf.now) own.old }
-    ensures { TookTurnOver V.kind_of (RuleOwns (lists_of S.reads S.writes C.reads C.writes) at) (RuleStep V.kind_of (relations_of (lists_of S.reads S.writes C.reads C.writes) S.step C.begins C.asks) at) (lent_slot shelf.now) groups.old own.old result groups.new own.new }
+    ensures { GroupsTurned V.kind_of S.System C.BatchController at shelf.now groups.old own.old result groups.new own.new }
 {
     if shelf.is_empty() && is_lone_batch(&*groups) {
         return run_in_place(at, &mut groups[0], own);
@@ -244,10 +234,10 @@ fn run_in_place<
     group: &mut Group<V, Work<S, Nested<V, S, C>>>,
     own: &mut Table<V>,
 ) -> Result<(), StageFault<E>>
-    requires own_lists { IsGroupOf (RuleOwns (lists_of S.reads S.writes C.reads C.writes) at) group.old }
+    requires own_lists { IsGroupOf (RuleOwns (lists_of S.System C.BatchController) at) group.old }
     requires room { KeepsRoom group.old }
     requires one { is_one_batch group.old.entries.items ≡ true }
-    ensures { TookTurnOver V.kind_of (RuleOwns (lists_of S.reads S.writes C.reads C.writes) at) (RuleStep V.kind_of (relations_of (lists_of S.reads S.writes C.reads C.writes) S.step C.begins C.asks) at) (lent_slot []) (group.old ∷ []) own.old result (group.new ∷ []) own.new }
+    ensures { GroupsTurned V.kind_of S.System C.BatchController at [] (group.old ∷ []) own.old result (group.new ∷ []) own.new }
 {
     let entry = &mut group.entries[0];
     match run_work(
@@ -278,12 +268,12 @@ fn run_groups<
     shelf: &[Shelf<V>; 1],
     groups: &mut [Group<V, Work<S, Nested<V, S, C>>>],
 ) -> Result<(), StageFault<E>>
-    requires ready { All (IsReady (RuleOwns (lists_of S.reads S.writes C.reads C.writes) at) (lent_slot shelf.now)) groups.old }
-    ensures { AllWent (GroupWent V.kind_of (RuleStep V.kind_of (relations_of (lists_of S.reads S.writes C.reads C.writes) S.step C.begins C.asks) at) (RuleOwns (lists_of S.reads S.writes C.reads C.writes) at) (lent_slot shelf.now)) groups.old result groups.new }
+    requires ready { GroupsReady S.System C.BatchController at shelf.now groups.old }
+    ensures { GroupsRan V.kind_of S.System C.BatchController at shelf.now groups.old result groups.new }
 {
     let lane = |group: &mut Group<V, Work<S, Nested<V, S, C>>>| -> Result<(), StageFault<E>>
-        requires { IsReady (RuleOwns (lists_of S.reads S.writes C.reads C.writes) at) (lent_slot shelf.now) group.old }
-        ensures { GroupWent V.kind_of (RuleStep V.kind_of (relations_of (lists_of S.reads S.writes C.reads C.writes) S.step C.begins C.asks) at) (RuleOwns (lists_of S.reads S.writes C.reads C.writes) at) (lent_slot shelf.entry.now) group.old result group.new }
+        requires { GroupReady S.System C.BatchController at shelf.now group.old }
+        ensures { GroupRan V.kind_of S.System C.BatchController at shelf.entry.now group.old result group.new }
     { run_group(at, group, shelf) };
     run_lanes_in_order(&lane, groups)
 }
@@ -300,8 +290,8 @@ fn run_group<
     group: &mut Group<V, Work<S, Nested<V, S, C>>>,
     shelf: &[Shelf<V>; 1],
 ) -> Result<(), StageFault<E>>
-    requires ready { IsReady (RuleOwns (lists_of S.reads S.writes C.reads C.writes) at) (lent_slot shelf.now) group.old }
-    ensures { GroupWent V.kind_of (RuleStep V.kind_of (relations_of (lists_of S.reads S.writes C.reads C.writes) S.step C.begins C.asks) at) (RuleOwns (lists_of S.reads S.writes C.reads C.writes) at) (lent_slot shelf.now) group.old result group.new }
+    requires ready { GroupReady S.System C.BatchController at shelf.now group.old }
+    ensures { GroupRan V.kind_of S.System C.BatchController at shelf.now group.old result group.new }
 {
     let single = group.entries.len() == 1;
     let written = group.written.as_slice();
@@ -334,13 +324,13 @@ fn run_in_own_hand<
     shelf: &[Shelf<V>; 1],
     own: &mut Table<V>,
 ) -> Result<(), Fault<E>>
-    requires own_lists { IsEntryOf (RuleOwns (lists_of S.reads S.writes C.reads C.writes) at) entry.old }
+    requires own_lists { IsEntryOf (RuleOwns (lists_of S.System C.BatchController) at) entry.old }
     requires own_slots { HasOwnSlots entry.old.writes.items (lent_slot shelf.now) own.old }
     requires just_slots { HasJustSlots written.now own.old }
     requires room { HasEntryRoom own.old entry.old }
-    ensures stepped { IsStepBy V.kind_of (RuleOwns (lists_of S.reads S.writes C.reads C.writes) at) (RuleStep V.kind_of (relations_of (lists_of S.reads S.writes C.reads C.writes) S.step C.begins C.asks) at) entry.old.reads.items entry.old.writes.items (lent_slot shelf.now) entry.old.work own.old result entry.new.work own.new }
+    ensures stepped { EntryStepped V.kind_of S.System C.BatchController at shelf.now entry.old own.old result entry.new own.new }
     ensures plan { entry_plan entry.new ≡ entry_plan entry.old }
-    ensures own_lists { IsEntryOf (RuleOwns (lists_of S.reads S.writes C.reads C.writes) at) entry.new }
+    ensures own_lists { IsEntryOf (RuleOwns (lists_of S.System C.BatchController) at) entry.new }
     ensures room { HasEntryRoom own.new entry.new }
 {
     move_out(own, entry.writes.as_slice(), &mut entry.hand);
@@ -373,13 +363,13 @@ fn run_entry<
     shelf: &[Shelf<V>; 1],
     own: &mut Table<V>,
 ) -> Result<(), Fault<E>>
-    requires own_lists { IsEntryOf (RuleOwns (lists_of S.reads S.writes C.reads C.writes) at) entry.old }
+    requires own_lists { IsEntryOf (RuleOwns (lists_of S.System C.BatchController) at) entry.old }
     requires own_slots { HasOwnSlots entry.old.writes.items (lent_slot shelf.now) own.old }
     requires just_slots { HasJustSlots written.now own.old }
     requires place { HasPlace single own.old entry.old }
-    ensures stepped { IsStepBy V.kind_of (RuleOwns (lists_of S.reads S.writes C.reads C.writes) at) (RuleStep V.kind_of (relations_of (lists_of S.reads S.writes C.reads C.writes) S.step C.begins C.asks) at) entry.old.reads.items entry.old.writes.items (lent_slot shelf.now) entry.old.work own.old result entry.new.work own.new }
+    ensures stepped { EntryStepped V.kind_of S.System C.BatchController at shelf.now entry.old own.old result entry.new own.new }
     ensures plan { entry_plan entry.new ≡ entry_plan entry.old }
-    ensures own_lists { IsEntryOf (RuleOwns (lists_of S.reads S.writes C.reads C.writes) at) entry.new }
+    ensures own_lists { IsEntryOf (RuleOwns (lists_of S.System C.BatchController) at) entry.new }
     ensures place { HasPlace single own.new entry.new }
 {
     if single {
@@ -408,8 +398,8 @@ pub fn groups_over<
     groups: &mut [Group<V, Work<S, Nested<V, S, C>>>],
     table: &Table<V>,
 ) -> Result<(), StageFault<E>>
-    requires { All (IsReady (RuleOwns (lists_of S.reads S.writes C.reads C.writes) at) (lent_before table.now (lent_slot []))) groups.old }
-    ensures { AllWent (GroupWent V.kind_of (RuleStep V.kind_of (relations_of (lists_of S.reads S.writes C.reads C.writes) S.step C.begins C.asks) at) (RuleOwns (lists_of S.reads S.writes C.reads C.writes) at) (lent_before table.now (lent_slot []))) groups.old result groups.new }
+    requires { GroupsReadyOver S.System C.BatchController at table.now groups.old }
+    ensures { GroupsRanOver V.kind_of S.System C.BatchController at table.now groups.old result groups.new }
 {
     let nearest = behind(table, &[], &[]);
     run_groups(at, &nearest, groups)
@@ -426,10 +416,10 @@ pub fn turn_in_order<
     groups: &mut [Group<V, Work<S, Nested<V, S, C>>>],
     table: &mut Table<V>,
 ) -> Result<(), StageFault<E>>
-    requires own_lists { All (IsGroupOf (OwnsItself (lists_of S.reads S.writes C.reads C.writes))) groups.old }
+    requires own_lists { All (IsGroupOf (OwnsItself (lists_of S.System C.BatchController))) groups.old }
     requires room { All KeepsRoom groups.old }
     requires apart { AreApart group_access (groups_plan groups.old) }
-    ensures took { TookTurn V.kind_of (OwnStep V.kind_of (relations_of (lists_of S.reads S.writes C.reads C.writes) S.step C.begins C.asks)) (OwnsItself (lists_of S.reads S.writes C.reads C.writes)) groups.old (held V.kind_of table.old) result groups.new (held V.kind_of table.new) }
+    ensures took { StageTurned V.kind_of S.System C.BatchController groups.old table.old result groups.new table.new }
     ensures slots { IsSameSlots table.old table.new }
 {
     turn_groups(None, groups, &[], &[], table)

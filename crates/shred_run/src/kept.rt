@@ -1,19 +1,20 @@
 //! The entries that are kept of systems and of batches.
-ghost use Rattle.std.specs.Prelude.{◌≡◌, ◌↔◌, ◌++◌, ◌≤◌, ℕ, All, AllPairs, Contains, IfOk, OnOk};
+ghost use Rattle.std.specs.Prelude.{◌≡◌, ◌↔◌, ◌++◌, ◌≤◌, ℕ, All, AllPairs, IfOk, OnOk};
 ghost use Rattle.std.specs.List.{flat_map};
 ghost use Rattle.shred_run.specs.Depths.{lists_of};
-ghost use Rattle.shred_run.specs.Kept.{IsKept};
+ghost use Rattle.shred_run.specs.Kept.{HaveSameIds};
 ghost use Rattle.shred_run.specs.KeptControllers.{IsOwnControl, control_access};
 ghost use Rattle.shred_run.specs.Works.{tier_plan, tiers_plan};
 ghost use Rattle.shred_run.specs.OwnLists.{IsEntryOf};
-ghost use Rattle.shred_run.specs.PlanOf.{entry_plan};
 ghost use Rattle.shred_run.specs.Sides.{plan_reads, plan_writes, stage_side};
 ghost use Rattle.shred_table.specs.Id.{IsBefore};
 ghost use Rattle.shred_table.specs.Parting.{IsEmptyHand};
 ghost use Rattle.shred_table.specs.declared.id.ResourceId.{ResourceId};
-ghost use Rattle.shred_run.specs.Batches.{IsBatchOf, IsKeptBatch, IsTierOf, NotesAtMost, TierNotesAtMost, joined_access};
+ghost use Rattle.shred_run.specs.Batches.{IsTierOf, NotesAtMost, TierNotesAtMost};
 ghost use Rattle.shred_run.specs.OwnDepth.{OwnsItself};
 ghost use Rattle.shred_run.specs.declared.work.Work.TheVariants.{System as ASystem};
+ghost use Rattle.shred_run.specs.Alone.{access_by};
+ghost use Rattle.shred_run.specs.SystemSteps.{KeepsSystem, KeepsBatch, HoldsBatch};
 
 use crate::control::KeptController;
 use crate::controller::BatchController;
@@ -32,7 +33,7 @@ fn kept_controller<V: ResourceValue + Drop, C: BatchController<V> + Drop>(
     controller: C,
 ) -> Result<KeptController<V, C>, OutOfMemory>
     ensures controller { IfOk result (λ control. control.controller ≡ controller) }
-    ensures access { IfOk result (λ control. control_access control ≡ record { reads = C.reads controller; writes = C.writes controller }) }
+    ensures access { IfOk result (λ control. control_access control ≡ access_by C.reads C.writes controller) }
     ensures own { IfOk result (IsOwnControl C.reads C.writes) }
 {
     let accessor = controller.accessor(alloc)?;
@@ -83,7 +84,7 @@ fn joined<V, X>(
     side: Side,
 ) -> Result<Vec<ResourceId>, OutOfMemory>
     ensures in_order { IfOk result (λ ids. AllPairs IsBefore ids.items) }
-    ensures same { IfOk result (λ ids. (id : ResourceId) → Contains ids.items id ↔ Contains (own.now ++ flat_map (stage_side side) (tiers_plan tiers.now.items)) id) }
+    ensures same { IfOk result (λ ids. HaveSameIds ids.items (own.now ++ flat_map (stage_side side) (tiers_plan tiers.now.items))) }
 {
     let mut ids = Vec::from_slice(alloc, own)?;
     append_tiers(tiers, side, &mut ids)?;
@@ -136,9 +137,9 @@ fn kept_lists<V: Drop, X>(
     tiers: &Vec<Tier<V, X>>,
 ) -> Result<(Vec<ResourceId>, Vec<ResourceId>, Table<V>), OutOfMemory>
     ensures reads_in_order { IfOk result (λ kept. AllPairs IsBefore kept.0.items) }
-    ensures same_reads { IfOk result (λ kept. (id : ResourceId) → Contains kept.0.items id ↔ Contains (reads.now ++ plan_reads (tiers_plan tiers.now.items)) id) }
+    ensures same_reads { IfOk result (λ kept. HaveSameIds kept.0.items (reads.now ++ plan_reads (tiers_plan tiers.now.items))) }
     ensures writes_in_order { IfOk result (λ kept. AllPairs IsBefore kept.1.items) }
-    ensures same_writes { IfOk result (λ kept. (id : ResourceId) → Contains kept.1.items id ↔ Contains (writes.now ++ plan_writes (tiers_plan tiers.now.items)) id) }
+    ensures same_writes { IfOk result (λ kept. HaveSameIds kept.1.items (writes.now ++ plan_writes (tiers_plan tiers.now.items))) }
     ensures hand { IfOk result (λ kept. IsEmptyHand kept.1.items kept.2) }
 {
     let reads = joined(alloc, reads, tiers, Side::Reads)?;
@@ -154,9 +155,9 @@ pub fn system_entry<V: ResourceValue + Drop, S: System<V> + Drop, C: BatchContro
     id: SystemId,
     system: S,
 ) -> Result<GroupEntry<V, Work<S, Nested<V, S, C>>>, OutOfMemory>
-    ensures kept { IfOk result (λ entry. IsKept id.0 (S.reads system) (S.writes system) (S.time system) (entry_plan entry)) }
+    ensures kept { IfOk result (KeepsSystem S.System id.0 system) }
     ensures same { IfOk result (λ entry. entry.work ≡ ASystem system) }
-    ensures own_lists { IfOk result (IsEntryOf (OwnsItself (lists_of S.reads S.writes C.reads C.writes))) }
+    ensures own_lists { IfOk result (IsEntryOf (OwnsItself (lists_of S.System C.BatchController))) }
 {
     let time = system.running_time();
     let accessor = system.accessor(alloc)?;
@@ -183,10 +184,10 @@ pub fn batch_entry<V: ResourceValue + Drop, S: System<V> + Drop, C: BatchControl
     controller: C,
     tiers: Vec<Tier<V, Work<S, Nested<V, S, C>>>>,
 ) -> Result<GroupEntry<V, Work<S, Nested<V, S, C>>>, OutOfMemory>
-    requires { All (IsTierOf (OwnsItself (lists_of S.reads S.writes C.reads C.writes))) tiers.items }
-    ensures kept { IfOk result (λ entry. IsKeptBatch id.0 (joined_access (record { reads = C.reads controller; writes = C.writes controller }) (tiers_plan tiers.items)) (C.time controller) (entry_plan entry)) }
-    ensures batch { IfOk result (λ entry. IsBatchOf controller (record { reads = C.reads controller; writes = C.writes controller }) tiers.items entry.work) }
-    ensures own_lists { IfOk result (IsEntryOf (OwnsItself (lists_of S.reads S.writes C.reads C.writes))) }
+    requires { All (IsTierOf (OwnsItself (lists_of S.System C.BatchController))) tiers.items }
+    ensures kept { IfOk result (KeepsBatch C.BatchController id.0 controller tiers.items) }
+    ensures batch { IfOk result (HoldsBatch C.BatchController controller tiers.items) }
+    ensures own_lists { IfOk result (IsEntryOf (OwnsItself (lists_of S.System C.BatchController))) }
 {
     let Some(depth) = deepest(&tiers).checked_add(1) else {
         return Err(OutOfMemory);

@@ -1,8 +1,10 @@
 //! Controllers that say once how often their plan is run.
-ghost use Rattle.std.specs.Prelude.{◌≡◌, ℕ, List, IfOk, false, is_some};
+ghost use Rattle.std.specs.Prelude.{◌≡◌, ℕ, List, IfOk};
 ghost use Rattle.shred_run.specs.Controls.{Control, SaysYes};
 ghost use Rattle.shred_run.specs.declared.system.RunningTime.TheVariants.{VeryLong};
 ghost use Rattle.shred_table.specs.declared.id.ResourceId.{ResourceId};
+ghost use Rattle.shred_table.specs.Changes.{StaysOutside, KeepsIdsOf};
+ghost use Rattle.shred_world.specs.Between.{OverView, OverWorld};
 
 use crate::controller::BatchController;
 use crate::system::{Fault, RunningTime};
@@ -13,8 +15,7 @@ use std::alloc::Global;
 pub trait MultiDispatchController<V: ResourceValue> {
     ghost use Rattle.shred_world.specs.OwnViews.{IsLent};
     ghost use Rattle.shred_run.specs.Steps.{Step};
-    ghost use Rattle.shred_world.specs.Views.{view_held, declared_held, may_write, table_of, IsSameView};
-    ghost use Rattle.shred_world.specs.Worlds.{world_held};
+    ghost use Rattle.shred_world.specs.Views.{view_held, may_write, table_name, IsSameView};
 
     type Error;
 
@@ -33,11 +34,11 @@ pub trait MultiDispatchController<V: ResourceValue> {
     /// what was written stays.
     fn plan(&mut self, view: &mut View<V>) -> Result<usize, Fault<Self::Error>>
         requires lent { IsLent view.old (reads self.old) (writes self.old) }
-        ensures plans { plans self.old (declared_held V.kind_of view.old) result self.new (declared_held V.kind_of view.new) }
-        ensures table { table_of view.new ≡ table_of view.old }
+        ensures plans { OverView V.kind_of plans self.old view.old result self.new view.new }
+        ensures table { table_name view.new ≡ table_name view.old }
         ensures view { IsSameView view.old view.new }
-        ensures ids { (id : ResourceId) → is_some (view_held V.kind_of view.new id) ≡ is_some (view_held V.kind_of view.old id) }
-        ensures frame { (id : ResourceId) → may_write view.old id ≡ false → view_held V.kind_of view.new id ≡ view_held V.kind_of view.old id }
+        ensures ids { KeepsIdsOf (view_held V.kind_of) view.old view.new }
+        ensures frame { StaysOutside (may_write view.old) (view_held V.kind_of) view.old view.new }
         ensures reads { reads self.new ≡ reads self.old }
         ensures writes { writes self.new ≡ writes self.old };
 
@@ -48,7 +49,7 @@ pub trait MultiDispatchController<V: ResourceValue> {
 
     /// What is done once, before the first run.
     fn setup(&mut self, world: &mut World<V>) -> Result<(), Fault<Self::Error>>
-        ensures sets_up { sets_up self.old (world_held V.kind_of world.old) result self.new (world_held V.kind_of world.new) }
+        ensures sets_up { OverWorld V.kind_of sets_up self.old world.old result self.new world.new }
         ensures reads { reads self.new ≡ reads self.old }
         ensures writes { writes self.new ≡ writes self.old };
 }

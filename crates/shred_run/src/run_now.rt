@@ -2,6 +2,8 @@
 ghost use Rattle.std.specs.Prelude.{◌≡◌};
 ghost use Rattle.std.specs.Thread.{IsSync};
 ghost use Rattle.shred_table.specs.declared.id.ResourceId.{ResourceId};
+ghost use Rattle.shred_world.specs.Between.{OverWorld, OverLocal};
+ghost use Rattle.shred_run.specs.Alone.{KeepsKindsIn};
 
 use crate::system::Fault;
 use shred_world::{LocalWorld, ResourceValue, World};
@@ -9,7 +11,6 @@ use std::thread::Threads;
 
 /// What runs over all that a world holds. It declares nothing, so nothing runs beside it.
 pub trait RunNow<V: ResourceValue> {
-    ghost use Rattle.shred_run.specs.Alone.{KeepsKinds};
     ghost use Rattle.shred_run.specs.Steps.{Outcome, Step};
     ghost use Rattle.shred_world.specs.Worked.{Held};
     ghost use Rattle.shred_world.specs.Worlds.{local_held, world_held};
@@ -30,12 +31,12 @@ pub trait RunNow<V: ResourceValue> {
         world: &mut LocalWorld<V>,
     ) -> Result<(), Fault<Self::Error>>
         requires sync { IsSync R.row }
-        ensures runs { runs self.old (local_held V.kind_of world.old) result self.new (local_held V.kind_of world.new) }
-        ensures kinds { KeepsKinds V.kind_of (local_held V.kind_of world.old) (local_held V.kind_of world.new) };
+        ensures runs { OverLocal V.kind_of runs self.old world.old result self.new world.new }
+        ensures kinds { KeepsKindsIn local_held V.kind_of world.old world.new };
 
     /// What is done once, before the first run.
     fn setup(&mut self, world: &mut World<V>) -> Result<(), Fault<Self::Error>>
-        ensures { sets_up self.old (world_held V.kind_of world.old) result self.new (world_held V.kind_of world.new) };
+        ensures { OverWorld V.kind_of sets_up self.old world.old result self.new world.new };
 
     /// What is done once, after the last run.
     fn dispose(self, world: &mut World<V>) -> Result<(), Fault<Self::Error>>

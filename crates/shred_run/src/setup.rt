@@ -5,12 +5,10 @@ ghost use Rattle.shred_run.specs.KeptControllers.{IsOwnControl, control_access};
 ghost use Rattle.shred_run.specs.Hands.{IsSameButEntries, KeepsRoom};
 ghost use Rattle.shred_run.specs.OwnLists.{IsEntryOf, IsGroupOf};
 ghost use Rattle.shred_run.specs.PlanOf.{entry_plan, group_plan};
-ghost use Rattle.shred_run.specs.Rules.{RuleOwns, RuleSetup};
-ghost use Rattle.shred_run.specs.Setups.{AreSetUp, EntriesSetup, EntrySetup, GroupSetup, TiersSetup};
+ghost use Rattle.shred_run.specs.Rules.{RuleOwns};
 ghost use Rattle.shred_run.specs.OwnDepth.{depth_of};
 ghost use Rattle.shred_run.specs.Owned.{HasOwnGroups, IsOwned, StaysOwned, StayTiers};
-ghost use Rattle.shred_run.specs.WorkSetups.{BatchSetup, WorkSetup, setups_of};
-ghost use Rattle.shred_world.specs.Worlds.{world_held};
+ghost use Rattle.shred_run.specs.SettingUp.{WorkSetUp, BatchSetUp, TiersSetUp, GroupsSetUp, GroupSetUp, EntriesSetUp, EntrySetUp, TiersOwnGroups, TiersStayOwn};
 
 use crate::controller::BatchController;
 use crate::depth::depth_by;
@@ -27,9 +25,9 @@ fn set_up_work<V: ResourceValue, S: System<V, Error = E>, C: BatchController<V, 
     work: &mut Work<S, Nested<V, S, C>>,
     world: &mut World<V>,
 ) -> Result<(), Fault<E>>
-    requires { IsOwned (lists_of S.reads S.writes C.reads C.writes) depth work.old }
-    ensures set_up { WorkSetup (setups_of (lists_of S.reads S.writes C.reads C.writes) S.sets_up C.sets_up) depth work.old (world_held V.kind_of world.old) result work.new (world_held V.kind_of world.new) }
-    ensures owned { StaysOwned (lists_of S.reads S.writes C.reads C.writes) depth work.old work.new }
+    requires { IsOwned (lists_of S.System C.BatchController) depth work.old }
+    ensures set_up { WorkSetUp V.kind_of S.System C.BatchController depth work.old world.old result work.new world.new }
+    ensures owned { StaysOwned (lists_of S.System C.BatchController) depth work.old work.new }
     ensures noted { depth_of work.new ≡ depth_of work.old }
 {
     match work {
@@ -46,11 +44,11 @@ fn set_up_batch<V: ResourceValue, S: System<V, Error = E>, C: BatchController<V,
     world: &mut World<V>,
 ) -> Result<(), Fault<E>>
     requires control { IsOwnControl C.reads C.writes batch.old.control }
-    requires tiers { All (HasOwnGroups (Owns (lists_of S.reads S.writes C.reads C.writes) less)) batch.old.tiers.items }
-    ensures set_up { BatchSetup (WorkSetup (setups_of (lists_of S.reads S.writes C.reads C.writes) S.sets_up C.sets_up) less) (setups_of (lists_of S.reads S.writes C.reads C.writes) S.sets_up C.sets_up).controllers batch.old (world_held V.kind_of world.old) result batch.new (world_held V.kind_of world.new) }
+    requires tiers { TiersOwnGroups S.System C.BatchController less batch.old.tiers.items }
+    ensures set_up { BatchSetUp V.kind_of S.System C.BatchController less batch.old world.old result batch.new world.new }
     ensures access { control_access batch.new.control ≡ control_access batch.old.control }
     ensures control { IsOwnControl C.reads C.writes batch.new.control }
-    ensures tiers { StayTiers (Owns (lists_of S.reads S.writes C.reads C.writes) less) batch.old.tiers.items batch.new.tiers.items }
+    ensures tiers { TiersStayOwn S.System C.BatchController less batch.old.tiers.items batch.new.tiers.items }
 {
     if let Err(fault) = batch.control.controller.setup(world) {
         return Err(fault);
@@ -68,9 +66,9 @@ fn set_up_tiers<V: ResourceValue, S: System<V, Error = E>, C: BatchController<V,
     tiers: &mut [Tier<V, Work<S, Nested<V, S, C>>>],
     world: &mut World<V>,
 ) -> Result<(), StageFault<E>>
-    requires { All (HasOwnGroups (Owns (lists_of S.reads S.writes C.reads C.writes) less)) tiers.old }
-    ensures set_up { TiersSetup (WorkSetup (setups_of (lists_of S.reads S.writes C.reads C.writes) S.sets_up C.sets_up) less) tiers.old (world_held V.kind_of world.old) result tiers.new (world_held V.kind_of world.new) }
-    ensures stay { StayTiers (Owns (lists_of S.reads S.writes C.reads C.writes) less) tiers.old tiers.new }
+    requires { All (HasOwnGroups (Owns (lists_of S.System C.BatchController) less)) tiers.old }
+    ensures set_up { TiersSetUp V.kind_of S.System C.BatchController less tiers.old world.old result tiers.new world.new }
+    ensures stay { StayTiers (Owns (lists_of S.System C.BatchController) less) tiers.old tiers.new }
 {
     for tier in tiers.iter_mut() {
         if let Err(fault) = set_up_groups(Some(less), tier.groups.as_mut_slice(), world) {
@@ -93,9 +91,9 @@ pub fn set_up_groups<
     groups: &mut [Group<V, Work<S, Nested<V, S, C>>>],
     world: &mut World<V>,
 ) -> Result<(), StageFault<E>>
-    requires owns { All (IsGroupOf (RuleOwns (lists_of S.reads S.writes C.reads C.writes) at)) groups.old }
+    requires owns { All (IsGroupOf (RuleOwns (lists_of S.System C.BatchController) at)) groups.old }
     requires room { All KeepsRoom groups.old }
-    ensures { AreSetUp (RuleSetup (setups_of (lists_of S.reads S.writes C.reads C.writes) S.sets_up C.sets_up) at) (RuleOwns (lists_of S.reads S.writes C.reads C.writes) at) groups.old (world_held V.kind_of world.old) result groups.new (world_held V.kind_of world.new) }
+    ensures { GroupsSetUp V.kind_of S.System C.BatchController at groups.old world.old result groups.new world.new }
 {
     for group in groups.iter_mut() {
         if let Err(fault) = set_up_group(at, group, world) {
@@ -112,10 +110,10 @@ fn set_up_group<V: ResourceValue, S: System<V, Error = E>, C: BatchController<V,
     group: &mut Group<V, Work<S, Nested<V, S, C>>>,
     world: &mut World<V>,
 ) -> Result<(), StageFault<E>>
-    requires { IsGroupOf (RuleOwns (lists_of S.reads S.writes C.reads C.writes) at) group.old }
-    ensures set_up { GroupSetup (RuleSetup (setups_of (lists_of S.reads S.writes C.reads C.writes) S.sets_up C.sets_up) at) group.old (world_held V.kind_of world.old) result group.new (world_held V.kind_of world.new) }
+    requires { IsGroupOf (RuleOwns (lists_of S.System C.BatchController) at) group.old }
+    ensures set_up { GroupSetUp V.kind_of S.System C.BatchController at group.old world.old result group.new world.new }
     ensures plan { group_plan group.new ≡ group_plan group.old }
-    ensures owns { IsGroupOf (RuleOwns (lists_of S.reads S.writes C.reads C.writes) at) group.new }
+    ensures owns { IsGroupOf (RuleOwns (lists_of S.System C.BatchController) at) group.new }
     ensures same { IsSameButEntries group.old group.new }
 {
     set_up_entries(at, group.entries.as_mut_slice(), world)
@@ -128,10 +126,10 @@ fn set_up_entries<V: ResourceValue, S: System<V, Error = E>, C: BatchController<
     entries: &mut [GroupEntry<V, Work<S, Nested<V, S, C>>>],
     world: &mut World<V>,
 ) -> Result<(), StageFault<E>>
-    requires { All (IsEntryOf (RuleOwns (lists_of S.reads S.writes C.reads C.writes) at)) entries.old }
-    ensures set_up { EntriesSetup (RuleSetup (setups_of (lists_of S.reads S.writes C.reads C.writes) S.sets_up C.sets_up) at) entries.old (world_held V.kind_of world.old) result entries.new (world_held V.kind_of world.new) }
+    requires { All (IsEntryOf (RuleOwns (lists_of S.System C.BatchController) at)) entries.old }
+    ensures set_up { EntriesSetUp V.kind_of S.System C.BatchController at entries.old world.old result entries.new world.new }
     ensures plan { map entry_plan entries.new ≡ map entry_plan entries.old }
-    ensures owns { All (IsEntryOf (RuleOwns (lists_of S.reads S.writes C.reads C.writes) at)) entries.new }
+    ensures owns { All (IsEntryOf (RuleOwns (lists_of S.System C.BatchController) at)) entries.new }
 {
     for entry in entries.iter_mut() {
         if let Err(fault) = set_up_entry(at, entry, world) {
@@ -148,10 +146,10 @@ fn set_up_entry<V: ResourceValue, S: System<V, Error = E>, C: BatchController<V,
     entry: &mut GroupEntry<V, Work<S, Nested<V, S, C>>>,
     world: &mut World<V>,
 ) -> Result<(), StageFault<E>>
-    requires { IsEntryOf (RuleOwns (lists_of S.reads S.writes C.reads C.writes) at) entry.old }
-    ensures set_up { EntrySetup (RuleSetup (setups_of (lists_of S.reads S.writes C.reads C.writes) S.sets_up C.sets_up) at) entry.old (world_held V.kind_of world.old) result entry.new (world_held V.kind_of world.new) }
+    requires { IsEntryOf (RuleOwns (lists_of S.System C.BatchController) at) entry.old }
+    ensures set_up { EntrySetUp V.kind_of S.System C.BatchController at entry.old world.old result entry.new world.new }
     ensures plan { entry_plan entry.new ≡ entry_plan entry.old }
-    ensures owns { IsEntryOf (RuleOwns (lists_of S.reads S.writes C.reads C.writes) at) entry.new }
+    ensures owns { IsEntryOf (RuleOwns (lists_of S.System C.BatchController) at) entry.new }
 {
     let depth = depth_by(at, &entry.work);
     match set_up_work(depth, &mut entry.work, world) {

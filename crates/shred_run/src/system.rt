@@ -1,8 +1,10 @@
 //! Systems: what is dispatched.
-ghost use Rattle.std.specs.Prelude.{◌≡◌, List, IfOk, false, is_some};
+ghost use Rattle.std.specs.Prelude.{◌≡◌, List, IfOk};
 ghost use Rattle.shred_run.specs.Time.{time_count};
 ghost use Rattle.shred_run.specs.declared.system.RunningTime.{RunningTime};
 ghost use Rattle.shred_table.specs.declared.id.ResourceId.{ResourceId};
+ghost use Rattle.shred_table.specs.Changes.{StaysOutside, KeepsIdsOf};
+ghost use Rattle.shred_world.specs.Between.{OverView, OverWorld};
 
 use shred_world::{Accessor, DataError, OutOfMemory, ResourceValue, View, World};
 use std::alloc::Global;
@@ -72,7 +74,7 @@ pub trait System<V: ResourceValue> {
     ghost use Rattle.shred_world.specs.OwnViews.{IsLent};
     ghost use Rattle.shred_world.specs.Worked.{Held};
     ghost use Rattle.shred_run.specs.Steps.{Outcome, Step};
-    ghost use Rattle.shred_world.specs.Views.{view_held, declared_held, may_write, table_of, IsSameView};
+    ghost use Rattle.shred_world.specs.Views.{view_held, may_write, table_name, IsSameView};
     ghost use Rattle.shred_world.specs.Worlds.{world_held};
 
     type Error;
@@ -95,11 +97,11 @@ pub trait System<V: ResourceValue> {
     /// keeps every id, and changes nothing but what the view may write. A `Fault` ends its group; what was written stays.
     fn run(&mut self, view: &mut View<V>) -> Result<(), Fault<Self::Error>>
         requires lent { IsLent view.old (reads self.old) (writes self.old) }
-        ensures step { step self.old (declared_held V.kind_of view.old) result self.new (declared_held V.kind_of view.new) }
-        ensures table { table_of view.new ≡ table_of view.old }
+        ensures step { OverView V.kind_of step self.old view.old result self.new view.new }
+        ensures table { table_name view.new ≡ table_name view.old }
         ensures view { IsSameView view.old view.new }
-        ensures ids { (id : ResourceId) → is_some (view_held V.kind_of view.new id) ≡ is_some (view_held V.kind_of view.old id) }
-        ensures frame { (id : ResourceId) → may_write view.old id ≡ false → view_held V.kind_of view.new id ≡ view_held V.kind_of view.old id }
+        ensures ids { KeepsIdsOf (view_held V.kind_of) view.old view.new }
+        ensures frame { StaysOutside (may_write view.old) (view_held V.kind_of) view.old view.new }
         ensures reads { reads self.new ≡ reads self.old }
         ensures writes { writes self.new ≡ writes self.old };
 
@@ -114,7 +116,7 @@ pub trait System<V: ResourceValue> {
 
     /// What is done once, before the first run.
     fn setup(&mut self, world: &mut World<V>) -> Result<(), Fault<Self::Error>>
-        ensures sets_up { sets_up self.old (world_held V.kind_of world.old) result self.new (world_held V.kind_of world.new) }
+        ensures sets_up { OverWorld V.kind_of sets_up self.old world.old result self.new world.new }
         ensures reads { reads self.new ≡ reads self.old }
         ensures writes { writes self.new ≡ writes self.old };
 

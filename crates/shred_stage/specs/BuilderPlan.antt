@@ -1,7 +1,7 @@
 -- What a builder has planned.
-use Rattle.std.specs.Prelude.{ℕ, Option}
+use Rattle.std.specs.Prelude.{ℕ, Option, List}
 use Rattle.shred_table.specs.declared.id.ResourceId.{ResourceId}
-use Rattle.shred_model.specs.Plan.{Plan}
+use Rattle.shred_model.specs.Plan.{Plan, PlanEntry}
 use Rattle.shred_model.specs.Record.{Agent}
 use Rattle.shred_stage.specs.Plans.{plan_states}
 use Rattle.shred_stage.specs.StagePlan.{plan_of}
@@ -9,6 +9,8 @@ use Rattle.shred_run.specs.declared.work.Nested.{Nested}
 use Rattle.shred_run.specs.declared.work.Work.{Work}
 use Rattle.shred_stage.specs.declared.dispatch.rule.Rule.{Rule}
 use Rattle.shred_stage.specs.declared.dispatch.stages_builder.StagesBuilder.{StagesBuilder}
+use Rattle.shred_stage.specs.Placement.{IsPlaced}
+use Rattle.shred_stage.specs.Inserted.{IsInserted}
 
 -- the builder's plan
 abbrev pub planned : {V S C N A M B : Type 0} {vd : _} {sd : _} {ad : _} {cd : _} {bd : _} → StagesBuilder V S C N A M B vd sd ad cd bd → Plan ResourceId
@@ -25,3 +27,12 @@ rule_of builder = builder.rule
 -- the states of its systems, by stage, group and position
 abbrev pub builder_states : {V S C N A M B : Type 0} {vd : _} {sd : _} {ad : _} {cd : _} {bd : _} → StagesBuilder V S C N A M B vd sd ad cd bd → Agent → Option (Work S (Nested V S C))
 builder_states builder path = plan_states builder.stages.items path
+
+module _ {V S C N A M B : Type 0} {vd : _} {sd : _} {ad : _} {cd : _} {bd : _} where
+  -- the entry is placed by a search from this stage on
+  abbrev pub PlacesEntry : (old new : StagesBuilder V S C N A M B vd sd ad cd bd) → ℕ → List ℕ → PlanEntry ResourceId → Type 0
+  PlacesEntry old new start dependencies entry = IsPlaced (planned old) (barrier_of old) start dependencies entry (planned new)
+
+  -- the entry is inserted by the builder's rule, and what is to stand in it stands there
+  abbrev pub InsertsEntry : (old new : StagesBuilder V S C N A M B vd sd ad cd bd) → List ℕ → PlanEntry ResourceId → Work S (Nested V S C) → Type 0
+  InsertsEntry old new dependencies entry work = IsInserted (rule_of old) (planned old) (planned new) (builder_states old) (builder_states new) (barrier_of old) dependencies entry work

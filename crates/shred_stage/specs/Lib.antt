@@ -10,12 +10,14 @@ pub mod Names
 pub mod Printed
 pub mod Prints
 pub mod Sinks
+pub mod SinkTexts
 pub mod Writers
 pub mod Plans
 pub mod Situations
 pub mod Added
 pub mod EntriesAt
 pub mod Setups
+pub mod OverWorlds
 pub mod Inner
 pub mod Inserted
 pub mod Refusals

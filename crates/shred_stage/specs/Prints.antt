@@ -12,6 +12,6 @@ IsWritten old new failures later text (Err Write) = AppendsBeginning old new tex
 IsWritten old new failures later text (Err (Unnamed id)) = ⊥
 
 -- where an id has no name, the first such is answered and the sink stays; where all have names, the text is written
-abbrev pub IsPrinted : {W : Type 0} → (W → Option (List ℕ)) → (W → ℕ) → W → W → Option ℕ → List ℕ → Result (Unit {0}) PrintError → Type 0
-IsPrinted told failures old new (Some id) text answer = (answer ≡ Err (Unnamed (record { 0 = id }))) × (new ≡ old)
-IsPrinted told failures old new None text answer = IsWritten (told old) (told new) (failures old) (failures new) text answer
+abbrev pub PrintsPlan : {W : Type 0} → (W → Option (List ℕ)) → (W → ℕ) → W → W → Option ℕ → List ℕ → Result (Unit {0}) PrintError → Type 0
+PrintsPlan told failures old new (Some id) text answer = (answer ≡ Err (Unnamed (record { 0 = id }))) × (new ≡ old)
+PrintsPlan told failures old new None text answer = IsWritten (told old) (told new) (failures old) (failures new) text answer

@@ -4,7 +4,7 @@ use Rattle.shred_model.specs.Runs.{Answer, Ran}
 use Rattle.shred_model.specs.States.{configuration_of}
 use Rattle.shred_table.specs.declared.id.Kind.{Kind}
 use Rattle.shred_world.specs.Worked.{Held}
-use Rattle.shred_world.specs.Worlds.{world_held}
+use Rattle.shred_world.specs.Worlds.{world_held, local_held}
 use Rattle.shred_world.specs.declared.world.World.{World}
 use Rattle.shred_run.specs.Alone.{KeepsKinds}
 use Rattle.shred_run.specs.Depths.{Related}
@@ -19,6 +19,7 @@ use Rattle.shred_stage.specs.declared.dispatch.dispatch_error.DispatchError.{Dis
 use Rattle.shred_stage.specs.declared.dispatch.dispatch_error.DispatchError.TheVariants as dispatch
 use Rattle.shred_stage.specs.declared.dispatch.plan.Plan.{Plan}
 use Rattle.shred_stage.specs.declared.dispatch.stage.Stage.{Stage}
+use Rattle.shred_world.specs.declared.world.local.LocalWorld.{LocalWorld}
 
 -- a stage alone answers for itself, whatever its place
 abbrev pub stage_answer : {E : Type 0} → ℕ → Answer (StageFault E) → Answer (StageFault E)
@@ -38,6 +39,14 @@ module _ {V S C N A M B : Type 0} {vd : _} {sd : _} {ad : _} {cd : _} {bd : _} w
   -- a plan with what stands in it, over these values
   abbrev pub plan_with : Plan V S C N A M B vd sd ad cd bd → Held V → Situation V S C
   plan_with plan values = stages_with plan.stages.items values
+
+  -- the same over a world
+  abbrev pub plan_over : (V → Kind) → Plan V S C N A M B vd sd ad cd bd → World V → Situation V S C
+  plan_over kind plan world = plan_with plan (world_held kind world)
+
+  -- the same over a local world
+  abbrev pub plan_over_local : (V → Kind) → Plan V S C N A M B vd sd ad cd bd → LocalWorld V → Situation V S C
+  plan_over_local kind plan local = plan_with plan (local_held kind local)
 
   -- a stage alone, as the plan of that one stage, over a world
   abbrev pub stage_over : (V → Kind) → Stage V S C N A M B vd sd ad cd bd → World V → Situation V S C

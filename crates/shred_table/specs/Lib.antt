@@ -7,6 +7,7 @@ pub mod Held
 pub mod Counts
 pub mod Lent
 pub mod Parting
+pub mod Changes
 pub mod AsOne
 pub mod Twins
 pub mod Shown

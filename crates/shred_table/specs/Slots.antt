@@ -1,5 +1,5 @@
 -- What the slots of a table hold.
-use Rattle.std.specs.Prelude.{Bool, false, Option, Some, None, cond, is_none, nat_eq, List, map}
+use Rattle.std.specs.Prelude.{◌≢◌, Bool, false, Option, Some, None, IfSome, cond, is_none, nat_eq, List, map}
 use Rattle.std.specs.List.{list_any}
 use Rattle.shred_table.specs.declared.id.Kind.{Kind}
 use Rattle.shred_table.specs.declared.id.ResourceId.{ResourceId}
@@ -50,6 +50,14 @@ among ids id = list_any (λ x. same_id x id) ids
 -- whether the id's value was noted as handed out
 abbrev pub noted_in : {V : Type 0} → Table V → ResourceId → Bool
 noted_in t id = among t.out.items id
+
+-- the value, where there is one, is of another kind
+abbrev pub IsOfOtherKind : {V : Type 0} → (V → Kind) → Kind → Option V → Type 0
+IsOfOtherKind kind asked value = IfSome value (λ v. kind v ≢ asked)
+
+-- a slot with the value
+abbrev pub slot_with : {V : Type 0} → V → Option (Slot V)
+slot_with v = Some (record { value = Some v })
 
 -- a slot whose value was moved out
 abbrev pub is_vacant : {V : Type 0} → Option (Slot V) → Bool

@@ -1,10 +1,11 @@
 //! Hands for several pairs of lists of ids: what each pair writes is moved into its hand, and back.
-ghost use Rattle.std.specs.Prelude.{◌≡◌, IsTrue, false, cond, is_some, IfOk};
+ghost use Rattle.std.specs.Prelude.{◌≡◌, false, is_some, IfOk};
 ghost use Rattle.std.specs.List.{All, AllZip};
 ghost use Rattle.shred_table.specs.declared.id.ResourceId.{ResourceId};
-ghost use Rattle.shred_table.specs.Parting.{emptied};
+ghost use Rattle.shred_table.specs.Parting.{AreEmpty};
 ghost use Rattle.shred_table.specs.Parts.{DoNotConflict, written_by, HasNothingOut, HasRoom, HoldsWritten, Fits, IsJoined};
 ghost use Rattle.shred_table.specs.Slots.{slot_at, noted_in};
+ghost use Rattle.shred_table.specs.Changes.{StaysOutside, EmptiesEach};
 
 use crate::accessor::OutOfMemory;
 use crate::id::ResourceId;
@@ -39,7 +40,7 @@ pub fn move_all_out<V: Drop>(
     requires room { AllZip (HasRoom table.old) pairs.now hands.old }
     ensures hands { AllZip (HoldsWritten table.old) pairs.now hands.new }
     ensures nothing_out { All HasNothingOut hands.new }
-    ensures left { (q : ResourceId) → slot_at table.new q ≡ cond (written_by pairs.now q) (emptied (slot_at table.old q)) (slot_at table.old q) }
+    ensures left { EmptiesEach slot_at table.old (written_by pairs.now) table.new }
 {
     table.rewind();
     for i in 0..pairs.len() {
@@ -57,9 +58,9 @@ pub fn move_all_back<V: Drop>(
 )
     requires apart { DoNotConflict pairs.now }
     requires fit { AllZip (Fits table.old) pairs.now hands.old }
-    requires empty { (q : ResourceId) → IsTrue (written_by pairs.now q) → slot_at table.old q ≡ emptied (slot_at table.old q) }
+    requires empty { AreEmpty (written_by pairs.now) table.old }
     ensures joined { AllZip (IsJoined table.new) pairs.now hands.old }
-    ensures rest { (q : ResourceId) → written_by pairs.now q ≡ false → slot_at table.new q ≡ slot_at table.old q }
+    ensures rest { StaysOutside (written_by pairs.now) slot_at table.old table.new }
     ensures slots { (q : ResourceId) → is_some (slot_at table.new q) ≡ is_some (slot_at table.old q) }
     ensures noted { (q : ResourceId) → noted_in table.new q ≡ false }
 {

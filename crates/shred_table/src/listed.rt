@@ -1,5 +1,5 @@
 //! A list of slots, in the order of their ids.
-ghost use Rattle.std.specs.Prelude.{◌≡◌, ℕ, ◌<◌, ◌≤◌, length, slice_index_or, IsTrue, AllPairs, None, Some, Option, map, IfOk, IfErr, OnOk, OnErr, IfSome, is_some, ◌&&◌};
+ghost use Rattle.std.specs.Prelude.{◌≡◌, ◌<◌, ◌≤◌, length, slice_index_or, IsTrue, AllPairs, None, Some, Option, map, IfOk, IfErr, OnOk, OnErr, IfSome, is_some, ◌&&◌};
 ghost use Rattle.std.specs.Borrow.{sem};
 ghost use Rattle.std.specs.Option.{option_copied, option_copied_mut};
 ghost use Rattle.std.proofs.Props.{props};
@@ -24,12 +24,12 @@ pub(crate) struct Listed<V> {
 
 impl<V> Listed<V> {
     ghost use Rattle.shred_table.specs.Lent.{LendsListed};
-    ghost use Rattle.shred_table.specs.Held.{beside};
     ghost use Rattle.shred_table.specs.Listed.{listed_at, IsPlaceOf, IsGapFor};
-    ghost use Rattle.shred_table.specs.Counts.{IsCountOf, IsWithinDigits};
-    ghost use Rattle.shred_table.specs.InOrder.{comes_first};
-    ghost use Rattle.shred_table.specs.Parting.{emptied, slot_value};
-    ghost use Rattle.shred_table.specs.Slots.{slot_held, with_at};
+    ghost use Rattle.shred_table.specs.Parting.{slot_value};
+    ghost use Rattle.shred_table.specs.Slots.{with_at};
+    ghost use Rattle.shred_table.specs.Changes.{Puts, Empties};
+    ghost use Rattle.shred_table.specs.Counts.{IsCountBefore, IsWithinDigitsOf};
+    ghost use Rattle.shred_table.specs.Held.{listed_held};
 
     // No slots. It takes no memory.
     pub(crate) fn new(alloc: Global) -> Self
@@ -76,7 +76,7 @@ impl<V> Listed<V> {
     // looked at first.
     pub(crate) fn take(&mut self, id: ResourceId, first: usize, second: usize) -> (Option<V>, usize)
         ensures value { result.0 ≡ slot_value (listed_at self.old id) }
-        ensures slots { (q : ResourceId) → listed_at self.new q ≡ with_at (listed_at self.old) id (emptied (listed_at self.old id)) q }
+        ensures slots { Empties listed_at self.old id self.new }
         ensures ids { map (λ slot. slot.0) self.new.slots.items ≡ map (λ slot. slot.0) self.old.slots.items }
     {
         match self.place_near(id, first, second) {
@@ -111,9 +111,9 @@ impl<V> Listed<V> {
     ) -> Option<usize>
     where
         V: ResourceValue,
-        ensures held { is_some result ≡ is_some (slot_held V.kind_of id (beside hand.now id (listed_at self.now id))) }
-        ensures slot { IfSome result (IsCountOf (λ q. is_some (slot_held V.kind_of q (beside hand.now q (listed_at self.now q))) && comes_first q id)) }
-        ensures steps { (count : ℕ) × IsCountOf (λ q. is_some (slot_held V.kind_of q (beside hand.now q (listed_at self.now q)))) count × IsWithinDigits count steps.old.count steps.new.count }
+        ensures held { is_some result ≡ is_some (listed_held V.kind_of hand.now self.now id) }
+        ensures slot { IfSome result (IsCountBefore (listed_held V.kind_of hand.now self.now) id) }
+        ensures steps { IsWithinDigitsOf (listed_held V.kind_of hand.now self.now) steps.old.count steps.new.count }
     {
         held::slot_of(self.slots.as_slice(), hand, id, steps)
     }
@@ -155,7 +155,7 @@ impl<V> Listed<V> {
     pub(crate) fn insert(&mut self, id: ResourceId, slot: Slot<V>) -> Result<(), OutOfMemory>
     where
         V: Drop,
-        ensures ok { OnOk result ((q : ResourceId) → listed_at self.new q ≡ with_at (listed_at self.old) id (Some slot) q) }
+        ensures ok { OnOk result (Puts listed_at self.old id (Some slot) self.new) }
         ensures err { OnErr result ((q : ResourceId) → listed_at self.new q ≡ listed_at self.old q) }
         ensures no_room { OnErr result (listed_at self.old id ≡ None) }
     {

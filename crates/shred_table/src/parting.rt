@@ -1,9 +1,10 @@
 //! Moving the values of some ids from a table into another one, and back.
-ghost use Rattle.std.specs.Prelude.{◌≡◌, ◌&&◌, IsTrue, true, IfOk, IfSome, IfNone, None, OnOk, OnErr, cond, is_some, Some};
+ghost use Rattle.std.specs.Prelude.{◌≡◌, ◌&&◌, IsTrue, true, IfOk, IfSome, IfNone, None, OnOk, OnErr, is_some, Some};
 ghost use Rattle.shred_table.specs.declared.id.ResourceId.{ResourceId};
-ghost use Rattle.shred_table.specs.Parting.{IsEmptyHand, IsRoom, IsSpare, emptied, slot_value, given};
+ghost use Rattle.shred_table.specs.Parting.{IsEmptyHand, IsRoom, IsSpare, emptied, table_value, HoldsJust, FitsJust, AreEmpty};
 ghost use Rattle.shred_table.specs.AsOne.{brought};
-ghost use Rattle.shred_table.specs.Slots.{slot_at, noted_in, with_at, among, ids_in};
+ghost use Rattle.shred_table.specs.Slots.{slot_at, noted_in, among, ids_in};
+ghost use Rattle.shred_table.specs.Changes.{Puts, Empties, EmptiesEach, Receives, ReceivesEach, TakesOver};
 
 use crate::accessor::OutOfMemory;
 use crate::id::ResourceId;
@@ -25,7 +26,7 @@ impl<V: Drop> Table<V> {
     // Gives the hand an empty slot for the id where this table has a slot, and no slot where it has none.
     fn fit(&self, id: ResourceId, hand: &mut Table<V>) -> Result<(), OutOfMemory>
         requires { slot_at hand.old id ≡ emptied (slot_at hand.old id) }
-        ensures ok { OnOk result ((q : ResourceId) → slot_at hand.new q ≡ with_at (slot_at hand.old) id (emptied (slot_at self.now id)) q) }
+        ensures ok { OnOk result (Puts slot_at hand.old id (emptied (slot_at self.now id)) hand.new) }
         ensures err { OnErr result ((q : ResourceId) → slot_at hand.new q ≡ slot_at hand.old q) }
     {
         if self.slot(id).is_none() {
@@ -57,8 +58,8 @@ impl<V: Drop> Table<V> {
 
     // Moves the value of an id, where there is one, into the slot of another table, which notes where it came from.
     fn move_one(&mut self, id: ResourceId, number: usize, to: &mut Table<V>)
-        ensures from { (q : ResourceId) → slot_at self.new q ≡ with_at (slot_at self.old) id (emptied (slot_at self.old id)) q }
-        ensures to { (q : ResourceId) → slot_at to.new q ≡ with_at (slot_at to.old) id (given (slot_value (slot_at self.old id)) (slot_at to.old id)) q }
+        ensures from { Empties slot_at self.old id self.new }
+        ensures to { Receives slot_at to.old (table_value self.old) id to.new }
     {
         let (value, home) = self.take_next(id);
         if let Some(value) = value {
@@ -69,8 +70,8 @@ impl<V: Drop> Table<V> {
 
     // Moves the value of an id, where there is one, into the slot of the table that it came from.
     fn move_one_home(&mut self, id: ResourceId, number: usize, to: &mut Table<V>)
-        ensures from { (q : ResourceId) → slot_at self.new q ≡ with_at (slot_at self.old) id (emptied (slot_at self.old id)) q }
-        ensures to { (q : ResourceId) → slot_at to.new q ≡ with_at (slot_at to.old) id (given (slot_value (slot_at self.old id)) (slot_at to.old id)) q }
+        ensures from { Empties slot_at self.old id self.new }
+        ensures to { Receives slot_at to.old (table_value self.old) id to.new }
     {
         let home = self.home(number);
         if let Some(value) = take_near(self, id, number) {
@@ -83,8 +84,8 @@ impl<V: Drop> Table<V> {
     // Moves the value that is at a place, where there is one, into the id's slot of another table, where that is empty. A value
     // for which the other table has no such slot is dropped.
     fn bring_one(&mut self, id: ResourceId, place: usize, to: &mut Table<V>)
-        ensures from { (q : ResourceId) → slot_at self.new q ≡ with_at (slot_at self.old) id (emptied (slot_at self.old id)) q }
-        ensures to { (q : ResourceId) → slot_at to.new q ≡ with_at (slot_at to.old) id (brought (slot_at self.old id) (slot_at to.old id)) q }
+        ensures from { Empties slot_at self.old id self.new }
+        ensures to { Puts slot_at to.old id (brought (slot_at self.old id) (slot_at to.old id)) to.new }
         ensures ids { ids_in self.new ≡ ids_in self.old }
         ensures noted { (q : ResourceId) → noted_in to.new q ≡ noted_in to.old q }
     {
@@ -139,8 +140,8 @@ impl<V: Drop> Table<V> {
 /// Moves the values of these ids into the slots that another table has for them; their own slots stay, empty. A value for
 /// which the other table has no slot is dropped.
 pub fn move_each<V: Drop>(from: &mut Table<V>, ids: &[ResourceId], to: &mut Table<V>)
-    ensures from { (q : ResourceId) → slot_at from.new q ≡ cond (among ids.now q) (emptied (slot_at from.old q)) (slot_at from.old q) }
-    ensures to { (q : ResourceId) → slot_at to.new q ≡ cond (among ids.now q) (given (slot_value (slot_at from.old q)) (slot_at to.old q)) (slot_at to.old q) }
+    ensures from { EmptiesEach slot_at from.old (among ids.now) from.new }
+    ensures to { ReceivesEach slot_at to.old (table_value from.old) (among ids.now) to.new }
 {
     for number in 0..ids.len() {
         from.move_one(ids[number], number, to);
@@ -149,8 +150,8 @@ pub fn move_each<V: Drop>(from: &mut Table<V>, ids: &[ResourceId], to: &mut Tabl
 
 /// `move_each`, back into the table that the values came from. The place that each left is looked at first.
 pub fn move_home<V: Drop>(from: &mut Table<V>, ids: &[ResourceId], to: &mut Table<V>)
-    ensures from { (q : ResourceId) → slot_at from.new q ≡ cond (among ids.now q) (emptied (slot_at from.old q)) (slot_at from.old q) }
-    ensures to { (q : ResourceId) → slot_at to.new q ≡ cond (among ids.now q) (given (slot_value (slot_at from.old q)) (slot_at to.old q)) (slot_at to.old q) }
+    ensures from { EmptiesEach slot_at from.old (among ids.now) from.new }
+    ensures to { ReceivesEach slot_at to.old (table_value from.old) (among ids.now) to.new }
 {
     for number in 0..ids.len() {
         from.move_one_home(ids[number], number, to);
@@ -160,17 +161,17 @@ pub fn move_home<V: Drop>(from: &mut Table<V>, ids: &[ResourceId], to: &mut Tabl
 /// Moves the values of these ids into the hand; their slots stay, empty.
 pub fn move_out<V: Drop>(table: &mut Table<V>, ids: &[ResourceId], hand: &mut Table<V>)
     requires { IsRoom table.old ids.now hand.old }
-    ensures hand { (q : ResourceId) → slot_at hand.new q ≡ cond (among ids.now q) (slot_at table.old q) None }
-    ensures left { (q : ResourceId) → slot_at table.new q ≡ cond (among ids.now q) (emptied (slot_at table.old q)) (slot_at table.old q) }
+    ensures hand { HoldsJust ids.now (slot_at table.old) hand.new }
+    ensures left { EmptiesEach slot_at table.old (among ids.now) table.new }
 {
     move_each(table, ids, hand);
 }
 
 /// Moves the values of these ids back from the hand into their slots; the hand's slots stay, empty.
 pub fn move_back<V: Drop>(table: &mut Table<V>, ids: &[ResourceId], hand: &mut Table<V>)
-    requires slots { (q : ResourceId) → is_some (slot_at hand.old q) ≡ (among ids.now q && is_some (slot_at table.old q)) }
-    requires empty { (q : ResourceId) → IsTrue (among ids.now q) → slot_at table.old q ≡ emptied (slot_at table.old q) }
-    ensures back { (q : ResourceId) → slot_at table.new q ≡ cond (among ids.now q) (slot_at hand.old q) (slot_at table.old q) }
+    requires slots { FitsJust ids.now (slot_at table.old) hand.old }
+    requires empty { AreEmpty (among ids.now) table.old }
+    ensures back { TakesOver slot_at table.old (slot_at hand.old) (among ids.now) table.new }
     ensures hand { (q : ResourceId) → slot_at hand.new q ≡ emptied (slot_at hand.old q) }
 {
     move_home(hand, ids, table);

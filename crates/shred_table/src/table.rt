@@ -1,15 +1,15 @@
 //! A table of slots, each of one id; the value of a slot may be moved out of it and back.
-ghost use Rattle.std.specs.Prelude.{◌≡◌, ℕ, ◌<◌, ◌&&◌, ◌≢◌, ◌||◌, length, slice_index_or, IsTrue, false, is_some, IfNone, IfSome, None, Some, MatchOption, OnOk, OnErr, IfOk, IfErr};
+ghost use Rattle.std.specs.Prelude.{◌≡◌, ◌<◌, ◌&&◌, ◌≢◌, ◌||◌, length, slice_index_or, IsTrue, false, is_some, IfNone, IfSome, None, Some, MatchOption, OnOk, OnErr, IfOk, IfErr};
 ghost use Rattle.std.specs.Option.{option_copied, option_copied_mut};
 ghost use Rattle.std.specs.Borrow.{sem};
-ghost use Rattle.shred_table.specs.Slots.{slots_of, ids_in, slot_at, noted_in, among, of_kind, held, slot_held, with_at};
-ghost use Rattle.shred_table.specs.AsOne.{as_one};
-ghost use Rattle.shred_table.specs.Counts.{IsCountOf, IsWithinDigits};
+ghost use Rattle.shred_table.specs.Slots.{slots_of, ids_in, slot_at, noted_in, among, of_kind, held, with_at, slot_with, IsOfOtherKind};
+ghost use Rattle.shred_table.specs.AsOne.{both_held};
+ghost use Rattle.shred_table.specs.Counts.{IsCountBefore, IsWithinDigitsOf};
 ghost use Rattle.shred_table.specs.Id.{id_kind, same_id};
-ghost use Rattle.shred_table.specs.InOrder.{comes_first};
-ghost use Rattle.shred_table.specs.Parting.{emptied, slot_value, filled};
+ghost use Rattle.shred_table.specs.Parting.{slot_value, filled};
 ghost use Rattle.shred_table.specs.Lent.{LendsSlot, LendsValue, LendsResource, LendsHeld};
 ghost use Rattle.shred_table.specs.declared.id.ResourceId.{ResourceId};
+ghost use Rattle.shred_table.specs.Changes.{Puts, Empties};
 
 use crate::accessor::OutOfMemory;
 use crate::hints::Hints;
@@ -56,7 +56,7 @@ impl<V> Slot<V> {
     fn resource_mut<R: Resource<V>>(&mut self) -> Option<&mut R>
     where
         V: ResourceValue,
-        ensures shown { MatchOption result (IfSome self.old.value (λ v. V.kind_of v ≢ R.KIND)) (λ r. self.old.value ≡ Some (R.wrapped r.now)) }
+        ensures shown { MatchOption result (IsOfOtherKind V.kind_of R.KIND self.old.value) (λ r. self.old.value ≡ Some (R.wrapped r.now)) }
         ensures* written { sem 𝓛 (LendsResource V.row R.row R.wrapped self.entry result) }
     {
         let value = self.value_mut()?;
@@ -67,7 +67,7 @@ impl<V> Slot<V> {
     pub fn into_resource<R: Resource<V>>(self) -> Option<R>
     where
         V: ResourceValue + Drop,
-        ensures { MatchOption result (IfSome self.value (λ v. V.kind_of v ≢ R.KIND)) (λ r. self.value ≡ Some (R.wrapped r)) }
+        ensures { MatchOption result (IsOfOtherKind V.kind_of R.KIND self.value) (λ r. self.value ≡ Some (R.wrapped r)) }
     {
         let Some(value) = self.value else {
             return None;
@@ -156,8 +156,8 @@ impl<V> Table<V> {
     where
         V: ResourceValue,
         ensures held { is_some result ≡ is_some (held V.kind_of self.now id) }
-        ensures slot { IfSome result (IsCountOf (λ q. is_some (held V.kind_of self.now q) && comes_first q id)) }
-        ensures steps { (count : ℕ) × IsCountOf (λ q. is_some (held V.kind_of self.now q)) count × IsWithinDigits count steps.old.count steps.new.count }
+        ensures slot { IfSome result (IsCountBefore (held V.kind_of self.now) id) }
+        ensures steps { IsWithinDigitsOf (held V.kind_of self.now) steps.old.count steps.new.count }
     {
         let (none, _) = slice::from_ref(self).split_at(0);
         self.slots.slot_of(none, id, steps)
@@ -172,9 +172,9 @@ impl<V> Table<V> {
     ) -> Option<usize>
     where
         V: ResourceValue,
-        ensures held { is_some result ≡ is_some (slot_held V.kind_of id (as_one (slot_at self.now id) (slot_at hand.now id))) }
-        ensures slot { IfSome result (IsCountOf (λ q. is_some (slot_held V.kind_of q (as_one (slot_at self.now q) (slot_at hand.now q))) && comes_first q id)) }
-        ensures steps { (count : ℕ) × IsCountOf (λ q. is_some (slot_held V.kind_of q (as_one (slot_at self.now q) (slot_at hand.now q)))) count × IsWithinDigits count steps.old.count steps.new.count }
+        ensures held { is_some result ≡ is_some (both_held V.kind_of self.now hand.now id) }
+        ensures slot { IfSome result (IsCountBefore (both_held V.kind_of self.now hand.now) id) }
+        ensures steps { IsWithinDigitsOf (both_held V.kind_of self.now hand.now) steps.old.count steps.new.count }
     {
         self.slots.slot_of(slice::from_ref(hand), id, steps)
     }
@@ -216,7 +216,7 @@ impl<V> Table<V> {
     // for where ids without gaps have it, and then behind the one that was found last.
     pub(crate) fn take_next(&mut self, id: ResourceId) -> (Option<V>, usize)
         ensures value { result.0 ≡ slot_value (slot_at self.old id) }
-        ensures slots { (q : ResourceId) → slot_at self.new q ≡ with_at (slot_at self.old) id (emptied (slot_at self.old id)) q }
+        ensures slots { Empties slot_at self.old id self.new }
         ensures noted { (q : ResourceId) → noted_in self.new q ≡ noted_in self.old q }
     {
         let (value, place) = self.slots.take(id, id.likely_place(), self.hints.next());
@@ -292,7 +292,7 @@ pub fn note<V>(table: &mut Table<V>, id: ResourceId) -> Result<(), OutOfMemory>
 
 /// Puts a value into the slot of an id, which is made where there is none.
 pub fn put<V: Drop>(table: &mut Table<V>, id: ResourceId, value: V) -> Result<(), OutOfMemory>
-    ensures ok { OnOk result ((q : ResourceId) → slot_at table.new q ≡ with_at (slot_at table.old) id (Some (record { value = Some value })) q) }
+    ensures ok { OnOk result (Puts slot_at table.old id (slot_with value) table.new) }
     ensures err { OnErr result ((q : ResourceId) → slot_at table.new q ≡ slot_at table.old q) }
     ensures no_room { OnErr result (slot_at table.old id ≡ None) }
 {
@@ -302,7 +302,7 @@ pub fn put<V: Drop>(table: &mut Table<V>, id: ResourceId, value: V) -> Result<()
 
 /// Makes the slot of an id empty; the slot is made where there is none.
 pub fn open<V: Drop>(table: &mut Table<V>, id: ResourceId) -> Result<(), OutOfMemory>
-    ensures ok { OnOk result ((q : ResourceId) → slot_at table.new q ≡ with_at (slot_at table.old) id (Some (record { value = None })) q) }
+    ensures ok { OnOk result (Puts slot_at table.old id (Some (record { value = None })) table.new) }
     ensures err { OnErr result ((q : ResourceId) → slot_at table.new q ≡ slot_at table.old q) }
     ensures no_room { OnErr result (slot_at table.old id ≡ None) }
 {
@@ -312,7 +312,7 @@ pub fn open<V: Drop>(table: &mut Table<V>, id: ResourceId) -> Result<(), OutOfMe
 /// Takes the value out of the slot of an id; the slot stays.
 pub fn take<V>(table: &mut Table<V>, id: ResourceId) -> Option<V>
     ensures value { result ≡ slot_value (slot_at table.old id) }
-    ensures slots { (q : ResourceId) → slot_at table.new q ≡ with_at (slot_at table.old) id (emptied (slot_at table.old id)) q }
+    ensures slots { Empties slot_at table.old id table.new }
     ensures noted { (q : ResourceId) → noted_in table.new q ≡ noted_in table.old q }
 {
     take_near(table, id, 0)
@@ -321,7 +321,7 @@ pub fn take<V>(table: &mut Table<V>, id: ResourceId) -> Option<V>
 // `take`, with a place that is looked at first.
 pub(crate) fn take_near<V>(table: &mut Table<V>, id: ResourceId, near: usize) -> Option<V>
     ensures value { result ≡ slot_value (slot_at table.old id) }
-    ensures slots { (q : ResourceId) → slot_at table.new q ≡ with_at (slot_at table.old) id (emptied (slot_at table.old id)) q }
+    ensures slots { Empties slot_at table.old id table.new }
     ensures noted { (q : ResourceId) → noted_in table.new q ≡ noted_in table.old q }
     ensures ids { ids_in table.new ≡ ids_in table.old }
 {
@@ -330,7 +330,7 @@ pub(crate) fn take_near<V>(table: &mut Table<V>, id: ResourceId, near: usize) ->
 
 /// Puts a value into the slot of an id, where there is one.
 pub fn fill<V: Drop>(table: &mut Table<V>, id: ResourceId, value: V)
-    ensures slots { (q : ResourceId) → slot_at table.new q ≡ with_at (slot_at table.old) id (filled value (slot_at table.old id)) q }
+    ensures slots { Puts slot_at table.old id (filled value (slot_at table.old id)) table.new }
     ensures noted { (q : ResourceId) → noted_in table.new q ≡ noted_in table.old q }
 {
     fill_near(table, id, 0, value);
@@ -338,7 +338,7 @@ pub fn fill<V: Drop>(table: &mut Table<V>, id: ResourceId, value: V)
 
 // `fill`, with a place that is looked at first.
 pub(crate) fn fill_near<V: Drop>(table: &mut Table<V>, id: ResourceId, near: usize, value: V)
-    ensures slots { (q : ResourceId) → slot_at table.new q ≡ with_at (slot_at table.old) id (filled value (slot_at table.old id)) q }
+    ensures slots { Puts slot_at table.old id (filled value (slot_at table.old id)) table.new }
     ensures noted { (q : ResourceId) → noted_in table.new q ≡ noted_in table.old q }
 {
     if let Some(slot) = table.slot_mut_near(id, near) {
@@ -358,7 +358,7 @@ pub fn remove<V>(table: &mut Table<V>, id: ResourceId) -> Option<Slot<V>>
 /// itself, where there is none to give.
 pub fn replace<V>(table: &mut Table<V>, id: ResourceId, value: V) -> Result<V, V>
     ensures ok { IfOk result (λ old. slot_at table.old id ≡ Some (record { value = Some old })) }
-    ensures replaced { OnOk result ((q : ResourceId) → slot_at table.new q ≡ with_at (slot_at table.old) id (Some (record { value = Some value })) q) }
+    ensures replaced { OnOk result (Puts slot_at table.old id (slot_with value) table.new) }
     ensures err { IfErr result (λ back. back ≡ value) }
     ensures empty { OnErr result (IfSome (slot_at table.old id) (λ s. s.value ≡ None)) }
     ensures unchanged { OnErr result ((q : ResourceId) → slot_at table.new q ≡ slot_at table.old q) }
@@ -377,7 +377,7 @@ pub fn resource_mut<V: ResourceValue, R: Resource<V>>(
     table: &mut Table<V>,
     id: ResourceId,
 ) -> Option<&mut R>
-    ensures shown { IfSome result (λ r. slot_at table.old id ≡ Some (record { value = Some (R.wrapped r.now) })) }
+    ensures shown { IfSome result (λ r. slot_at table.old id ≡ slot_with (R.wrapped r.now)) }
     ensures missing { R.KIND ≡ id_kind id → IfNone result (held V.kind_of table.old id ≡ None) }
     ensures* written { sem 𝓛 (LendsHeld V.row R.row R.wrapped table.entry id result) }
 {
@@ -390,7 +390,7 @@ pub fn resource_mut_near<V: ResourceValue, R: Resource<V>>(
     id: ResourceId,
     near: usize,
 ) -> Option<&mut R>
-    ensures shown { IfSome result (λ r. slot_at table.old id ≡ Some (record { value = Some (R.wrapped r.now) })) }
+    ensures shown { IfSome result (λ r. slot_at table.old id ≡ slot_with (R.wrapped r.now)) }
     ensures missing { R.KIND ≡ id_kind id → IfNone result (held V.kind_of table.old id ≡ None) }
     ensures* written { sem 𝓛 (LendsHeld V.row R.row R.wrapped table.entry id result) }
 {

@@ -1,10 +1,12 @@
 //! A table and a hand beside it, which hold as one.
-ghost use Rattle.std.specs.Prelude.{◌≡◌, ◌&&◌, ℕ, IfSome, IfNone, IfOk, IfErr, IsTrue, None, Some, OnOk, OnErr, is_some};
+ghost use Rattle.std.specs.Prelude.{◌≡◌, ◌&&◌, IfSome, IfNone, IfOk, IfErr, IsTrue, None, Some, OnOk, OnErr, is_some};
 ghost use Rattle.std.specs.Borrow.{sem};
 ghost use Rattle.std.specs.Option.{option_copied, option_copied_mut};
 ghost use Rattle.shred_table.specs.Id.{id_kind};
 ghost use Rattle.shred_table.specs.declared.id.ResourceId.{ResourceId};
-ghost use Rattle.shred_table.specs.Slots.{slot_at, noted_in, with_at};
+ghost use Rattle.shred_table.specs.Slots.{slot_at, noted_in, with_at, slot_with};
+ghost use Rattle.shred_table.specs.Changes.{Puts};
+ghost use Rattle.shred_table.specs.Counts.{IsCountBefore, IsWithinDigitsOf};
 
 use crate::accessor::OutOfMemory;
 use crate::id::ResourceId;
@@ -25,8 +27,6 @@ pub struct Twin<V> {
 }
 
 impl<V> Twin<V> {
-    ghost use Rattle.shred_table.specs.Counts.{IsCountOf, IsWithinDigits};
-    ghost use Rattle.shred_table.specs.InOrder.{comes_first};
     ghost use Rattle.shred_table.specs.Twins.{twin_slot, twin_held, IsSettled, LendsOfTwin};
 
     /// No slots. It takes no memory.
@@ -73,8 +73,8 @@ impl<V> Twin<V> {
         V: ResourceValue,
         requires { IsTrue settled → IsSettled self.now }
         ensures held { is_some result ≡ is_some (twin_held V.kind_of self.now id) }
-        ensures slot { IfSome result (IsCountOf (λ q. is_some (twin_held V.kind_of self.now q) && comes_first q id)) }
-        ensures steps { (count : ℕ) × IsCountOf (λ q. is_some (twin_held V.kind_of self.now q)) count × IsWithinDigits count steps.old.count steps.new.count }
+        ensures slot { IfSome result (IsCountBefore (twin_held V.kind_of self.now) id) }
+        ensures steps { IsWithinDigitsOf (twin_held V.kind_of self.now) steps.old.count steps.new.count }
     {
         if settled {
             self.table.slot_of(id, steps)
@@ -106,7 +106,7 @@ impl<V> Twin<V> {
     pub fn resource_mut<R: Resource<V>>(&mut self, id: ResourceId) -> Option<&mut R>
     where
         V: ResourceValue,
-        ensures shown { IfSome result (λ r. twin_slot self.old id ≡ Some (record { value = Some (R.wrapped r.now) })) }
+        ensures shown { IfSome result (λ r. twin_slot self.old id ≡ slot_with (R.wrapped r.now)) }
         ensures missing { R.KIND ≡ id_kind id → IfNone result (twin_held V.kind_of self.old id ≡ None) }
         ensures* written { sem 𝓛 (LendsOfTwin V.row R.row R.wrapped self.entry id result) }
     {
@@ -133,7 +133,7 @@ impl<V> Twin<V> {
     /// there is none to give.
     pub fn replace(&mut self, id: ResourceId, value: V) -> Result<V, V>
         ensures ok { IfOk result (λ old. twin_slot self.old id ≡ Some (record { value = Some old })) }
-        ensures replaced { OnOk result ((q : ResourceId) → twin_slot self.new q ≡ with_at (twin_slot self.old) id (Some (record { value = Some value })) q) }
+        ensures replaced { OnOk result (Puts twin_slot self.old id (slot_with value) self.new) }
         ensures err { IfErr result (λ back. back ≡ value) }
         ensures empty { OnErr result (IfSome (twin_slot self.old id) (λ s. s.value ≡ None)) }
         ensures unchanged { OnErr result ((q : ResourceId) → twin_slot self.new q ≡ twin_slot self.old q) }
@@ -163,7 +163,7 @@ impl<V> Twin<V> {
     pub fn put(&mut self, id: ResourceId, value: V) -> Result<(), OutOfMemory>
     where
         V: Drop,
-        ensures ok { OnOk result ((q : ResourceId) → twin_slot self.new q ≡ with_at (twin_slot self.old) id (Some (record { value = Some value })) q) }
+        ensures ok { OnOk result (Puts twin_slot self.old id (slot_with value) self.new) }
         ensures err { OnErr result ((q : ResourceId) → twin_slot self.new q ≡ twin_slot self.old q) }
         ensures no_room { OnErr result (twin_slot self.old id ≡ None) }
         ensures settled { IsSettled self.old → IsSettled self.new }
@@ -176,7 +176,7 @@ impl<V> Twin<V> {
     pub fn open(&mut self, id: ResourceId) -> Result<(), OutOfMemory>
     where
         V: Drop,
-        ensures ok { OnOk result ((q : ResourceId) → twin_slot self.new q ≡ with_at (twin_slot self.old) id (Some (record { value = None })) q) }
+        ensures ok { OnOk result (Puts twin_slot self.old id (Some (record { value = None })) self.new) }
         ensures err { OnErr result ((q : ResourceId) → twin_slot self.new q ≡ twin_slot self.old q) }
         ensures no_room { OnErr result (twin_slot self.old id ≡ None) }
         ensures settled { IsSettled self.old → IsSettled self.new }

@@ -26,6 +26,10 @@ HalvesWent {H = H} {T = T} two heads tails (Both head tail) before outcome new a
 HalvesWent {H = H} two heads tails (Head head) before outcome new after = (h : H) × (new ≡ Head h) × heads head before outcome h after
 HalvesWent {T = T} two heads tails (Tail tail) before outcome new after = (t : T) × (new ≡ Tail t) × tails tail before outcome t after
 
+-- the setup of the two in turn, or of the one that is there
+abbrev pub HalvesSetUp : {V H T E : Type 0} → Trees V H E → Trees V T E → Step V (Halves H T) E
+HalvesSetUp heads tails = HalvesWent (SetUpInTurn heads tails) heads.sets_up tails.sets_up
+
 -- how often halves may come apart
 abbrev pub halves_size : {H T : Type 0} → (H → ℕ) → (T → ℕ) → Halves H T → ℕ
 halves_size heads tails (Both head tail) = 1 + (heads head + tails tail)
@@ -65,7 +69,7 @@ halves_trees two heads tails halves = record {
 
 module _ {V H T E : Type 0} (kind : V → Kind) (heads : Trees V H E) (tails : Trees V T E) where
   -- Both ran, the head first; a run of the tail and then one of the head, with the same outcomes, reach the same; and where the outcome is Done, it is what running them in turn leaves.
-  pub record RanBeside (head : H) (tail : T) (before : Held V) (outcome : Outcome E) (head_after : H) (tail_after : T) (after : Held V) : Type 0 where
+  pub record HalvesRan (head : H) (tail : T) (before : Held V) (outcome : Outcome E) (head_after : H) (tail_after : T) (after : Held V) : Type 0 where
     pub both : BothRan kind heads tails head tail before outcome head_after tail_after after
     pub tail_first : TailRanFirst kind heads tails head tail before both.head_outcome both.tail_outcome head_after tail_after after
     pub in_turn : outcome ≡ Ok tt → RanInTurn kind heads tails head tail before outcome head_after tail_after after
@@ -73,7 +77,7 @@ module _ {V H T E : Type 0} (kind : V → Kind) (heads : Trees V H E) (tails : T
   -- both halves ran beside each other, or nothing changes, for want of memory
   abbrev pub ParRan : Two V H T E
   ParRan head tail before outcome head_after tail_after after =
-      RanBeside head tail before outcome head_after tail_after after
+      HalvesRan head tail before outcome head_after tail_after after
       ⊎ ((outcome ≡ Err OutOfMemory) × (head_after ≡ head) × (tail_after ≡ tail) × (after ≡ before))
 
 -- each half has the lists that it had

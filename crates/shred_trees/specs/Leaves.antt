@@ -5,6 +5,7 @@ use Rattle.shred_run.specs.Alone.{HadNoRoom}
 use Rattle.shred_run.specs.Steps.{Step}
 use Rattle.shred_run.specs.declared.now.Now.{Now}
 use Rattle.shred_trees.specs.Trees.{Trees}
+use Rattle.shred_run.specs.declared.system.System as systems
 
 -- It is done, and nothing changes.
 abbrev pub NilRuns : {V T E : Type 0} → Step V T E
@@ -31,3 +32,12 @@ module _ {V S E : Type 0} (step sets_up : Step V S E) (reads writes : S → List
     reads = λ now. reads now.0;
     writes = λ now. writes now.0;
   }
+
+module _ {V S E A : Type 0} (s : systems.Ghosts S V E A) where
+  -- `exact_trees`, of what the systems tell
+  abbrev pub exact_of : Trees V S E
+  exact_of = exact_trees s.step s.sets_up s.reads s.writes
+
+  -- `system_trees`, of what the systems tell
+  abbrev pub system_of : Trees V S E
+  system_of = system_trees s.step s.sets_up s.reads s.writes

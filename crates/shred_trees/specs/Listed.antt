@@ -4,5 +4,5 @@ use Rattle.shred_table.specs.declared.id.ResourceId.{ResourceId}
 use Rattle.shred_trees.specs.declared.lists.Lists.{Lists}
 
 -- the access of the two lists
-abbrev pub access_of : Lists → Access ResourceId
-access_of lists = record { reads = lists.reads.items; writes = lists.writes.items }
+abbrev pub lists_access : Lists → Access ResourceId
+lists_access lists = record { reads = lists.reads.items; writes = lists.writes.items }

@@ -1,17 +1,20 @@
 -- Runs over parts of a view.
-use Rattle.std.specs.Prelude.{◌≡◌, ◌⊎◌, List, [], ◌∷◌, Err}
+use Rattle.std.specs.Prelude.{◌≡◌, ◌⊎◌, List, [], ◌∷◌, Err, ℕ, ◌<◌, length}
 use Rattle.shred_model.specs.Runs.{first_fault}
 use Rattle.shred_table.specs.declared.id.Kind.{Kind}
 use Rattle.shred_table.specs.declared.table.Table.{Table}
-use Rattle.shred_table.specs.Parts.{Pair, reads_of, writes_of, HasNothingOut, HoldsSameIds}
+use Rattle.shred_table.specs.Parts.{Pair, reads_of, writes_of, HasNothingOut, HoldsSameIds, IsHandOf}
 use Rattle.shred_table.specs.Shown.{Lent, IsSameSlots}
 use Rattle.shred_world.specs.Worked.{part_held, KeepsUnwritten}
 use Rattle.shred_run.specs.Steps.{Outcome}
 use Rattle.shred_run.specs.declared.system.Fault.TheVariants.{OutOfMemory}
 use Rattle.shred_world.specs.declared.world.view.View.{View}
-use Rattle.shred_world.specs.Views.{view_held, IsSameView}
+use Rattle.shred_world.specs.Views.{view_held, IsSameView, view_slot}
 use Rattle.shred_world.specs.Parted.{ShowsSame}
 use Rattle.shred_trees.specs.Trees.{Trees, BothRan}
+use Rattle.shred_world.specs.declared.world.parted.Parts.{Parts}
+use Rattle.shred_world.specs.declared.world.parts.Behind.{Behind}
+use Rattle.shred_world.specs.Beside.{lent_behind, pair_behind, pairs_behind, pairs_of}
 
 -- the pair has the lists of the tree
 pub record IsPairOf {V T E : Type 0} (trees : Trees V T E) (tree : T) (pair : Pair) : Type 0 where
@@ -66,3 +69,32 @@ OneRan kind trees behind _ old _ outcome new _ = ⊥
 abbrev pub IsPairList : {V T E : Type 0} → Trees V T E → T → List Pair → Type 0
 IsPairList trees tree (p ∷ []) = IsPairOf trees tree p
 IsPairList trees tree _ = ⊥
+
+module _ {V T E : Type 0} (kind : V → Kind) (trees : Trees V T E) where
+  -- the tree ran over the pair of this number, its hand and what lies behind it
+  abbrev pub RanAt : Behind V → ℕ → T → Table V → Outcome E → T → Table V → Type 0
+  RanAt behind number old hand outcome new left = RanOverPart kind trees (lent_behind behind) (pair_behind behind number) old hand outcome new left
+
+  -- the tree ran over the only part
+  abbrev pub OneRanIn : View V → Parts V → T → Outcome E → T → Parts V → Type 0
+  OneRanIn lender parts old outcome new left = OneRan kind trees (view_slot lender) (pairs_of parts) old parts.hands.items outcome new left.hands.items
+
+  -- the two trees ran over the two parts
+  abbrev pub TwoRanIn : View V → Parts V → T → T → Outcome E → T → T → Parts V → Type 0
+  TwoRanIn lender parts first second outcome first_new second_new left = TwoRan kind trees (view_slot lender) (pairs_of parts) first second parts.hands.items outcome first_new second_new left.hands.items
+
+-- there are two parts at least
+abbrev pub AreTwo : {V : Type 0} → Behind V → Type 0
+AreTwo behind = 1 < length (pairs_behind behind)
+
+-- the hand is one of the pair of this number
+abbrev pub IsHandAt : {V : Type 0} → Behind V → ℕ → Table V → Type 0
+IsHandAt behind number hand = IsHandOf (lent_behind behind) (pair_behind behind number) hand
+
+-- the pair of this number has the lists of the tree
+abbrev pub IsPairAt : {V T E : Type 0} → Trees V T E → Behind V → ℕ → T → Type 0
+IsPairAt trees behind number tree = IsPairOf trees tree (pair_behind behind number)
+
+-- there are two parts at least, and the tree may run over that of this number
+abbrev pub MayRun : {V T E : Type 0} → Trees V T E → Behind V → ℕ → T → Table V → Type 0
+MayRun trees behind number tree hand = (1 < length (pairs_behind behind)) × IsHandOf (lent_behind behind) (pair_behind behind number) hand × IsPairOf trees tree (pair_behind behind number)

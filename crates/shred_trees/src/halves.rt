@@ -1,7 +1,7 @@
 //! Two trees, or one of the two while they run.
 ghost use Rattle.std.specs.Prelude.{◌≡◌, ◌++◌, OnErr, OnOk};
-ghost use Rattle.shred_world.specs.Worlds.{world_held};
-ghost use Rattle.shred_trees.specs.Trees.{SetUpInTurn};
+ghost use Rattle.shred_world.specs.Between.{OverWorld};
+ghost use Rattle.shred_trees.specs.Halves.{HalvesSetUp};
 
 use crate::tree::RunWithPool;
 use shred_run::Fault;
@@ -16,7 +16,7 @@ pub(crate) enum Halves<H, T> {
 }
 
 impl<H, T> Halves<H, T> {
-    ghost use Rattle.shred_trees.specs.Halves.{HalvesWent, KeepsHalfLists, halves_list};
+    ghost use Rattle.shred_trees.specs.Halves.{KeepsHalfLists, halves_list};
 
     /// Sets up the head, and where it was Done the tail.
     pub(crate) fn set_up<V: ResourceValue, E>(
@@ -26,7 +26,7 @@ impl<H, T> Halves<H, T> {
     where
         H: RunWithPool<V, E>,
         T: RunWithPool<V, E>,
-        ensures sets_up { HalvesWent (SetUpInTurn H.trees T.trees) H.trees.sets_up T.trees.sets_up self.old (world_held V.kind_of world.old) result self.new (world_held V.kind_of world.new) }
+        ensures sets_up { OverWorld V.kind_of (HalvesSetUp H.trees T.trees) self.old world.old result self.new world.new }
         ensures lists { KeepsHalfLists H.trees T.trees self.old self.new }
     {
         match self {

@@ -2,10 +2,10 @@
 ghost use Rattle.std.specs.Prelude.{◌≡◌, ◌<◌, length};
 ghost use Rattle.std.specs.List.{AllZip};
 ghost use Rattle.shred_table.specs.Parts.{IsHandOf};
-ghost use Rattle.shred_world.specs.Beside.{lender_of, lent_behind, pair_behind, pairs_behind, pairs_of, parted_of};
-ghost use Rattle.shred_world.specs.Views.{table_of, view_slot};
-ghost use Rattle.shred_trees.specs.Leaves.{exact_trees, system_trees};
-ghost use Rattle.shred_trees.specs.Parted.{IsPairOf, IsPairList, OneRan, RanOverPart};
+ghost use Rattle.shred_world.specs.Beside.{lender_of, pairs_behind, pairs_of, parted_of};
+ghost use Rattle.shred_world.specs.Views.{table_name, view_slot};
+ghost use Rattle.shred_trees.specs.Leaves.{exact_of, system_of};
+ghost use Rattle.shred_trees.specs.Parted.{IsPairList, RanAt, OneRanIn, IsHandAt, IsPairAt};
 ghost use Rattle.shred_trees.specs.TreeViews.{Covers, RanOver};
 
 use crate::lists::{Lists, append};
@@ -21,9 +21,9 @@ fn run_over<V: ResourceValue, S: System<V>>(
     hand: &mut Table<V>,
 ) -> Result<(), Fault<S::Error>>
     requires one { 0 < length (pairs_behind behind.now) }
-    requires hand { IsHandOf (lent_behind behind.now) (pair_behind behind.now 0) hand.old }
-    requires pair { IsPairOf (exact_trees S.step S.sets_up S.reads S.writes) system.old (pair_behind behind.now 0) }
-    ensures { RanOverPart V.kind_of (exact_trees S.step S.sets_up S.reads S.writes) (lent_behind behind.now) (pair_behind behind.now 0) system.old hand.old result system.new hand.new }
+    requires hand { IsHandAt behind.now 0 hand.old }
+    requires pair { IsPairAt (exact_of S.System) behind.now 0 system.old }
+    ensures { RanAt V.kind_of (exact_of S.System) behind.now 0 system.old hand.old result system.new hand.new }
 {
     let mut view = behind.view(0, hand);
     system.run(&mut view)
@@ -35,10 +35,10 @@ fn run_part<V: ResourceValue + Drop, S: System<V>>(
     parts: &mut Parts<V>,
     lender: &View<V>,
 ) -> Result<(), Fault<S::Error>>
-    requires lender { table_of lender.now ≡ lender_of parts.old }
-    requires pairs { IsPairList (exact_trees S.step S.sets_up S.reads S.writes) system.old (pairs_of parts.old) }
+    requires lender { table_name lender.now ≡ lender_of parts.old }
+    requires pairs { IsPairList (exact_of S.System) system.old (pairs_of parts.old) }
     requires hands { AllZip (IsHandOf (view_slot lender.now)) (pairs_of parts.old) parts.old.hands.items }
-    ensures ran { OneRan V.kind_of (exact_trees S.step S.sets_up S.reads S.writes) (view_slot lender.now) (pairs_of parts.old) system.old parts.old.hands.items result system.new parts.new.hands.items }
+    ensures ran { OneRanIn V.kind_of (exact_of S.System) lender.now parts.old system.old result system.new parts.new }
     ensures lender { lender_of parts.new ≡ lender_of parts.old }
     ensures parted { parted_of parts.new ≡ parted_of parts.old }
     ensures pairs { pairs_of parts.new ≡ pairs_of parts.old }
@@ -57,7 +57,7 @@ fn run_listed<V: ResourceValue + Drop, S: System<V>>(
     requires covered { Covers view.old (S.reads system.old) (S.writes system.old) }
     requires reads { lists.now.reads.items ≡ S.reads system.old }
     requires writes { lists.now.writes.items ≡ S.writes system.old }
-    ensures { RanOver V.kind_of (system_trees S.step S.sets_up S.reads S.writes) system.old view.old result system.new view.new }
+    ensures { RanOver V.kind_of (system_of S.System) system.old view.old result system.new view.new }
 {
     let pairs = [lists.pair()];
     let mut parts = match view.part(alloc, &pairs) {

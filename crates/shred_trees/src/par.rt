@@ -3,7 +3,7 @@ ghost use Rattle.std.specs.Prelude.{◌≡◌, IfOk, MatchResult};
 ghost use Rattle.shred_run.specs.Touching.{accesses_conflict, share_item};
 ghost use Rattle.shred_model.specs.Access.{Conflicts};
 ghost use Rattle.shred_table.specs.Id.{same_id};
-ghost use Rattle.shred_trees.specs.Listed.{access_of};
+ghost use Rattle.shred_trees.specs.Listed.{lists_access};
 ghost use Rattle.shred_trees.specs.Pieces.{ShapeOf};
 ghost use Rattle.shred_trees.specs.Trees.{tree_access};
 ghost use Rattle.shred_trees.specs.Withs.{IsWith};
@@ -101,7 +101,7 @@ fn share_id(first: &Vec<ResourceId>, second: &Vec<ResourceId>) -> bool
 
 // Whether one writes what the other reads or writes.
 fn is_conflict(head: &Lists, tail: &Lists) -> bool
-    ensures { result ≡ accesses_conflict same_id (access_of head.now) (access_of tail.now) }
+    ensures { result ≡ accesses_conflict same_id (lists_access head.now) (lists_access tail.now) }
 {
     share_id(&head.writes, &tail.writes)
         || (share_id(&head.writes, &tail.reads) || share_id(&head.reads, &tail.writes))

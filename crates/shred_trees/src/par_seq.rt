@@ -2,9 +2,8 @@
 ghost use Rattle.std.specs.Prelude.{◌≡◌, Ok};
 ghost use Rattle.shred_run.specs.Alone.{KeepsLists};
 ghost use Rattle.shred_table.specs.Shown.{IsSameSlots};
-ghost use Rattle.shred_table.specs.Slots.{held};
-ghost use Rattle.shred_trees.specs.Trees.{IsRun};
-ghost use Rattle.shred_world.specs.Worlds.{local_held, world_held};
+ghost use Rattle.shred_world.specs.Between.{OverWorld};
+ghost use Rattle.shred_trees.specs.ParSeqs.{TreeRanOver, TreeRanWithin, ParSeqRanOver};
 
 use crate::lists::Lists;
 use crate::tree::RunWithPool;
@@ -40,7 +39,7 @@ fn run_over<
 ) -> Result<(), Fault<E>>
     requires reads { lists.now.reads.items ≡ T.trees.reads tree.old }
     requires writes { lists.now.writes.items ≡ T.trees.writes tree.old }
-    ensures ran { IsRun V.kind_of T.trees tree.old (held V.kind_of table.old) result tree.new (held V.kind_of table.new) }
+    ensures ran { TreeRanOver V.kind_of T.trees tree.old table.old result tree.new table.new }
     ensures slots { IsSameSlots table.old table.new }
 {
     let reads = lists.reads.as_slice();
@@ -58,7 +57,7 @@ fn run_over_in_order<V: ResourceValue + Drop, E: Drop, T: RunWithPool<V, E>>(
 ) -> Result<(), Fault<E>>
     requires reads { lists.now.reads.items ≡ T.trees.reads tree.old }
     requires writes { lists.now.writes.items ≡ T.trees.writes tree.old }
-    ensures ran { IsRun V.kind_of T.trees tree.old (held V.kind_of table.old) result tree.new (held V.kind_of table.new) }
+    ensures ran { TreeRanOver V.kind_of T.trees tree.old table.old result tree.new table.new }
     ensures slots { IsSameSlots table.old table.new }
 {
     let reads = lists.reads.as_slice();
@@ -82,7 +81,7 @@ fn run_within<
 ) -> Result<(), Fault<E>>
     requires reads { lists.now.reads.items ≡ T.trees.reads tree.old }
     requires writes { lists.now.writes.items ≡ T.trees.writes tree.old }
-    ensures { IsRun V.kind_of T.trees tree.old (local_held V.kind_of world.old) result tree.new (local_held V.kind_of world.new) }
+    ensures { TreeRanWithin V.kind_of T.trees tree.old world.old result tree.new world.new }
 {
     let alloc = world.allocator();
     let twin = twin_of_local(world);
@@ -99,7 +98,7 @@ fn run_within_in_order<V: ResourceValue + Drop, E: Drop, T: RunWithPool<V, E>>(
 ) -> Result<(), Fault<E>>
     requires reads { lists.now.reads.items ≡ T.trees.reads tree.old }
     requires writes { lists.now.writes.items ≡ T.trees.writes tree.old }
-    ensures { IsRun V.kind_of T.trees tree.old (local_held V.kind_of world.old) result tree.new (local_held V.kind_of world.new) }
+    ensures { TreeRanWithin V.kind_of T.trees tree.old world.old result tree.new world.new }
 {
     let alloc = world.allocator();
     let twin = twin_of_local(world);
@@ -128,7 +127,7 @@ impl<T, E> ParSeq<T, E> {
     pub fn setup<V: ResourceValue>(&mut self, world: &mut World<V>) -> Result<(), Fault<E>>
     where
         T: RunWithPool<V, E>,
-        ensures sets_up { T.trees.sets_up (tree_of self.old) (world_held V.kind_of world.old) result (tree_of self.new) (world_held V.kind_of world.new) }
+        ensures sets_up { OverWorld V.kind_of T.trees.sets_up (tree_of self.old) world.old result (tree_of self.new) world.new }
         ensures lists { KeepsLists T.trees.reads T.trees.writes (tree_of self.old) (tree_of self.new) }
         ensures workers { workers_of self.new ≡ workers_of self.old }
     {
@@ -145,7 +144,7 @@ impl<T, E> ParSeq<T, E> {
     where
         T: RunWithPool<V, E> + Send,
         E: Drop + Send,
-        ensures ran { ParSeqRan V.kind_of T.trees (tree_of self.old) (world_held V.kind_of world.old) result (tree_of self.new) (world_held V.kind_of world.new) }
+        ensures ran { ParSeqRanOver V.kind_of T.trees self.old world.old result self.new world.new }
         ensures workers { workers_of self.new ≡ workers_of self.old }
     {
         let local = world.local();

@@ -1,5 +1,6 @@
 //! What may stand in a tree.
 ghost use Rattle.std.specs.Prelude.{◌≡◌, ◌++◌, OnErr, OnOk};
+ghost use Rattle.shred_world.specs.Between.{OverWorld};
 
 use crate::walk::run_tree;
 use shred_run::Fault;
@@ -24,7 +25,6 @@ pub trait RunWithPool<V: ResourceValue, E>: Sized + Drop {
     ghost use Rattle.shred_trees.specs.Pieces.{ComesApart, Pieces};
     ghost use Rattle.shred_trees.specs.TreeViews.{Covers, RanOver};
     ghost use Rattle.shred_trees.specs.Trees.{Trees};
-    ghost use Rattle.shred_world.specs.Worlds.{world_held};
 
     ghost trees: { Trees V Self E };
 
@@ -32,7 +32,7 @@ pub trait RunWithPool<V: ResourceValue, E>: Sized + Drop {
 
     /// What is done once, before the first run.
     fn setup(&mut self, world: &mut World<V>) -> Result<(), Fault<E>>
-        ensures sets_up { trees.sets_up self.old (world_held V.kind_of world.old) result self.new (world_held V.kind_of world.new) }
+        ensures sets_up { OverWorld V.kind_of trees.sets_up self.old world.old result self.new world.new }
         ensures reads { trees.reads self.new ≡ trees.reads self.old }
         ensures writes { trees.writes self.new ≡ trees.writes self.old };
 

@@ -4,9 +4,9 @@ ghost use Rattle.std.specs.List.{AllZip};
 ghost use Rattle.std.specs.Thread.{IsSend, IsSync};
 ghost use Rattle.shred_model.specs.Access.{Conflicts};
 ghost use Rattle.shred_table.specs.Parts.{IsHandOf};
-ghost use Rattle.shred_world.specs.Beside.{lender_of, lent_behind, pair_behind, pairs_behind, pairs_of, parted_of};
-ghost use Rattle.shred_world.specs.Views.{table_of, view_slot};
-ghost use Rattle.shred_trees.specs.Parted.{ArePairsOf, IsPairOf, RanOverPart, TwoRan, WentBeside};
+ghost use Rattle.shred_world.specs.Beside.{lender_of, pairs_behind, pairs_of, parted_of};
+ghost use Rattle.shred_world.specs.Views.{table_name, view_slot};
+ghost use Rattle.shred_trees.specs.Parted.{ArePairsOf, WentBeside, RanAt, TwoRanIn, MayRun, AreTwo, IsHandAt, IsPairAt};
 ghost use Rattle.shred_trees.specs.TreeViews.{Covers, RanOver};
 ghost use Rattle.shred_trees.specs.Trees.{tree_access};
 
@@ -56,9 +56,9 @@ fn run_part<
     hand: &mut Table<V>,
 ) -> (T, Result<(), Fault<E>>)
     requires number { number < length (pairs_behind behind.now) }
-    requires hand { IsHandOf (lent_behind behind.now) (pair_behind behind.now number) hand.old }
-    requires pair { IsPairOf T.trees tree (pair_behind behind.now number) }
-    ensures { RanOverPart V.kind_of T.trees (lent_behind behind.now) (pair_behind behind.now number) tree hand.old result.1 result.0 hand.new }
+    requires hand { IsHandAt behind.now number hand.old }
+    requires pair { IsPairAt T.trees behind.now number tree }
+    ensures { RanAt V.kind_of T.trees behind.now number tree hand.old result.1 result.0 hand.new }
 {
     let mut view = behind.view(number, hand);
     walk(rt, alloc, tree, &mut view)
@@ -80,9 +80,9 @@ fn run_part_in<
     hand: Table<V>,
 ) -> (T, Table<V>, Result<(), Fault<E>>)
     requires number { number < length (pairs_behind behind.now) }
-    requires hand { IsHandOf (lent_behind behind.now) (pair_behind behind.now number) hand }
-    requires pair { IsPairOf T.trees tree (pair_behind behind.now number) }
-    ensures { RanOverPart V.kind_of T.trees (lent_behind behind.now) (pair_behind behind.now number) tree hand result.2 result.0 result.1 }
+    requires hand { IsHandAt behind.now number hand }
+    requires pair { IsPairAt T.trees behind.now number tree }
+    ensures { RanAt V.kind_of T.trees behind.now number tree hand result.2 result.0 result.1 }
 {
     let mut hand = hand;
     let (tree, outcome) = run_part(rt, alloc, tree, behind, number, &mut hand);
@@ -108,23 +108,23 @@ fn fork<
     (T, Table<V>, Result<(), Fault<E>>),
     (T, Table<V>, Result<(), Fault<E>>),
 )
-    requires two { 1 < length (pairs_behind behind.now) }
-    requires first_hand { IsHandOf (lent_behind behind.now) (pair_behind behind.now 0) first_hand }
-    requires first_pair { IsPairOf T.trees first (pair_behind behind.now 0) }
-    requires second_hand { IsHandOf (lent_behind behind.now) (pair_behind behind.now 1) second_hand }
-    requires second_pair { IsPairOf T.trees second (pair_behind behind.now 1) }
-    ensures first { RanOverPart V.kind_of T.trees (lent_behind behind.now) (pair_behind behind.now 0) first first_hand result.0.2 result.0.0 result.0.1 }
-    ensures second { RanOverPart V.kind_of T.trees (lent_behind behind.now) (pair_behind behind.now 1) second second_hand result.1.2 result.1.0 result.1.1 }
+    requires two { AreTwo behind.now }
+    requires first_hand { IsHandAt behind.now 0 first_hand }
+    requires first_pair { IsPairAt T.trees behind.now 0 first }
+    requires second_hand { IsHandAt behind.now 1 second_hand }
+    requires second_pair { IsPairAt T.trees behind.now 1 second }
+    ensures first { RanAt V.kind_of T.trees behind.now 0 first first_hand result.0.2 result.0.0 result.0.1 }
+    ensures second { RanAt V.kind_of T.trees behind.now 1 second second_hand result.1.2 result.1.0 result.1.1 }
 {
     join(
         rt,
         move || -> (T, Table<V>, Result<(), Fault<E>>)
-            requires { IsSync R.row × IsSync V.row × IsSend V.row × IsSend T.row × IsSend E.row × (1 < length (pairs_behind behind.now)) × IsHandOf (lent_behind behind.now) (pair_behind behind.now 0) first_hand × IsPairOf T.trees first (pair_behind behind.now 0) }
-            ensures { RanOverPart V.kind_of T.trees (lent_behind behind.entry.now) (pair_behind behind.entry.now 0) first first_hand result.2 result.0 result.1 }
+            requires { IsSync R.row × IsSync V.row × IsSend V.row × IsSend T.row × IsSend E.row × MayRun T.trees behind.now 0 first first_hand }
+            ensures { RanAt V.kind_of T.trees behind.entry.now 0 first first_hand result.2 result.0 result.1 }
         { run_part_in(rt, alloc, first, behind, 0, first_hand) },
         move || -> (T, Table<V>, Result<(), Fault<E>>)
-            requires { IsSync R.row × IsSync V.row × IsSend V.row × IsSend T.row × IsSend E.row × (1 < length (pairs_behind behind.now)) × IsHandOf (lent_behind behind.now) (pair_behind behind.now 1) second_hand × IsPairOf T.trees second (pair_behind behind.now 1) }
-            ensures { RanOverPart V.kind_of T.trees (lent_behind behind.entry.now) (pair_behind behind.entry.now 1) second second_hand result.2 result.0 result.1 }
+            requires { IsSync R.row × IsSync V.row × IsSend V.row × IsSend T.row × IsSend E.row × MayRun T.trees behind.now 1 second second_hand }
+            ensures { RanAt V.kind_of T.trees behind.entry.now 1 second second_hand result.2 result.0 result.1 }
         { run_part_in(rt, alloc, second, behind, 1, second_hand) },
     )
 }
@@ -144,10 +144,10 @@ fn run_parts<
     parts: &mut Parts<V>,
     lender: &View<V>,
 ) -> (T, T, Result<(), Fault<E>>)
-    requires lender { table_of lender.now ≡ lender_of parts.old }
+    requires lender { table_name lender.now ≡ lender_of parts.old }
     requires pairs { ArePairsOf T.trees first second (pairs_of parts.old) }
     requires hands { AllZip (IsHandOf (view_slot lender.now)) (pairs_of parts.old) parts.old.hands.items }
-    ensures ran { TwoRan V.kind_of T.trees (view_slot lender.now) (pairs_of parts.old) first second parts.old.hands.items result.2 result.0 result.1 parts.new.hands.items }
+    ensures ran { TwoRanIn V.kind_of T.trees lender.now parts.old first second result.2 result.0 result.1 parts.new }
     ensures lender { lender_of parts.new ≡ lender_of parts.old }
     ensures parted { parted_of parts.new ≡ parted_of parts.old }
     ensures pairs { pairs_of parts.new ≡ pairs_of parts.old }

@@ -6,7 +6,7 @@ use Rattle.shred_table.specs.declared.table.Table.{Table}
 use Rattle.shred_world.specs.declared.world.view.Shelf.{Shelf}
 use Rattle.shred_world.specs.declared.world.parts.Behind.{Behind}
 use Rattle.shred_world.specs.declared.world.parted.Parts.{Parts}
-use Rattle.shred_table.specs.Parts.{Pair, writes_of, declares}
+use Rattle.shred_table.specs.Parts.{Pair, writes_of, declares, reads_of}
 use Rattle.shred_table.specs.Shown.{Lent}
 use Rattle.shred_table.specs.Slots.{slot_at, among}
 use Rattle.shred_world.specs.Views.{lent_slot}
@@ -46,3 +46,11 @@ part_slot behind p hand q = cond (among (writes_of p) q) (slot_at hand q) (behin
 -- over the hand, a view of the pair shows these slots for the ids that the pair declares
 abbrev pub ShowsDeclared : {V : Type 0} → (behind first : Lent V) → Pair → Table V → Type 0
 ShowsDeclared behind first p hand = (q : ResourceId) → IsTrue (declares p q) → part_slot behind p hand q ≡ first q
+
+-- the ids that the pair of this number reads
+abbrev pub reads_behind : {V : Type 0} → Behind V → ℕ → List ResourceId
+reads_behind behind number = reads_of (pair_behind behind number)
+
+-- the ids that the pair of this number writes
+abbrev pub writes_behind : {V : Type 0} → Behind V → ℕ → List ResourceId
+writes_behind behind number = writes_of (pair_behind behind number)

@@ -24,17 +24,17 @@ abbrev pub moved_of_read : {T F : Type 0} → Read T F → Option T
 moved_of_read r = moved_out (Some r.resource)
 
 -- the value that was moved out to be read, under its id
-abbrev pub moved_in : {V T : Type 0} → (T → V) → ResourceId → Handed T → List (ResourceId × V)
-moved_in wrapped id (Moved r) = (id, wrapped r) ∷ []
-moved_in wrapped id (Lent r) = []
+abbrev pub moved_as_read : {V T : Type 0} → (T → V) → ResourceId → Handed T → List (ResourceId × V)
+moved_as_read wrapped id (Moved r) = (id, wrapped r) ∷ []
+moved_as_read wrapped id (Lent r) = []
 
 -- the same, of what is read
 abbrev pub moved_to_read : {V T F : Type 0} → (T → V) → ResourceId → Read T F → List (ResourceId × V)
-moved_to_read wrapped id r = moved_in wrapped id r.resource
+moved_to_read wrapped id r = moved_as_read wrapped id r.resource
 
 -- the same, of what may be absent
 abbrev pub moved_if_read : {V T F : Type 0} → (T → V) → ResourceId → Option (Read T F) → List (ResourceId × V)
-moved_if_read wrapped id (Some r) = moved_in wrapped id r.resource
+moved_if_read wrapped id (Some r) = moved_as_read wrapped id r.resource
 moved_if_read wrapped id None = []
 
 -- the value that was moved out to be written, under its id

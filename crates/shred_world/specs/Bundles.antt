@@ -5,9 +5,11 @@ use Rattle.shred_table.specs.declared.id.ResourceId.{ResourceId}
 use Rattle.shred_world.specs.declared.world.WorldError.{WorldError}
 use Rattle.shred_world.specs.declared.world.view.DataError.{DataError}
 use Rattle.shred_world.specs.declared.world.view.DataError.TheVariants.{OutOfMemory}
-use Rattle.shred_world.specs.Grants.{Grant, without, Moved}
+use Rattle.shred_world.specs.Grants.{Grant, without, Moved, given_back, grant_of}
 use Rattle.shred_table.specs.Slots.{among}
 use Rattle.shred_world.specs.Views.{refusal}
+use Rattle.shred_world.specs.Handing.{moved_value}
+use Rattle.shred_world.specs.declared.world.view.View.{View}
 
 -- a part of a bundle: the kind of its type, its id, whether it is to be written, and whether it may be absent
 pub record Part : Type 0 where
@@ -98,3 +100,24 @@ abbrev pub SetupBoth : {V : Type 0} → Setup V → Setup V → Setup V
 SetupBoth {V} First Second before answer after =
     ((middle : ResourceId → Option V) × First before (Ok tt) middle × Second middle answer after)
     ⊎ ((error : WorldError) × First before (Err error) after × (answer ≡ Err error))
+
+module _ {V : Type 0} (kind : V → Kind) (view : View V) (parts : List Part) where
+  -- what the parts show of what the view grants
+  abbrev pub parts_shown : List (Option V)
+  parts_shown = shown_parts (grant_of kind view) parts
+
+  -- what is moved out of the view for the parts
+  abbrev pub parts_moved : Moved V
+  parts_moved = moved_parts (grant_of kind view) parts
+
+  -- the view after the parts were handed out
+  abbrev pub LacksParts : View V → Type 0
+  LacksParts new = grant_of kind new ≡ after_parts (grant_of kind view) parts
+
+-- the view after these values were given back
+abbrev pub HasBack : {V : Type 0} → (V → Kind) → View V → Moved V → View V → Type 0
+HasBack kind old moved new = grant_of kind new ≡ given_back (grant_of kind old) moved
+
+-- the view after what it moves out for the id was handed out
+abbrev pub LacksMoved : {V : Type 0} → (V → Kind) → View V → ResourceId → View V → Type 0
+LacksMoved kind old id new = grant_of kind new ≡ after_moved (grant_of kind old) id (moved_value kind old id)

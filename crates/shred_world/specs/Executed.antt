@@ -8,7 +8,14 @@ use Rattle.shred_world.specs.declared.world.WorldError.TheVariants as world
 use Rattle.shred_world.specs.declared.world.view.DataError.{DataError}
 use Rattle.shred_world.specs.declared.world.view.DataError.TheVariants as of_data
 use Rattle.shred_world.specs.Bundles.{Part, IsRefused, bundle_refusal, shown_parts, moved_parts, after_parts, Setup, ids_of}
-use Rattle.shred_world.specs.Grants.{Grant, map_grant, Moved, given_back}
+use Rattle.shred_world.specs.Grants.{Grant, map_grant, Moved, given_back, grant_of}
+use Rattle.shred_table.specs.declared.id.Kind.{Kind}
+use Rattle.shred_table.specs.declared.table.Table.{Table}
+use Rattle.shred_world.specs.declared.world.view.View.{View}
+use Rattle.shred_table.specs.Slots.{held}
+use Rattle.shred_world.specs.declared.world.bundle.SystemData as bundles
+use Rattle.shred_world.specs.Worlds.{world_held}
+use Rattle.shred_world.specs.declared.world.World.{World}
 
 -- the refusal of a bundle that has the name of a world's
 abbrev pub as_data_error : WorldError → DataError
@@ -47,3 +54,28 @@ abbrev pub IsExecuted : {V D F A : Type 0} → Setup V → Once F (MutBor D × U
 IsExecuted {V} SetsUp once run shows moved parts before result after =
     ((error : WorldError) × SetsUp before (Err error) after × (result ≡ Err (as_data_error error)))
     ⊎ ((middle : ResourceId → Option V) × SetsUp before (Ok tt) middle × IsHeldAfter once run shows moved parts middle result after)
+
+module _ {V D F A : Type 0} (kind : V → Kind) (once : Once F (MutBor D × Unit {0}) (A × (MutBor D × Unit {0}))) (run : F) (d : bundles.Ghosts D V) where
+  -- after each setup that is done the closure may be called
+  abbrev pub MayCallAfter : World V → Type 0
+  MayCallAfter world = (middle : ResourceId → Option V) → d.sets_up (world_held kind world) (Ok tt) middle → MayCall once run d.shows d.moved (map_grant middle) d.parts
+
+  -- after each setup that is done the closure leaves the ids that its bundle had
+  abbrev pub KeepsIdsAfter : World V → Type 0
+  KeepsIdsAfter world = (middle : ResourceId → Option V) → d.sets_up (world_held kind world) (Ok tt) middle → KeepsIds once run d.shows d.moved (map_grant middle) d.parts
+
+  -- `IsExecuted`, of what the world holds
+  abbrev pub IsExecutedOver : World V → Result A DataError → World V → Type 0
+  IsExecutedOver old result new = IsExecuted d.sets_up once run d.shows d.moved d.parts (world_held kind old) result (world_held kind new)
+
+  -- `IsCalled`, of what the view grants
+  abbrev pub IsCalledOver : View V → Result A DataError → View V → Type 0
+  IsCalledOver old result new = IsCalled once run d.shows d.moved d.parts (grant_of kind old) result (grant_of kind new)
+
+  -- the closure may be called with any bundle that is taken of what the table holds
+  abbrev pub MayCallOnTable : Table V → Type 0
+  MayCallOnTable table = MayCall once run d.shows d.moved (map_grant (held kind table)) d.parts
+
+  -- `IsHeldAfter`, of what the table holds
+  abbrev pub IsCalledOnTable : Table V → Result A DataError → Table V → Type 0
+  IsCalledOnTable old result new = IsHeldAfter once run d.shows d.moved d.parts (held kind old) result (held kind new)

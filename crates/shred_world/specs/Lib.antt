@@ -2,10 +2,12 @@ pub mod Lent
 pub mod Fetched
 pub mod Views
 pub mod Worlds
+pub mod Refusals
 pub mod Beside
 pub mod OwnViews
 pub mod KeptViews
 pub mod Worked
+pub mod Between
 pub mod Entries
 pub mod Grants
 pub mod Bundles

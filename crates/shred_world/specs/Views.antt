@@ -1,5 +1,5 @@
 -- Views: the declared ids, what is held under them, and what is out.
-use Rattle.std.specs.Prelude.{◌≡◌, ℕ, Bool, false, Option, Some, None, cond, nat_eq, ◌&&◌, ◌||◌, List, [], ◌∷◌, is_some, length, ◌==◌}
+use Rattle.std.specs.Prelude.{◌≡◌, ℕ, Bool, false, Option, Some, None, cond, nat_eq, ◌&&◌, ◌||◌, List, [], ◌∷◌, is_some, length, ◌==◌, IsTrue}
 use Rattle.shred_table.specs.declared.id.Kind.{Kind}
 use Rattle.shred_table.specs.declared.id.ResourceId.{ResourceId}
 use Rattle.shred_table.specs.declared.table.Slot.{Slot}
@@ -81,8 +81,8 @@ abbrev pub declared_held : {V : Type 0} → (V → Kind) → View V → Resource
 declared_held kind v id = cond (may_read v id) (view_held kind v id) None
 
 -- the name of the table behind the view
-abbrev pub table_of : {V : Type 0} → View V → ℕ
-table_of v = v.own.ghost_name
+abbrev pub table_name : {V : Type 0} → View V → ℕ
+table_name v = v.own.ghost_name
 
 -- the same lists, and the same tables behind the view's own
 pub record HasSameLists {V : Type 0} (old new : View V) : Type 0 where
@@ -101,7 +101,7 @@ pub record IsSameLoan {V : Type 0} (old new : View V) : Type 0 where
   pub shelf : (id : ResourceId) → lent_to new id ≡ lent_to old id
   pub own : (id : ResourceId) → is_own new id ≡ is_own old id
   pub whole : is_whole new ≡ is_whole old
-  pub table : table_of new ≡ table_of old
+  pub table : table_name new ≡ table_name old
   pub slots : (id : ResourceId) → is_some (slot_at new.own.now id) ≡ is_some (slot_at old.own.now id)
   pub others : (id : ResourceId) → is_own old id ≡ false → slot_at new.own.now id ≡ slot_at old.own.now id
 
@@ -113,7 +113,7 @@ pub record IsSameView {V : Type 0} (old new : View V) : Type 0 where
   pub shelf : (id : ResourceId) → lent_to new id ≡ lent_to old id
   pub own : (id : ResourceId) → is_own new id ≡ is_own old id
   pub whole : is_whole new ≡ is_whole old
-  pub table : table_of new ≡ table_of old
+  pub table : table_name new ≡ table_name old
   pub slots : (id : ResourceId) → is_some (slot_at new.own.now id) ≡ is_some (slot_at old.own.now id)
   pub others : (id : ResourceId) → is_own old id ≡ false → slot_at new.own.now id ≡ slot_at old.own.now id
   pub out : (id : ResourceId) → is_out new id ≡ is_out old id
@@ -137,3 +137,19 @@ bases_of v = v.base.now
 -- whether the view has noted that the id's value may be out
 abbrev pub noted : {V : Type 0} → View V → ResourceId → Bool
 noted v id = noted_in v.own.now id
+
+-- the first test that the view's value under the id fails, where the kind is asked for and these ids may be looked at
+abbrev pub view_refusal : {V : Type 0} → (V → Kind) → (View V → ResourceId → Bool) → View V → Kind → ResourceId → Option DataError
+view_refusal kind may v asked id = refusal asked id (may v id) (is_out v id) (is_some (view_held kind v id))
+
+-- the table lies before what the shelf shows: it is asked for these ids, or for all where nothing is behind it
+abbrev pub ShowsBefore : {V : Type 0} → Table V → List ResourceId → List (Shelf V) → Shelf V → Type 0
+ShowsBefore table owned behind shelf = (q : ResourceId) → shelf_slot shelf q ≡ cond ((length behind == 0) || among owned q) (slot_at table q) (lent_slot behind q)
+
+-- the same where the table that a world lends lies behind
+abbrev pub ShowsBeforeAll : {V : Type 0} → Table V → List ResourceId → List (Table V) → List (Shelf V) → Shelf V → Type 0
+ShowsBeforeAll table owned base behind shelf = (q : ResourceId) → shelf_slot shelf q ≡ cond (none_behind base behind || among owned q) (slot_at table q) (behind_slot base behind q)
+
+-- each of these ids passes the test
+abbrev pub AreWithin : List ResourceId → (ResourceId → Bool) → Type 0
+AreWithin ids test = (id : ResourceId) → IsTrue (among ids id) → IsTrue (test id)

@@ -1,9 +1,13 @@
 -- Work over the view of each part of a view that was parted.
-use Rattle.std.specs.Prelude.{◌≡◌, false, IsTrue, Option, None, cond, List, [], ◌∷◌, is_some}
+use Rattle.std.specs.Prelude.{◌≡◌, ℕ, false, IsTrue, Option, None, cond, List, [], ◌∷◌, is_some}
 use Rattle.shred_table.specs.declared.id.Kind.{Kind}
 use Rattle.shred_table.specs.declared.id.ResourceId.{ResourceId}
 use Rattle.shred_table.specs.declared.table.Table.{Table}
-use Rattle.shred_world.specs.Beside.{part_slot}
+use Rattle.shred_world.specs.declared.world.parted.Parts.{Parts}
+use Rattle.shred_world.specs.declared.world.parts.Behind.{Behind}
+use Rattle.shred_world.specs.declared.world.view.View.{View}
+use Rattle.shred_world.specs.Beside.{lent_behind, pair_behind, pairs_behind, pairs_of, part_slot}
+use Rattle.shred_world.specs.Views.{declared_held, view_held}
 use Rattle.shred_table.specs.Parts.{Pair, reads_of, writes_of, declares, written_by, HasNothingOut, HoldsSameIds}
 use Rattle.shred_table.specs.Shown.{Lent, IsSameSlots}
 use Rattle.shred_table.specs.Slots.{among, slot_held}
@@ -59,3 +63,28 @@ KeepsRest pairs before after = (q : ResourceId) → written_by pairs q ≡ false
 -- values are held under the same ids
 abbrev pub KeepsHeldIds : {V : Type 0} → Held V → Held V → Type 0
 KeepsHeldIds before after = (q : ResourceId) → is_some (after q) ≡ is_some (before q)
+
+-- the work's relation leads from the declared values that the view shows to those that it shows after
+abbrev pub WorksOver : {V W : Type 0} → (V → Kind) → Works V W → W → View V → W → View V → Type 0
+WorksOver kind works before old after new = works before old.reads.now old.writes.now (declared_held kind old) after (declared_held kind new)
+
+module _ {V W : Type 0} (kind : V → Kind) (works : Works V W) where
+  -- the work's relation leads from the values that the pair of this number declares, over the hand, to those over what is left in it
+  abbrev pub WorksAt : Behind V → ℕ → W → Table V → W → Table V → Type 0
+  WorksAt behind number before hand after left = works before (reads_of (pair_behind behind number)) (writes_of (pair_behind behind number)) (part_held kind (lent_behind behind) (pair_behind behind number) hand) after (part_held kind (lent_behind behind) (pair_behind behind number) left)
+
+  -- the work was done over each pair and its hand, one after the other
+  abbrev pub IsWorkedBehind : Behind V → List (Table V) → W → List (Table V) → W → Type 0
+  IsWorkedBehind behind hands before left after = IsWorkedEach kind works (lent_behind behind) (pairs_behind behind) hands before left after
+
+  -- the same of the parts, with these slots behind their hands
+  abbrev pub IsWorkedParts : Lent V → Parts V → W → Parts V → W → Type 0
+  IsWorkedParts behind parts before left after = IsWorkedEach kind works behind (pairs_of parts) parts.hands.items before left.hands.items after
+
+  -- `IsWorked`, of what the view shows before and after
+  abbrev pub IsWorkedIn : List Pair → View V → W → View V → W → Type 0
+  IsWorkedIn pairs old before new after = IsWorked works pairs (view_held kind old) before (view_held kind new) after
+
+-- under the ids that the pair of this number does not write the values are as they were
+abbrev pub KeepsUnwrittenAt : {V : Type 0} → (V → Kind) → Behind V → ℕ → (hand left : Table V) → Type 0
+KeepsUnwrittenAt kind behind number hand left = KeepsUnwritten (pair_behind behind number) (part_held kind (lent_behind behind) (pair_behind behind number) hand) (part_held kind (lent_behind behind) (pair_behind behind number) left)

@@ -10,6 +10,7 @@ use Rattle.shred_world.specs.declared.world.local.LocalWorld.{LocalWorld}
 use Rattle.shred_world.specs.declared.world.WorldError.{WorldError}
 use Rattle.shred_world.specs.declared.world.WorldError.TheVariants.{OutOfMemory}
 use Rattle.shred_table.specs.Slots.{among, with_at}
+use Rattle.shred_table.specs.Id.{id_of}
 
 -- what a world lends to be read and written while the ids stay
 abbrev pub local_of : {V : Type 0} → World V → LocalWorld V
@@ -57,3 +58,15 @@ IsFilled {V} {R} wrapped Made id before after = MatchOption (before id)
 abbrev pub IsProvided : {V R : Type 0} → (R → V) → (R → Type 0) → ResourceId → (ResourceId → Option V) → Result (Unit {0}) WorldError → (ResourceId → Option V) → Type 0
 IsProvided wrapped Made id before (Ok done) after = IsFilled wrapped Made id before after
 IsProvided wrapped Made id before (Err error) after = (error ≡ OutOfMemory) × (before id ≡ None) × ((q : ResourceId) → after q ≡ before q)
+
+-- the world holds what it held where that has a value under the id, or else with one of the resources that may be made
+abbrev pub FillsWorld : {V R : Type 0} → (V → Kind) → (R → V) → (R → Type 0) → ResourceId → World V → World V → Type 0
+FillsWorld kind wrapped Made id old new = IsFilled wrapped Made id (world_held kind old) (world_held kind new)
+
+-- what a world holds under number 0 of the kind
+abbrev pub world_first : {V : Type 0} → (V → Kind) → Kind → World V → Option V
+world_first kind asked w = world_held kind w (id_of asked 0)
+
+-- what a local world holds under number 0 of the kind
+abbrev pub local_first : {V : Type 0} → (V → Kind) → Kind → LocalWorld V → Option V
+local_first kind asked l = local_held kind l (id_of asked 0)

@@ -27,6 +27,22 @@ cell_text None = codes "-"
 abbrev pub row_text : ℕ → Option ℤ → Option ℤ → Option ℤ → List ℕ
 row_text entity first second third = codes "e" ++ decimal entity ++ codes " " ++ cell_text first ++ codes " " ++ cell_text second ++ codes " " ++ cell_text third
 
+-- the first entity has 1, 2 and 0
+abbrev pub HasFirstBefore : Contents → Type 0
+HasFirstBefore contents = HasRow contents 0 (Some (pos 1)) (Some (pos 2)) (Some (pos 0))
+
+-- the second entity has 10, nothing and 7
+abbrev pub HasSecondBefore : Contents → Type 0
+HasSecondBefore contents = HasRow contents 1 (Some (pos 10)) None (Some (pos 7))
+
+-- the first entity has 8, 5 and 11
+abbrev pub HasFirstAfter : Contents → Type 0
+HasFirstAfter contents = HasRow contents 0 (Some (pos 8)) (Some (pos 5)) (Some (pos 11))
+
+-- the second entity has 10, nothing and 27
+abbrev pub HasSecondAfter : Contents → Type 0
+HasSecondAfter contents = HasRow contents 1 (Some (pos 10)) None (Some (pos 27))
+
 -- what the demo prints: the two entities after two ticks, and that all is well
 abbrev pub demo_text : List ℕ
 demo_text = line_of (row_text 0 (Some (pos 8)) (Some (pos 5)) (Some (pos 11))) ++ (line_of (row_text 1 (Some (pos 10)) None (Some (pos 27))) ++ line_of (codes "ok"))
@@ -36,3 +52,7 @@ abbrev pub HasShown : ℕ → Option (List ℕ) → Option (List ℕ) → Option
 HasShown status out out_after err err_after =
     ((status ≡ 0) × Appends out out_after demo_text × Keeps err err_after)
     ⊎ ((status ≡ 1) × AppendsBeginning out out_after demo_text × AppendsBeginning err err_after (line_of (codes "demo failed")))
+
+-- the line of what the entity has in the tables 0, 1 and 2
+abbrev pub row_line : Contents → ℕ → List ℕ
+row_line contents entity = line_of (row_text entity (contents.facts.value entity 0) (contents.facts.value entity 1) (contents.facts.value entity 2))

@@ -1,6 +1,6 @@
 //! The store that is shown.
-ghost use Rattle.std.specs.Prelude.{◌≡◌, Some, None, IfOk, OnOk, pos};
-ghost use Rattle.shredcommand.specs.Shown.{HasRow, demo_rules};
+ghost use Rattle.std.specs.Prelude.{◌≡◌, IfOk, OnOk};
+ghost use Rattle.shredcommand.specs.Shown.{demo_rules, HasFirstBefore, HasSecondBefore, HasFirstAfter, HasSecondAfter};
 ghost use Rattle.shredstore.specs.Stores.{contents_of, rules_of};
 
 use shredstore::{Store, StoreError, StoreRule, TickError};
@@ -16,8 +16,8 @@ const RULES: [StoreRule; 3] = [
 
 /// Three tables, and two entities: 0 with 1, 2 and 0, and 1 with 10, nothing and 7.
 pub(crate) fn two_entities(alloc: Global) -> Result<Store, StoreError>
-    ensures first { IfOk result (λ store. HasRow (contents_of store) 0 (Some (pos 1)) (Some (pos 2)) (Some (pos 0))) }
-    ensures second { IfOk result (λ store. HasRow (contents_of store) 1 (Some (pos 10)) None (Some (pos 7))) }
+    ensures first { IfOk result (λ store. HasFirstBefore (contents_of store)) }
+    ensures second { IfOk result (λ store. HasSecondBefore (contents_of store)) }
     ensures rules { IfOk result (λ store. rules_of store ≡ demo_rules) }
 {
     let mut store = Store::new(alloc, 3, &RULES)?;
@@ -33,8 +33,8 @@ pub(crate) fn two_entities(alloc: Global) -> Result<Store, StoreError>
 
 /// Ticks twice, on threads.
 pub(crate) fn tick_twice<T: Threads + Sync>(rt: &T, store: &mut Store) -> Result<(), TickError>
-    ensures first { rules_of store.old ≡ demo_rules → HasRow (contents_of store.old) 0 (Some (pos 1)) (Some (pos 2)) (Some (pos 0)) → OnOk result (HasRow (contents_of store.new) 0 (Some (pos 8)) (Some (pos 5)) (Some (pos 11))) }
-    ensures second { rules_of store.old ≡ demo_rules → HasRow (contents_of store.old) 1 (Some (pos 10)) None (Some (pos 7)) → OnOk result (HasRow (contents_of store.new) 1 (Some (pos 10)) None (Some (pos 27))) }
+    ensures first { rules_of store.old ≡ demo_rules → HasFirstBefore (contents_of store.old) → OnOk result (HasFirstAfter (contents_of store.new)) }
+    ensures second { rules_of store.old ≡ demo_rules → HasSecondBefore (contents_of store.old) → OnOk result (HasSecondAfter (contents_of store.new)) }
 {
     store.tick(rt)?;
     store.tick(rt)

@@ -3,7 +3,7 @@ use Rattle.std.specs.Prelude.{◌≡◌, ℕ, ℤ, pos, negsuc, [], ◌∷◌, S
 use Rattle.shred_model.specs.Record.{Agent}
 use Rattle.shred_run.specs.Controls.{Control, SaysYes}
 use Rattle.shred_run.specs.Multi.{controller_of}
-use Rattle.shred_run.specs.Depths.{Related, lists_of, relations_of}
+use Rattle.shred_run.specs.Depths.{Related, relations_of}
 use Rattle.shred_run.specs.declared.multi.MultiDispatcher.{MultiDispatcher}
 use Rattle.shred_run.specs.declared.work.Nested.{Nested}
 use Rattle.shred_run.specs.declared.work.Work.{Work}
@@ -72,7 +72,7 @@ RoundsSituation = Situation (Only ℤ) (Plain Add) (MultiDispatcher AsOften)
 
 -- what its systems do, and its controllers: a batch has so many rounds as it is told, and in each its plan runs
 abbrev pub rounds_related : Related (Only ℤ) (Plain Add) (MultiDispatcher AsOften) DataError
-rounds_related = relations_of (lists_of (λ system. []) (λ system. number_id system.0.to ∷ []) (λ multi. number_id multi.controller.at ∷ []) (λ multi. [])) PlainAddStep (λ before seen bound after left. PlansAsOften before.controller seen bound after.controller left) SaysYes
+rounds_related = relations_of (record { reads = λ system. []; writes = λ system. number_id system.0.to ∷ []; control_reads = λ multi. number_id multi.controller.at ∷ []; control_writes = λ multi. [] }) PlainAddStep (λ before seen bound after left. PlansAsOften before.controller seen bound after.controller left) SaysYes
 
 -- The number is left at place 0 by a dispatch of that plan, which was Done, over 5 at place 0 and the rounds at place 1.
 pub record AreLeftByRounds (rounds number : ℤ) : Type 0 where

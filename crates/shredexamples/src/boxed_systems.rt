@@ -5,7 +5,7 @@ ghost use Rattle.shred_table.specs.Accessors.{batch_reads, batch_writes};
 ghost use Rattle.shred_table.specs.declared.id.ResourceId.{ResourceId};
 ghost use Rattle.shred_table.specs.declared.only.Only.{Only};
 ghost use Rattle.shred_world.specs.OwnViews.{IsLent};
-ghost use Rattle.shred_world.specs.Views.{view_held, declared_held, may_write, table_of, IsSameView};
+ghost use Rattle.shred_world.specs.Views.{view_held, declared_held, may_write, table_name, IsSameView};
 ghost use Rattle.shred_world.specs.Worked.{Held};
 ghost use Rattle.shred_world.specs.declared.world.view.DataError.{DataError};
 ghost use Rattle.shredexamples.specs.Numbers.{kind_of};
@@ -27,7 +27,7 @@ pub trait AnyJob: Drop {
     fn run_job(&mut self, view: &mut View<Only<i64>>) -> Result<(), Fault<DataError>>
         requires lent { IsLent view.old (job_reads self.old) (job_writes self.old) }
         ensures step { job_step self.old (declared_held kind_of view.old) result (declared_held kind_of view.new) }
-        ensures table { table_of view.new ≡ table_of view.old }
+        ensures table { table_name view.new ≡ table_name view.old }
         ensures view { IsSameView view.old view.new }
         ensures ids { (id : ResourceId) → is_some (view_held kind_of view.new id) ≡ is_some (view_held kind_of view.old id) }
         ensures frame { (id : ResourceId) → may_write view.old id ≡ false → view_held kind_of view.new id ≡ view_held kind_of view.old id }

@@ -16,7 +16,7 @@ use Rattle.shred_run.specs.declared.no_batch.NoBatch.{NoBatch}
 use Rattle.shred_run.specs.Controls.{Refuses}
 use Rattle.shred_run.specs.declared.system.Fault.{Fault}
 use Rattle.shred_run.specs.declared.system.Fault.TheVariants.{OutOfMemory}
-use Rattle.shred_run.specs.Depths.{Declared, Related, lists_of, relations_of}
+use Rattle.shred_run.specs.Depths.{Declared, Related, relations_of}
 use Rattle.shred_run.specs.Dispatched.{Dispatched, Situation, configuration_in, occupants_of}
 use Rattle.shred_run.specs.NestedRecords.{NestedRecord}
 use Rattle.shred_run.specs.Steps.{Step}
@@ -66,7 +66,7 @@ adds before seen outcome after left = adds_one before.0 seen outcome after.0 lef
 
 -- the lists that they declare
 abbrev lists : Declared (Plain AddOne) (NoBatch DataError)
-lists = lists_of (λ system. count_id 0 ∷ []) (λ system. count_id system.0.number ∷ []) (λ none. []) (λ none. [])
+lists = record { reads = λ system. count_id 0 ∷ []; writes = λ system. count_id system.0.number ∷ []; control_reads = λ none. []; control_writes = λ none. [] }
 
 -- the relations of the systems that are dispatched, and of the controllers, of which none begins
 abbrev related : Related (Only ℤ) (Plain AddOne) (NoBatch DataError) DataError

@@ -4,7 +4,7 @@ use Rattle.std.proofs.lemmas.Bool.{eq-eqb}
 use Rattle.std.proofs.lemmas.Bool.Decides.{nat_tests}
 use Rattle.std.specs.List.{AllZip}
 use Rattle.shred_choices.specs.declared.choices.Choice.{Choice}
-use Rattle.shred_choices.specs.Choices.{IsChoice, Picks, pairs_of}
+use Rattle.shred_choices.specs.Choices.{IsChoice, Picks, later_pairs}
 use Rattle.shredplan_text.specs.declared.plans.Plan.{Plan}
 use Rattle.shredplan_text.specs.Plans.{HasChoice, HasChoices, order_of}
 
@@ -53,7 +53,7 @@ full-choice [] [] zipped (k, choices, within, is, full) = absurd (omega arith)
 full-choice [] (choices ∷ all) zipped any = absurd zipped
 full-choice (plan ∷ plans) [] zipped any = absurd zipped
 full-choice (plan ∷ plans) (choices ∷ all) (picks, zipped) (zero, found, within, is, full) =
-    any-first HasChoice plan plans (some-any (IsChoice plan.declarations.entries.items) (pairs_of (order_of plan)) choices.items picks (full-some choices (subst IsFull (sym is) full)))
+    any-first HasChoice plan plans (some-any (IsChoice plan.declarations.entries.items) (later_pairs (order_of plan)) choices.items picks (full-some choices (subst IsFull (sym is) full)))
 full-choice (plan ∷ plans) (choices ∷ all) (picks, zipped) (suc k, found, within, is, full) =
     any-behind HasChoice plan plans (full-choice plans all zipped (k, found, omega arith, is, full))
 
@@ -62,6 +62,6 @@ pub choice-full : (plans : List Plan) (all : List (Vec Choice Global)) → AllZi
 choice-full [] all zipped (k, plan, within, is, has) = absurd (omega arith)
 choice-full (plan ∷ plans) [] zipped any = absurd zipped
 choice-full (plan ∷ plans) (choices ∷ all) (picks, zipped) (zero, found, within, is, has) =
-    any-first IsFull choices all (some-full choices (any-some (IsChoice plan.declarations.entries.items) (pairs_of (order_of plan)) choices.items picks (subst HasChoice (sym is) has)))
+    any-first IsFull choices all (some-full choices (any-some (IsChoice plan.declarations.entries.items) (later_pairs (order_of plan)) choices.items picks (subst HasChoice (sym is) has)))
 choice-full (plan ∷ plans) (choices ∷ all) (picks, zipped) (suc k, found, within, is, has) =
     any-behind IsFull choices all (choice-full plans all zipped (k, found, omega arith, is, has))

@@ -2,7 +2,7 @@
 use Rattle.std.specs.Prelude.{ℕ, Any, List, Vec}
 use Rattle.std.specs.List.{flat_map}
 use Rattle.std.specs.declared.alloc.Global.{Global}
-use Rattle.shred_choices.specs.Choices.{IsChoice, Picks, pairs_of}
+use Rattle.shred_choices.specs.Choices.{IsChoice, Picks, later_pairs}
 use Rattle.shred_choices.specs.declared.choices.Choice.{Choice}
 use Rattle.shredplan_text.specs.declared.plans.Plan.{Plan}
 
@@ -16,8 +16,8 @@ order_of plan = flat_map (λ stage. stage_order stage.items) plan.stages.items
 
 -- these are the pairs whose order the planner chose, in the plan's order
 abbrev pub HasChoices : Plan → Vec Choice Global → Type 0
-HasChoices plan choices = Picks (IsChoice plan.declarations.entries.items) (pairs_of (order_of plan)) choices.items
+HasChoices plan choices = Picks (IsChoice plan.declarations.entries.items) (later_pairs (order_of plan)) choices.items
 
 -- there is a pair whose order the planner chose
 abbrev pub HasChoice : Plan → Type 0
-HasChoice plan = Any (IsChoice plan.declarations.entries.items) (pairs_of (order_of plan))
+HasChoice plan = Any (IsChoice plan.declarations.entries.items) (later_pairs (order_of plan))

@@ -22,15 +22,15 @@ abbrev pub IsShown : Wanted → Option (List ℕ) → Option (List ℕ) → ℕ 
 IsShown wanted old new status = (plans : Plans) × HasStatus wanted plans status × ((text : List ℕ) × Appends old new text)
 
 -- the status of an end
-abbrev pub status_of : Result ℕ ScriptError → ℕ
-status_of (Ok status) = status
-status_of (Err error) = error_status error
+abbrev pub shown_status : Result ℕ ScriptError → ℕ
+shown_status (Ok status) = status
+shown_status (Err error) = error_status error
 
 -- A run ended somehow: the status says how. Where plans are shown, a text was added to standard output, and nothing to standard
 -- error; of an error its line is told there, or a beginning of it, and only where output failed may something be on standard output.
-pub record HasEnded (wanted : Wanted) (status : ℕ) (out out_after err err_after : Option (List ℕ)) : Type 0 where
+pub record HasToldPlan (wanted : Wanted) (status : ℕ) (out out_after err err_after : Option (List ℕ)) : Type 0 where
   pub ending : Result ℕ ScriptError
-  pub status_is : status ≡ status_of ending
+  pub status_is : status ≡ shown_status ending
   pub shown : IfOk ending (IsShown wanted out out_after)
   pub not_shown : IfErr ending (λ error. (error ≡ OutputFailed) ⊎ Keeps out out_after)
   pub quiet : OnOk ending (Keeps err err_after)

@@ -1,7 +1,7 @@
 //! From a script's bytes to what is shown of its plan.
 ghost use Rattle.std.specs.Prelude.{◌≡◌, ◌⊎◌, IfErr, IfOk};
 ghost use Rattle.std.specs.Io.KnownBytes.{Appends, Keeps};
-ghost use Rattle.shredplanner.specs.Endings.{HasEnded, HasStatus, IsShown};
+ghost use Rattle.shredplanner.specs.Endings.{HasToldPlan, HasStatus, IsShown};
 
 use crate::build::plans_of;
 use crate::wanted::Wanted;
@@ -34,7 +34,7 @@ pub fn run<R: Read, O: Write, E: Write>(
     out: &mut O,
     err: &mut E,
 ) -> u8
-    ensures { HasEnded wanted result (O.contents out.old) (O.contents out.new) (E.contents err.old) (E.contents err.new) }
+    ensures { HasToldPlan wanted result (O.contents out.old) (O.contents out.new) (E.contents err.old) (E.contents err.new) }
 {
     match run_wanted(alloc, wanted, reader, out) {
         Ok(status) => status,

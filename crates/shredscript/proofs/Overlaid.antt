@@ -12,7 +12,7 @@ use Rattle.std.specs.Option.{IfNone, IfSome, MatchOption, option_map}
 use Rattle.shred_table.specs.Slots.{with_at}
 use Rattle.shred_world.specs.Worked.{Held}
 use Rattle.shredscript_text.proofs.Changed.{put-same}
-use Rattle.shredscript_text.specs.Declares.{has_place}
+use Rattle.shredscript_text.specs.Declares.{is_among}
 use Rattle.shredscript_text.specs.Place.{id_at, number_at}
 use Rattle.shredscript_text.specs.declared.value.Value.{Value}
 use Rattle.shredscript.specs.declared.kept.KeptNumber.{KeptNumber}
@@ -34,26 +34,26 @@ held-still seen (first ∷ rest) place held = chosen (first.place == place) (hel
   chosen false still = still
 
 -- a number is held at each place of which one is kept
-pub kept-held : (seen : Held Value) (kept : List KeptNumber) (place : ℕ) → IsTrue (has_place (map kept_place kept) place) → IsSome (number_at (overlaid kept seen) place)
+pub kept-held : (seen : Held Value) (kept : List KeptNumber) (place : ℕ) → IsTrue (is_among (map kept_place kept) place) → IsSome (number_at (overlaid kept seen) place)
 kept-held seen [] place has = absurd (cc)
 kept-held seen (first ∷ rest) place has = chosen (first.place == place) has (kept-held seen rest place) where
-  chosen : (b : Bool) → IsTrue (b || has_place (map kept_place rest) place) → (IsTrue (has_place (map kept_place rest) place) → IsSome (number_at (overlaid rest seen) place))
+  chosen : (b : Bool) → IsTrue (b || is_among (map kept_place rest) place) → (IsTrue (is_among (map kept_place rest) place) → IsSome (number_at (overlaid rest seen) place))
       → IsSome (option_map (λ (v : Value). v.0) (cond b (of_number first.number) (overlaid rest seen (id_at place))))
   chosen true has behind = refl
   chosen false has behind = behind has
 
 -- a number is held at each place of which one is kept that is held
-pub held-places : (seen : Held Value) (kept : List KeptNumber) → AreHeld seen kept → (place : ℕ) → IsTrue (has_place (map kept_place kept) place) → IsSome (number_at seen place)
+pub held-places : (seen : Held Value) (kept : List KeptNumber) → AreHeld seen kept → (place : ℕ) → IsTrue (is_among (map kept_place kept) place) → IsSome (number_at seen place)
 held-places seen [] held place has = absurd (cc)
 held-places seen (first ∷ rest) held place has = chosen (first.place == place) refl (held-places seen rest (All-tail (λ (k : KeptNumber). number_at seen k.place ≡ Some k.number) first rest held) place) where
-  chosen : (b : Bool) → (first.place == place) ≡ b → (IsTrue (has_place (map kept_place rest) place) → IsSome (number_at seen place)) → IsSome (number_at seen place)
+  chosen : (b : Bool) → (first.place == place) ≡ b → (IsTrue (is_among (map kept_place rest) place) → IsSome (number_at seen place)) → IsSome (number_at seen place)
   chosen true e later = let same : first.place ≡ place = grind (arith, e) in
       subst (λ (p : ℕ). IsSome (number_at seen p)) same (subst IsSome (sym (All-head (λ (k : KeptNumber). number_at seen k.place ≡ Some k.number) first rest held)) refl)
-  chosen false e later = later (sym (ap (λ b. b || has_place (map kept_place rest) place) e) ∙ has)
+  chosen false e later = later (sym (ap (λ b. b || is_among (map kept_place rest) place) e) ∙ has)
 
 -- the place of the first is in the list
-pub has-first : (kept rest : List KeptNumber) (first : KeptNumber) → kept ≡ first ∷ rest → IsTrue (has_place (map kept_place kept) first.place)
-has-first kept rest first is = subst (λ (l : List KeptNumber). IsTrue (has_place (map kept_place l) first.place)) (sym is) (ap (λ b. b || has_place (map kept_place rest) first.place) same) where
+pub has-first : (kept rest : List KeptNumber) (first : KeptNumber) → kept ≡ first ∷ rest → IsTrue (is_among (map kept_place kept) first.place)
+has-first kept rest first is = subst (λ (l : List KeptNumber). IsTrue (is_among (map kept_place l) first.place)) (sym is) (ap (λ b. b || is_among (map kept_place rest) first.place) same) where
   same : (first.place == first.place) ≡ true
   same = grind (arith)
 
@@ -71,7 +71,7 @@ kept-found (k ∷ rest) place (suc at) below here before =
     (other, kept-found rest place at (omega (arith, below)) here (λ j d low high. before (suc j) d (omega arith) (omega (arith, high))))
 
 -- where the test finds none, none is kept of the place
-kept-nowhere : (kept : List KeptNumber) (place : ℕ) → AllWithin (λ (k : KeptNumber). false ≡ nat_eq k.place place) kept 0 (length kept) → has_place (map kept_place kept) place ≡ false
+kept-nowhere : (kept : List KeptNumber) (place : ℕ) → AllWithin (λ (k : KeptNumber). false ≡ nat_eq k.place place) kept 0 (length kept) → is_among (map kept_place kept) place ≡ false
 kept-nowhere [] place none = refl
 kept-nowhere (k ∷ rest) place none =
     let test : (k.place == place) ≡ false = sym (none 0 k (omega arith) (omega arith)) in
@@ -85,7 +85,7 @@ kept-within (k ∷ rest) place (suc at) here = let below = kept-within rest plac
 -- what a search for the place tells
 pub kept-first : (kept : List KeptNumber) (place : ℕ) (found : Option ℕ)
     → MatchOption found (AllWithin (λ (k : KeptNumber). false ≡ nat_eq k.place place) kept 0 (length kept)) (λ at. (at < length kept) × HoldsAt (λ (k : KeptNumber). true ≡ nat_eq k.place place) kept at × AllWithin (λ (k : KeptNumber). false ≡ nat_eq k.place place) kept 0 at)
-    → IfSome found (IsKeptAt kept place) × IfNone found (has_place (map kept_place kept) place ≡ false)
+    → IfSome found (IsKeptAt kept place) × IfNone found (is_among (map kept_place kept) place ≡ false)
 kept-first kept place None none = (tt, kept-nowhere kept place none)
 kept-first kept place (Some at) found = (kept-found kept place at found.0 found.1 found.2, tt)
 

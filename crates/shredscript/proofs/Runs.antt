@@ -9,7 +9,7 @@ use Rattle.shred_stage.specs.declared.dispatch.dispatch_error.DispatchError.{Dis
 use Rattle.shred_world.specs.Worked.{Held}
 use Rattle.shredscript_text.specs.Endings.{outcome_of}
 use Rattle.shredscript_text.specs.Report.{report, resource_names}
-use Rattle.shredscript_text.specs.Value.{kind_of}
+use Rattle.shredscript_text.specs.Value.{value_kind}
 use Rattle.shredscript_text.specs.declared.error.ScriptError.{ScriptError}
 use Rattle.shredscript_text.specs.declared.error.ScriptError.TheVariants.{TooLong, InputFailed, Line, Refused, Unnamed, OutOfMemory, OutputFailed}
 use Rattle.shredscript_text.specs.declared.outcome.Outcome.{Outcome}
@@ -31,7 +31,7 @@ program-of built first start plan states held locals workers =
     λ i. record { staged = record { plan = plan i; works = works i; values = held i }; locals = locals i; workers = workers i }
 
 -- what was ready to run is run
-pub run-of : (script : Script) (ready : Ready) (is : IsReadyFor script ready) (answer : Answer (DispatchError Refusal)) (after : Program) (outcome : Outcome) → AreSetUpAndDispatched ready.manner.times (whole_over kind_of ready.dispatcher ready.world) answer after → outcome ≡ outcome_of answer
+pub run-of : (script : Script) (ready : Ready) (is : IsReadyFor script ready) (answer : Answer (DispatchError Refusal)) (after : Program) (outcome : Outcome) → AreSetUpAndDispatched ready.manner.times (whole_over value_kind ready.dispatcher ready.world) answer after → outcome ≡ outcome_of answer
     → IsRunOf script outcome (ready.text.items ++ report (resource_names ready.resources) after.staged.values outcome)
 run-of script ready is answer after outcome ran ends = record {
   begins = ready.text.items;

@@ -8,5 +8,5 @@ abbrev pub values_of : {B : Type 0} → Takers B → Building B
 values_of building = record { current = building.current; pending = building.pending.items }
 
 -- what their builders have come to
-abbrev pub state_of : {B : Type 0} → Noting B → Takers B → Builts
-state_of N building = builts_of N (values_of building)
+abbrev pub building_of : {B : Type 0} → Noting B → Takers B → Builts
+building_of N building = builts_of N (values_of building)

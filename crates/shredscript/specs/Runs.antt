@@ -12,9 +12,9 @@ use Rattle.shred.specs.FullRuns.{FullyDispatched, Whole}
 use Rattle.shred_stage.specs.Sinks.{AppendsBeginning}
 use Rattle.shred_run.specs.Steps.{Outcome as Ends}
 use Rattle.shred_run.specs.Controls.{Control}
-use Rattle.shred_run.specs.Depths.{Declared, Related, lists_of, relations_of}
+use Rattle.shred_run.specs.Depths.{Declared, Related, relations_of}
 use Rattle.shred_run.specs.PlanSetups.{SetUp}
-use Rattle.shred_run.specs.WorkSetups.{Setups, setups_of}
+use Rattle.shred_run.specs.WorkSetups.{Setups, setups_by}
 use Rattle.shred_stage.specs.Setups.{dispatch_fault}
 use Rattle.shred_stage.specs.declared.dispatch.dispatch_error.DispatchError.{DispatchError}
 use Rattle.shredscript_text.specs.declared.error.ScriptError.{ScriptError}
@@ -32,11 +32,11 @@ use Rattle.shredscript_text.specs.Input.{IsLongerThan}
 use Rattle.shredscript_text.specs.Place.{id_at}
 use Rattle.shredscript.specs.Lines.{IsBuiltBy, IsNotBuilt, ScriptBuilt}
 use Rattle.shredscript.specs.PlanTexts.{IsPlanPart}
-use Rattle.shredscript_text.specs.Report.{first_held, resource_names, report}
+use Rattle.shredscript_text.specs.Report.{numbers_held, resource_names, report}
 use Rattle.shredscript.specs.Steps.{steps_left, steps_outcome}
 use Rattle.shredscript_text.specs.Scripts.{IsScriptOf}
 use Rattle.shredscript_text.specs.Texts.{error_text, line_of}
-use Rattle.shredscript_text.specs.Value.{kind_of}
+use Rattle.shredscript_text.specs.Value.{value_kind}
 
 -- what a run of a script's system does: its steps, in order; the system stays as it was
 abbrev pub script_step : ScriptSystem → Held Value → Ends Refusal → ScriptSystem → Held Value → Type 0
@@ -56,7 +56,7 @@ batch_asks before seen outcome after left = (after ≡ before) × (outcome ≡ O
 
 -- the lists that a script's systems declare; its batches' controllers declare none
 abbrev pub script_lists : Declared ScriptSystem ScriptBatch
-script_lists = lists_of (λ system. map id_at system.declared.read.items) (λ system. map id_at system.declared.written.items) (λ batch. []) (λ batch. [])
+script_lists = record { reads = λ system. map id_at system.declared.read.items; writes = λ system. map id_at system.declared.written.items; control_reads = λ batch. []; control_writes = λ batch. [] }
 
 -- the relations of a script's systems and of its batches' controllers: of a system its steps, of a batch so many rounds of its plan
 abbrev pub script_related : Related Value ScriptSystem ScriptBatch Refusal
@@ -68,7 +68,7 @@ IsIdle before seen outcome after left = (after ≡ before) × (outcome ≡ Ok tt
 
 -- the relations of the setups of a script's systems, and of its batches' controllers
 abbrev pub script_setups : Setups Value ScriptSystem ScriptBatch Refusal
-script_setups = setups_of script_lists IsIdle IsIdle
+script_setups = setups_by script_lists IsIdle IsIdle
 
 -- a plan of a script's systems and batches, with these and its thread-local systems, and the values of a world
 abbrev pub Program : Type 0
@@ -76,7 +76,7 @@ Program = Whole Value ScriptSystem ScriptBatch ScriptLocal
 
 -- one dispatch: the plan's run, and where it is Done, that of the thread-local systems
 abbrev pub IsOnce : Program → Answer (DispatchError Refusal) → Program → Type 0
-IsOnce before answer after = FullyDispatched kind_of script_related local_step before answer after
+IsOnce before answer after = FullyDispatched value_kind script_related local_step before answer after
 
 -- that many dispatches, one after another, up to the first that is not Done, whose answer is the answer; it is Done where there is none
 abbrev pub AreDispatched : ℕ → Program → Answer (DispatchError Refusal) → Program → Type 0
@@ -119,7 +119,7 @@ pub record IsRunOf (script : Script) (outcome : Outcome) (text : List ℕ) : Typ
   pub plan : IsPlanOf script begins
   pub answer : Answer (DispatchError Refusal)
   pub after : Program
-  pub ran : AreSetUpAndDispatched script.manner.times (program_of plan.built (first_held (values script.resources))) answer after
+  pub ran : AreSetUpAndDispatched script.manner.times (program_of plan.built (numbers_held (values script.resources))) answer after
   pub outcome_is : outcome ≡ outcome_of answer
   pub text_is : text ≡ begins ++ report (resource_names script.resources) after.staged.values outcome
 

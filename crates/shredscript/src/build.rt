@@ -4,7 +4,7 @@ ghost use Rattle.shred.specs.Built.{IsNewBuilt};
 ghost use Rattle.shredscript.specs.Lines.{IsBatchNotEnded, IsBuiltBy, IsNotBuilt, IsNotTaken};
 ghost use Rattle.shredscript_text.specs.declared.script.PlanLine.TheVariants.{Batch, End};
 ghost use Rattle.shredscript.specs.Notes.{AreNotedBy, TakesLine};
-ghost use Rattle.shredscript.specs.Building.{state_of, values_of};
+ghost use Rattle.shredscript.specs.Building.{building_of, values_of};
 
 use crate::taker::LineTaker;
 use shred_run::entry::push_or_drop;
@@ -56,7 +56,7 @@ fn take_line<'text, B: LineTaker + Drop>(
     line: PlanLine<'text>,
 ) -> Result<(), ScriptError>
     ensures taken { OnOk result (TakesLine B.noting line.entry (values_of building.old) (values_of building.new)) }
-    ensures not_taken { IfErr result (IsNotTaken line.entry (state_of B.noting building.old)) }
+    ensures not_taken { IfErr result (IsNotTaken line.entry (building_of B.noting building.old)) }
 {
     match line {
         PlanLine::System(line) => building.current.add_system(alloc, line),
@@ -95,7 +95,7 @@ fn end_batch<B: LineTaker + Drop>(
     end: usize,
 ) -> Result<(), ScriptError>
     ensures ended { OnOk result (TakesLine B.noting (End end) (values_of building.old) (values_of building.new)) }
-    ensures not_ended { IfErr result (IsBatchNotEnded end (state_of B.noting building.old)) }
+    ensures not_ended { IfErr result (IsBatchNotEnded end (building_of B.noting building.old)) }
 {
     let Some((batch, outer)) = building.pending.pop() else {
         return Err(ScriptError::Line {

@@ -4,7 +4,7 @@ ghost use Rattle.std.specs.List.{All};
 ghost use Rattle.std.specs.Option.{option_or};
 ghost use Rattle.shred_world.specs.Worked.{Held};
 ghost use Rattle.shredscript_text.specs.declared.value.Value.{Value};
-ghost use Rattle.shredscript_text.specs.Declares.{AllowsStep, has_place, places_written};
+ghost use Rattle.shredscript_text.specs.Declares.{AllowsStep, is_among, places_written};
 ghost use Rattle.shredscript_text.specs.Place.{id_at, number_at};
 ghost use Rattle.shredscript.specs.Overlaid.{AreHeld, IsKeptAt, kept_place, overlaid};
 ghost use Rattle.shredscript.specs.Steps.{steps_outcome, steps_left};
@@ -41,7 +41,7 @@ impl<N: Numbers> Numbers for Keeping<'_, N> {
 
     ghost is_ready = { λ keeping. N.is_ready keeping.behind.now };
 
-    ghost allows = { λ keeping place. IsTrue (has_place (map kept_place keeping.written.items) place) };
+    ghost allows = { λ keeping place. IsTrue (is_among (map kept_place keeping.written.items) place) };
 
     ghost keeps = { λ old new. (new.behind.now ≡ old.behind.now) × (new.named.items ≡ old.named.items) × (map kept_place new.written.items ≡ map kept_place old.written.items) };
 
@@ -77,7 +77,7 @@ impl<N: Numbers> Numbers for Keeping<'_, N> {
 
     ghost keeps_ready = { λ x y kept ready. subst N.is_ready (sym kept.0) ready };
 
-    ghost keeps_allowed = { λ x y kept place allowed. subst (λ (places : List ℕ). IsTrue (has_place places place)) (sym kept.2) allowed };
+    ghost keeps_allowed = { λ x y kept place allowed. subst (λ (places : List ℕ). IsTrue (is_among places place)) (sym kept.2) allowed };
 }
 
 // The number that is kept of this place, the first where there are several.
@@ -111,7 +111,7 @@ impl<N: Numbers> Keeping<'_, N> {
 // Where a number of this place is kept, the first where there are several.
 fn kept_at(kept: &[KeptNumber], place: usize) -> Option<usize>
     ensures kept { IfSome result (IsKeptAt kept.now place) }
-    ensures none { IfNone result (has_place (map kept_place kept.now) place ≡ false) }
+    ensures none { IfNone result (is_among (map kept_place kept.now) place ≡ false) }
 {
     // Mostly one number is written, so the first is looked at before the search.
     if let Some(first) = kept.first() {
@@ -147,8 +147,8 @@ fn keep_each<N: Numbers>(
 // Writes the kept numbers, the last first.
 fn write_kept<N: Numbers>(kept: &[KeptNumber], numbers: &mut N)
     requires is_ready { N.is_ready numbers.old }
-    requires allowed { (place : ℕ) → IsTrue (has_place (map kept_place kept.now) place) → N.allows numbers.old place }
-    requires held { (place : ℕ) → IsTrue (has_place (map kept_place kept.now) place) → IsSome (number_at (N.seen numbers.old) place) }
+    requires allowed { (place : ℕ) → IsTrue (is_among (map kept_place kept.now) place) → N.allows numbers.old place }
+    requires held { (place : ℕ) → IsTrue (is_among (map kept_place kept.now) place) → IsSome (number_at (N.seen numbers.old) place) }
     ensures left { N.seen numbers.new ≡ overlaid kept.now (N.seen numbers.old) }
     ensures keeps { N.keeps numbers.old numbers.new }
 {

@@ -8,7 +8,7 @@ ghost use Rattle.shred.specs.Dispatchers.{dispatcher_locals, dispatcher_plan, di
 ghost use Rattle.shred.specs.FullRuns.{whole_over};
 ghost use Rattle.shred_world.specs.Worlds.{world_held};
 ghost use Rattle.shredscript_text.specs.Report.{report, resource_names};
-ghost use Rattle.shredscript_text.specs.Value.{kind_of};
+ghost use Rattle.shredscript_text.specs.Value.{value_kind};
 ghost use Rattle.shredscript.specs.PlanTexts.{IsNotPlanned, IsPlanPart};
 ghost use Rattle.shredscript.specs.Ready.{IsReadyFor};
 ghost use Rattle.shredscript.specs.Runs.{AreDispatched, AreSetUpAndDispatched, IsNotRun, IsOnce, IsPrinted};
@@ -121,8 +121,8 @@ fn print_report<O: Write>(
     outcome: Outcome,
 ) -> io::Result<()>
     requires { room.items ≡ [] }
-    ensures whole { OnOk result (Appends (O.contents out.old) (O.contents out.new) (report (resource_names resources.now) (world_held kind_of world.now) outcome)) }
-    ensures beginning { OnErr result (AppendsBeginning (O.contents out.old) (O.contents out.new) (report (resource_names resources.now) (world_held kind_of world.now) outcome)) }
+    ensures whole { OnOk result (Appends (O.contents out.old) (O.contents out.new) (report (resource_names resources.now) (world_held value_kind world.now) outcome)) }
+    ensures beginning { OnErr result (AppendsBeginning (O.contents out.old) (O.contents out.new) (report (resource_names resources.now) (world_held value_kind world.now) outcome)) }
 {
     if let Err(error) = write_report(&mut room, resources, world, outcome) {
         return Err(error);
@@ -137,7 +137,7 @@ fn set_up_and_dispatch<T: Threads + Sync>(
     world: &mut World<Value>,
     manner: Manner,
 ) -> Result<(), DispatchError<Refusal>>
-    ensures { AreSetUpAndDispatched manner.times (whole_over kind_of dispatcher.old world.old) result (whole_over kind_of dispatcher.new world.new) }
+    ensures { AreSetUpAndDispatched manner.times (whole_over value_kind dispatcher.old world.old) result (whole_over value_kind dispatcher.new world.new) }
 {
     match dispatcher.setup(world) {
         Ok(()) => dispatch_each(rt, dispatcher, world, manner),
@@ -152,7 +152,7 @@ fn dispatch_each<T: Threads + Sync>(
     world: &mut World<Value>,
     manner: Manner,
 ) -> Result<(), DispatchError<Refusal>>
-    ensures { AreDispatched manner.times (whole_over kind_of dispatcher.old world.old) result (whole_over kind_of dispatcher.new world.new) }
+    ensures { AreDispatched manner.times (whole_over value_kind dispatcher.old world.old) result (whole_over value_kind dispatcher.new world.new) }
 {
     for round in 0..manner.times {
         if let Err(error) = dispatch_once(rt, dispatcher, world, manner.mode) {
@@ -169,7 +169,7 @@ fn dispatch_once<T: Threads + Sync>(
     world: &mut World<Value>,
     mode: Mode,
 ) -> Result<(), DispatchError<Refusal>>
-    ensures { IsOnce (whole_over kind_of dispatcher.old world.old) result (whole_over kind_of dispatcher.new world.new) }
+    ensures { IsOnce (whole_over value_kind dispatcher.old world.old) result (whole_over value_kind dispatcher.new world.new) }
 {
     match mode {
         Mode::Parallel => dispatcher.dispatch(rt, world),

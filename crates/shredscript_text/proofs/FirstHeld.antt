@@ -9,7 +9,7 @@ use Rattle.shred_table.specs.Slots.{with_at}
 use Rattle.shredscript_text.specs.Place.{id_at}
 use Rattle.shred_world.specs.Worked.{Held}
 use Rattle.shredscript_text.specs.declared.value.Value.{Value}
-use Rattle.shredscript_text.specs.Report.{first_held}
+use Rattle.shredscript_text.specs.Report.{numbers_held}
 
 get-last : {X : Type 0} (xs rest : List X) (k : ℕ) (x : X) → drop k xs ≡ x ∷ rest → slice_get (take (suc k) xs) k ≡ Some x
 get-last [] rest zero x e = absurd (cc)
@@ -41,7 +41,7 @@ among-more false number o = refl
 
 -- with the number of the next place put in, the first values are those of one more place
 first_held-with : (numbers rest : List ℤ) (place : ℕ) (number : ℤ) → drop place numbers ≡ number ∷ rest → (id : ResourceId)
-    → with_at (first_held (take place numbers)) (id_at place) (Some (value_of number)) id ≡ first_held (take (place + 1) numbers) id
+    → with_at (numbers_held (take place numbers)) (id_at place) (Some (value_of number)) id ≡ numbers_held (take (place + 1) numbers) id
 first_held-with numbers rest place number next id = told (0 == id.kind.0) where
   told : (t : Bool) → cond (t && (place == id.dynamic_id)) (Some (value_of number)) (cond t (option_map value_of (slice_get (take place numbers) id.dynamic_id)) None)
       ≡ cond t (option_map value_of (slice_get (take (place + 1) numbers) id.dynamic_id)) None
@@ -51,12 +51,12 @@ first_held-with numbers rest place number next id = told (0 == id.kind.0) where
 
 -- the same, of the world that is filled and of the numbers that are left
 pub first_held-put : (numbers before after : List ℤ) (count place more : ℕ) (at : ResourceId) (number put : ℤ) (held new : Held Value) → before ≡ drop count numbers → before ≡ number ∷ after → place ≡ count → more ≡ count + 1 → at ≡ id_at place → put ≡ number
-    → ((id : ResourceId) → held id ≡ first_held (take count numbers) id) → ((id : ResourceId) → new id ≡ with_at held at (Some (record { 0 = put })) id)
-    → (id : ResourceId) → new id ≡ first_held (take more numbers) id
+    → ((id : ResourceId) → held id ≡ numbers_held (take count numbers) id) → ((id : ResourceId) → new id ≡ with_at held at (Some (record { 0 = put })) id)
+    → (id : ResourceId) → new id ≡ numbers_held (take more numbers) id
 first_held-put numbers before after count place more at number put held new rest first here next there same so_far is id =
     is id ∙ ap (λ o. cond (same_id at id) (Some (value_of put)) o) (so_far id)
-    ∙ (λ i. with_at (first_held (take count numbers)) ((there ∙ ap id_at here) i) (Some (value_of (same i))) id)
-    ∙ first_held-with numbers after count number (sym rest ∙ first) id ∙ ap (λ n. first_held (take n numbers) id) (sym next)
+    ∙ (λ i. with_at (numbers_held (take count numbers)) ((there ∙ ap id_at here) i) (Some (value_of (same i))) id)
+    ∙ first_held-with numbers after count number (sym rest ∙ first) id ∙ ap (λ n. numbers_held (take n numbers) id) (sym next)
 
 drop-after : {X : Type 0} (xs rest : List X) (k : ℕ) (x : X) → drop k xs ≡ x ∷ rest → rest ≡ drop (suc k) xs
 drop-after [] rest zero x e = absurd (cc)

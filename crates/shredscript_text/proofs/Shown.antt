@@ -19,7 +19,7 @@ use Rattle.shredscript_text.specs.declared.outcome.Refusal.{Refusal}
 use Rattle.shredscript_text.specs.declared.outcome.Refusal.TheVariants.{Undeclared}
 use Rattle.shredscript_text.specs.declared.value.Value.{Value}
 use Rattle.shredscript_text.specs.Place.{id_at, number_at, seen_through}
-use Rattle.shredscript_text.specs.Value.{kind_of}
+use Rattle.shredscript_text.specs.Value.{value_kind}
 
 -- what may be read is the same in the same view
 pub may_read-same : (old new : View Value) → IsSameView old new → (id : ResourceId) → may_read new id ≡ may_read old id
@@ -34,21 +34,21 @@ readable view id h = ap (λ t. among view.reads.now id || t) h ∙ or_true (amon
 
 -- what is shown after a value was written under an id that may be written
 pub shown-written : (old new : View Value) (id : ResourceId) (v : Value) → IsSameView old new → may_write old id ≡ true
-    → ((q : ResourceId) → view_held kind_of new q ≡ with_at (view_held kind_of old) id (Some v) q) → seen_through new ≡ with_at (seen_through old) id (Some v)
+    → ((q : ResourceId) → view_held value_kind new q ≡ with_at (view_held value_kind old) id (Some v) q) → seen_through new ≡ with_at (seen_through old) id (Some v)
 shown-written old new id v same may held = fun_ext (λ q. (λ i. cond (may_read-same old new same q i) (held q i) None) ∙ told q (same_id id q) refl) where
-  told : (q : ResourceId) (b : Bool) → same_id id q ≡ b → cond (may_read old q) (cond b (Some v) (view_held kind_of old q)) None ≡ cond b (Some v) (seen_through old q)
+  told : (q : ResourceId) (b : Bool) → same_id id q ≡ b → cond (may_read old q) (cond b (Some v) (view_held value_kind old q)) None ≡ cond b (Some v) (seen_through old q)
   told q true e = ap (λ t. cond t (Some v) None) (ap (may_read old) (sym (same_id-true id q e)) ∙ readable old id may)
   told q false e = refl
 
 -- the number that may be written is seen
-pub number-written : (view : View Value) (place : ℕ) (number : ℤ) → may_write view (id_at place) ≡ true → view_held kind_of view (id_at place) ≡ Some (record { 0 = number }) → number_at (seen_through view) place ≡ Some number
+pub number-written : (view : View Value) (place : ℕ) (number : ℤ) → may_write view (id_at place) ≡ true → view_held value_kind view (id_at place) ≡ Some (record { 0 = number }) → number_at (seen_through view) place ≡ Some number
 number-written view place number may held = λ i. option_map (λ (v : Value). v.0) (cond (readable view (id_at place) may i) (held i) None)
 
 -- a write is refused only where no number is seen
 pub number-missing : (view : View Value) (place : ℕ) (error : DataError) (fault : Fault Refusal) → may_write view (id_at place) ≡ true → is_out view (id_at place) ≡ false
-    → Some error ≡ refusal (record { 0 = 0 }) (id_at place) (may_write view (id_at place)) (is_out view (id_at place)) (is_some (view_held kind_of view (id_at place)))
+    → Some error ≡ refusal (record { 0 = 0 }) (id_at place) (may_write view (id_at place)) (is_out view (id_at place)) (is_some (view_held value_kind view (id_at place)))
     → FaultGives (λ given made. made ≡ Undeclared) error fault → (number_at (seen_through view) place ≡ None) × (fault ≡ Refused Undeclared)
-number-missing view place error fault may inside told gives = of_held (view_held kind_of view (id_at place)) told where
+number-missing view place error fault may inside told gives = of_held (view_held value_kind view (id_at place)) told where
   nothing : (b : Bool) → option_map (λ (v : Value). v.0) (cond b None None) ≡ None
   nothing true = refl
   nothing false = refl
@@ -63,5 +63,5 @@ number-missing view place error fault may inside told gives = of_held (view_held
   of_held (Some v) told = absurd (let e : Some error ≡ None = told ∙ refusal-rest (record { 0 = 0 }) (id_at place) _ _ true (refl, may, inside) in cc)
 
 -- what is shown where nothing was written
-pub shown-same : (old new : View Value) → IsSameView old new → ((q : ResourceId) → view_held kind_of new q ≡ view_held kind_of old q) → seen_through new ≡ seen_through old
+pub shown-same : (old new : View Value) → IsSameView old new → ((q : ResourceId) → view_held value_kind new q ≡ view_held value_kind old q) → seen_through new ≡ seen_through old
 shown-same old new same held = fun_ext (λ q i. cond (may_read-same old new same q i) (held q i) None)

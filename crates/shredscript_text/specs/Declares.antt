@@ -35,13 +35,13 @@ write_place (Declare (Write place)) = Some place
 write_place (Refuse code) = None
 
 -- whether the place is in the list
-abbrev pub has_place : List ℕ → ℕ → Bool
-has_place places place = list_any (λ other. other == place) places
+abbrev pub is_among : List ℕ → ℕ → Bool
+is_among places place = list_any (λ other. other == place) places
 
 -- the places, with one more at the end where there is one and they lack it
 abbrev pub with_place : List ℕ → Option ℕ → List ℕ
 with_place places None = places
-with_place places (Some place) = cond (has_place places place) places (places ++ place ∷ [])
+with_place places (Some place) = cond (is_among places place) places (places ++ place ∷ [])
 
 -- these places, and those that steps declare to read, each once, in the order in which they first do
 abbrev pub places_read : List ℕ → List Step → List ℕ

@@ -7,7 +7,7 @@ use Rattle.shred_table.specs.Id.{id_of}
 use Rattle.shred_world.specs.Views.{declared_held}
 use Rattle.shred_world.specs.Worked.{Held}
 use Rattle.shredscript_text.specs.declared.value.Value.{Value}
-use Rattle.shredscript_text.specs.Value.{kind_of}
+use Rattle.shredscript_text.specs.Value.{value_kind}
 
 -- the id of the resource at this place
 abbrev pub id_at : ℕ → ResourceId
@@ -19,4 +19,4 @@ number_at seen place = option_map (λ (v : Value). v.0) (seen (id_at place))
 
 -- the values that a view shows of its declared ids
 abbrev pub seen_through : View Value → Held Value
-seen_through view = declared_held kind_of view
+seen_through view = declared_held value_kind view

@@ -14,8 +14,8 @@ abbrev pub resource_names : {X S : Type 0} → IndexMap (Bor (List ℕ)) X S →
 resource_names resources = map (λ name. name.now) (keys resources)
 
 -- each number, under the id of its place
-abbrev pub first_held : List ℤ → Held Value
-first_held numbers id = cond (0 == id.kind.0) (option_map (λ number. record { 0 = number }) (slice_get numbers id.dynamic_id)) None
+abbrev pub numbers_held : List ℤ → Held Value
+numbers_held numbers id = cond (0 == id.kind.0) (option_map (λ number. record { 0 = number }) (slice_get numbers id.dynamic_id)) None
 
 -- the line of a resource, where a value of it is held
 abbrev pub value_line : List ℕ → Option ℤ → List ℕ

@@ -2,5 +2,5 @@ use Rattle.shred_table.specs.declared.id.Kind.{Kind}
 use Rattle.shredscript_text.specs.declared.value.Value.{Value}
 
 -- every value is of the one kind
-abbrev pub kind_of : Value → Kind
-kind_of value = record { 0 = 0 }
+abbrev pub value_kind : Value → Kind
+value_kind value = record { 0 = 0 }

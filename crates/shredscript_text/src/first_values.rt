@@ -4,8 +4,8 @@ ghost use Rattle.indexmap.specs.IndexMap.{values};
 ghost use Rattle.shred_table.specs.declared.id.ResourceId.{ResourceId};
 ghost use Rattle.shred_world.specs.Worlds.{world_held};
 ghost use Rattle.shredscript_text.specs.declared.error.ScriptError.TheVariants.{OutOfMemory};
-ghost use Rattle.shredscript_text.specs.Report.{first_held};
-ghost use Rattle.shredscript_text.specs.Value.{kind_of};
+ghost use Rattle.shredscript_text.specs.Report.{numbers_held};
+ghost use Rattle.shredscript_text.specs.Value.{value_kind};
 
 use crate::error::ScriptError;
 use crate::step::Resources;
@@ -15,7 +15,7 @@ use std::alloc::Global;
 
 /// The world that holds each resource's first value.
 pub fn world_of(alloc: Global, resources: &Resources<'_>) -> Result<World<Value>, ScriptError>
-    ensures held { IfOk result (λ world. (id : ResourceId) → world_held kind_of world id ≡ first_held (values resources.now) id) }
+    ensures held { IfOk result (λ world. (id : ResourceId) → world_held value_kind world id ≡ numbers_held (values resources.now) id) }
     ensures err { IfErr result (λ error. error ≡ OutOfMemory) }
 {
     let mut world = World::empty(alloc);

@@ -104,16 +104,16 @@ impl Numbers for View<'_, '_, Value> {
 impl Numbers for LocalWorld<Value> {
     ghost use Rattle.shred_run.specs.Alone.{KeepsKinds};
     ghost use Rattle.shred_world.specs.Worlds.{local_held};
-    ghost use Rattle.shredscript_text.specs.Value.{kind_of};
+    ghost use Rattle.shredscript_text.specs.Value.{value_kind};
     ghost use Rattle.std.proofs.Common.{refl, ◌∙◌};
 
-    ghost seen = { local_held kind_of };
+    ghost seen = { local_held value_kind };
 
     ghost is_ready = { λ world. ⊤ };
 
     ghost allows = { λ world place. ⊤ };
 
-    ghost keeps = { λ old new. KeepsKinds kind_of (local_held kind_of old) (local_held kind_of new) };
+    ghost keeps = { λ old new. KeepsKinds value_kind (local_held value_kind old) (local_held value_kind new) };
 
     fn number(&self, place: usize) -> Result<i64, Fault<Refusal>> {
         match self.try_fetch_by_id::<i64>(id_at(place)) {

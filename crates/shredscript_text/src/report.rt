@@ -4,7 +4,7 @@ ghost use Rattle.std.specs.Io.KnownBytes.{Appends};
 ghost use Rattle.shred_world.specs.Worlds.{world_held};
 ghost use Rattle.shredscript_text.specs.Place.{number_at};
 ghost use Rattle.shredscript_text.specs.Report.{bytes_of_lines, resource_names, report, value_line};
-ghost use Rattle.shredscript_text.specs.Value.{kind_of};
+ghost use Rattle.shredscript_text.specs.Value.{value_kind};
 
 use crate::outcome::{Outcome, write_outcome, write_value};
 use crate::step::Resources;
@@ -39,7 +39,7 @@ pub fn write_report<W: Write>(
     world: &World<Value>,
     outcome: Outcome,
 ) -> io::Result<()>
-    ensures { OnOk result (Appends (W.contents out.old) (W.contents out.new) (report (resource_names resources.now) (world_held kind_of world.now) outcome)) }
+    ensures { OnOk result (Appends (W.contents out.old) (W.contents out.new) (report (resource_names resources.now) (world_held value_kind world.now) outcome)) }
 {
     for (place, name) in resources.keys().enumerate() {
         write_resource(out, name, place, world)?;
@@ -54,7 +54,7 @@ fn write_resource<W: Write>(
     place: usize,
     world: &World<Value>,
 ) -> io::Result<()>
-    ensures { OnOk result (Appends (W.contents out.old) (W.contents out.new) (value_line name.now (number_at (world_held kind_of world.now) place))) }
+    ensures { OnOk result (Appends (W.contents out.old) (W.contents out.new) (value_line name.now (number_at (world_held value_kind world.now) place))) }
 {
     match world.try_fetch_by_id::<i64>(id_at(place)) {
         Ok(Some(value)) => write_value(out, name, *value),

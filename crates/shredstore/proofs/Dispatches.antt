@@ -37,10 +37,10 @@ use Rattle.shredstore.specs.declared.rule.StoreRule.TheVariants.{Add, Set}
 use Rattle.shredstore.specs.Facts.{OnlyLive, Values}
 use Rattle.shredstore.specs.Plans.{RulesOver, RunsRules, rule_relations}
 use Rattle.shredstore.specs.Rows.{Pairs, with_constant, with_sum}
-use Rattle.shredstore.specs.RuleSteps.{IsRuleFault, RuleStep}
+use Rattle.shredstore.specs.RuleSteps.{IsRuleFault, AppliesRule}
 use Rattle.shredstore.specs.Rules.{IsFirstOverflow, applied, applied_all, with_table}
-use Rattle.shredstore.specs.Tables.{kind_of, table_id, value_in, values_in}
-use Rattle.shredstore.specs.Ticks.{IsDispatch, IsOfSystems, IsOverflowOf, IsTick, RuleRecord, Tells}
+use Rattle.shredstore.specs.Tables.{table_kind, table_id, value_in, values_in}
+use Rattle.shredstore.specs.Ticks.{RulesDispatched, IsOfSystems, IsOverflowOf, IsTick, RuleRecord, Tells}
 use Rattle.shredstore.proofs.KeptStates.{Keeps, KeepsRows, replay-found, replay-keeps}
 use Rattle.shredstore.proofs.Lists.{AllByRecursion-weaker}
 use Rattle.shredstore.proofs.PlanOrder.{order-at, order-counts}
@@ -69,12 +69,12 @@ applied-rows : (rule : StoreRule) (value : Values) (entity table : ℕ) → is_s
 applied-rows (Add x y) value = with-rows value x (λ entity. with_sum (value entity x) (value entity y)) (λ entity. sum-some (value entity x) (value entity y))
 applied-rows (Set x c) value = with-rows value x (λ entity. with_constant c (value entity x)) (λ entity. constant-some c (value entity x))
 
-step-rows : (rule after : StoreRule) (seen left : Held (Only Pairs)) (outcome : Outcome Overflow) → RuleStep rule seen outcome after left → KeepsRows seen left
+step-rows : (rule after : StoreRule) (seen left : Held (Only Pairs)) (outcome : Outcome Overflow) → AppliesRule rule seen outcome after left → KeepsRows seen left
 step-rows rule after seen left (Ok ended) (kept, (fit, is)) entity table = ap is_some (is entity table) ∙ applied-rows rule (values_in seen) entity table
 step-rows rule after seen left (Err fault) (kept, (why, same)) entity table = ap (λ o. is_some (value_in o entity)) (same (table_id table))
 
 -- each record of a dispatch keeps its state, and which entities have values
-of-step : (access : Access ResourceId) (outcome : Outcome Overflow) (r : RuleRecord) → IsNestedStep kind_of rule_relations.steps of_system (λ ended. done) access outcome r → Keeps r
+of-step : (access : Access ResourceId) (outcome : Outcome Overflow) (r : RuleRecord) → IsNestedStep table_kind rule_relations.steps of_system (λ ended. done) access outcome r → Keeps r
 of-step access outcome r step =
     let (old, new, before, after, lies) = step.lies in
     let same : new.0 ≡ old.0 = lies.0.0 in
@@ -83,13 +83,13 @@ of-step access outcome r step =
 of-call : (before after : NoBatch Overflow) (r : RuleRecord) → r.before ≡ of_controller before → r.after ≡ of_controller after → after ≡ before → r.left ≡ r.seen → Keeps r
 of-call before after r is_before is_after same left = record { state = is_after ∙ ap (λ (c : NoBatch Overflow). of_controller c) same ∙ sym is_before; rows = λ entity table. ap (λ h. is_some (value_in (h (table_id table)) entity)) left }
 
-of-begin : (access : Access ResourceId) (answer : Result ℕ (Fault Overflow)) (r : RuleRecord) → IsNestedStep kind_of rule_relations.begins of_controller bound access answer r → Keeps r
+of-begin : (access : Access ResourceId) (answer : Result ℕ (Fault Overflow)) (r : RuleRecord) → IsNestedStep table_kind rule_relations.begins of_controller bound access answer r → Keeps r
 of-begin access answer r step = of-call step.lies.0 step.lies.1 r step.lies.2 step.lies.3 step.lies.4.0.state step.lies.4.0.values
 
-of-ask : (access : Access ResourceId) (answer : Result Bool (Fault Overflow)) (r : RuleRecord) → IsNestedStep kind_of rule_relations.asks of_controller again access answer r → Keeps r
+of-ask : (access : Access ResourceId) (answer : Result Bool (Fault Overflow)) (r : RuleRecord) → IsNestedStep table_kind rule_relations.asks of_controller again access answer r → Keeps r
 of-ask access answer r step = of-call step.lies.0 step.lies.1 r step.lies.2 step.lies.3 step.lies.4.0.state step.lies.4.0.values
 
-of-agent : (occupant : Option Occupant) (r : RuleRecord) → TookStep kind_of rule_relations occupant r → Keeps r
+of-agent : (occupant : Option Occupant) (r : RuleRecord) → TookStep table_kind rule_relations occupant r → Keeps r
 of-agent (Some a_system) r (outcome, step) = of-step r.access outcome r step
 of-agent (Some (a_batch control plan)) r (inl (answer, step)) = of-begin control answer r step
 of-agent (Some (a_batch control plan)) r (inr (answer, step)) = of-ask control answer r step
@@ -101,16 +101,16 @@ some-kept f None None e = refl
 some-kept f (Some a) None e = absurd (cc)
 some-kept f None (Some b) e = absurd (cc)
 
-module _ (before : RulesOver) (answer : Answer (DispatchError Overflow)) (after : RulesOver) (ran : IsDispatch before answer after) where
+module _ (before : RulesOver) (answer : Answer (DispatchError Overflow)) (after : RulesOver) (ran : RulesDispatched before answer after) where
   all-keep : AllByRecursion Keeps ran.list
-  all-keep = AllByRecursion-weaker (IsAgentStep kind_of rule_relations (occupants_of before)) Keeps (λ r took. let own = of-agent (occupants_of before r.agent) (record r { agent = [] }) took in record { state = own.state; rows = own.rows }) ran.list ran.steps
+  all-keep = AllByRecursion-weaker (IsAgentStep table_kind rule_relations (occupants_of before)) Keeps (λ r took. let own = of-agent (occupants_of before r.agent) (record r { agent = [] }) took in record { state = own.state; rows = own.rows }) ran.list ran.steps
 
   kept : ((path : Agent) → (configuration_in after).states path ≡ (configuration_in before).states path) × KeepsRows before.values after.values
   kept = replay-keeps ran.list (configuration_in before) (configuration_in after) all-keep ran.replays
 
   -- the same tables are held
   pub tables-kept : (id : ResourceId) → is_some (after.values id) ≡ is_some (before.values id)
-  tables-kept id = some-kept kind_of (after.values id) (before.values id) (ran.kinds id)
+  tables-kept id = some-kept table_kind (after.values id) (before.values id) (ran.kinds id)
 
   -- live entities alone have values
   pub only-live : (live : ℕ → Bool) → OnlyLive live (values_in before.values) → OnlyLive live (values_in after.values)
@@ -130,17 +130,17 @@ module _ (before : RulesOver) (answer : Answer (DispatchError Overflow)) (after 
       }
 
 -- the answer is told of systems alone
-pub of-systems : (before : RulesOver) (answer : Answer (DispatchError Overflow)) (after : RulesOver) → IsDispatch before answer after → IsOfSystems answer
+pub of-systems : (before : RulesOver) (answer : Answer (DispatchError Overflow)) (after : RulesOver) → RulesDispatched before answer after → IsOfSystems answer
 of-systems before answer after ran = elim ran.told [ inl over ↦ subst IsOfSystems (sym over) tt | inr t ↦ subst IsOfSystems (sym t.told) tt ]
 
 -- the rule that a dispatch tells of as overflowing took a step with this fault
-module _ (rules : List StoreRule) (before after : RulesOver) (runs : RunsRules rules before) (answer : Answer (DispatchError Overflow)) (ran : IsDispatch before answer after) where
+module _ (rules : List StoreRule) (before after : RulesOver) (runs : RunsRules rules before) (answer : Answer (DispatchError Overflow)) (ran : RulesDispatched before answer after) where
   -- where a system stands, nothing stands inside it
   itself : (place path : Agent) (Inner : Plan ResourceId → Type 0) → occupants_of before place ≡ Some a_system → (path ≡ []) ⊎ ((control : Access ResourceId) × (plan : Plan ResourceId) × (occupants_of before place ≡ Some (a_batch control plan)) × Inner plan) → path ≡ []
   itself place path Inner stands (inl own) = own
   itself place path Inner stands (inr (control, plan, batch, deeper)) = absurd (let no = sym stands ∙ batch in cc)
 
-  its-fault : (own : StoreRule) (r : RuleRecord) (told : Fault Overflow) → r.before ≡ of_system (record { 0 = own }) → r.outcome ≡ Err told → TookStep kind_of rule_relations (Some a_system) r → IsRuleFault own (values_in r.seen) told
+  its-fault : (own : StoreRule) (r : RuleRecord) (told : Fault Overflow) → r.before ≡ of_system (record { 0 = own }) → r.outcome ≡ Err told → TookStep table_kind rule_relations (Some a_system) r → IsRuleFault own (values_in r.seen) told
   its-fault own r told is ended (Ok ended_fine, step) = absurd (let no = sym step.outcome ∙ ended in cc)
   its-fault own r told is ended (Err fault, step) =
       let (old, new, was, after, lies) = step.lies in
@@ -165,8 +165,8 @@ module _ (rules : List StoreRule) (before after : RulesOver) (runs : RunsRules r
       let found = among-has (λ r. (configuration_in before).states r.agent ≡ Some r.before) (replay-found ran.list (configuration_in before) (configuration_in after) (all-keep before answer after ran) ran.replays) in
       let e : Some t.r.before ≡ Some (of_system (record { 0 = own })) = sym found ∙ ap (configuration_in before).states at ∙ state in
       let its : t.r.before ≡ of_system (record { 0 = own }) = cc in
-      let took = among-has (IsAgentStep kind_of rule_relations (occupants_of before)) ran.steps in
-      let step = subst (λ (o : Option Occupant). TookStep kind_of rule_relations o (record t.r { agent = [] })) (ap (occupants_of before) at ∙ system) took in
+      let took = among-has (IsAgentStep table_kind rule_relations (occupants_of before)) ran.steps in
+      let step = subst (λ (o : Option Occupant). TookStep table_kind rule_relations o (record t.r { agent = [] })) (ap (occupants_of before) at ∙ system) took in
       record { own = own; at = told; agent = ap (entry_at before.plan) at ∙ t.stands; its = its; fault = its-fault own (record t.r { agent = [] }) t.fault its t.ended step }
     where
       among-has : (P : RuleRecord → Type 0) → AllByRecursion P ran.list → P t.r
@@ -213,7 +213,7 @@ module _ (rules : List StoreRule) (before after : RulesOver) (runs : RunsRules r
       of-fault OutOfMemory same = absurd (let told = subst₂ Tells (t.told ∙ ap (λ (f : Fault Overflow). Err (dispatch.System (record { 0 = t.entry.id }) f)) same) is tells in let no = told in cc)
 
 -- what a tick tells
-pub tick-told : (rules : List StoreRule) (before after : RulesOver) → ∥ RunsRules rules before ∥₁ → (answer : Answer (DispatchError Overflow)) (result : Answer TickError) → IsDispatch before answer after → Tells answer result → IsTick rules before result after
+pub tick-told : (rules : List StoreRule) (before after : RulesOver) → ∥ RunsRules rules before ∥₁ → (answer : Answer (DispatchError Overflow)) (result : Answer TickError) → RulesDispatched before answer after → Tells answer result → IsTick rules before result after
 tick-told rules before after runs answer result ran tells =
     record { answer = answer; dispatch = ran; tells = tells; overflow = λ place entity is. ∥∥₁_map runs (λ r. overflow-told rules before after r answer ran result tells place entity is); no_want = λ place is. ∥∥₁_elim runs (Prim.hlevel props) (λ r. never-wants rules before after r answer ran result tells place is) }
 
@@ -221,7 +221,7 @@ applies : (old new : Plain StoreRule) (seen left : Held (Only Pairs)) → rule_r
 applies old new seen left lies = (ap (λ (s : StoreRule). record { 0 = s }) lies.0.0, lies.0.1.1)
 
 -- where it is Done, the values are those that the rules leave which are applied one after the other
-pub ticked : (rules : List StoreRule) (before after : RulesOver) → RunsRules rules before → IsDispatch before (Ok tt) after → values_in after.values ≡ applied_all rules (values_in before.values)
+pub ticked : (rules : List StoreRule) (before after : RulesOver) → RunsRules rules before → RulesDispatched before (Ok tt) after → values_in after.values ≡ applied_all rules (values_in before.values)
 ticked rules before after runs ran =
     let added = ran.as_added runs.in_order refl in
     let states = (configuration_in before).states in
@@ -235,14 +235,14 @@ ticked rules before after runs ran =
     (λ placed here. (let (rule, told, lists, system, state) = runs.stands placed.place placed.entry here in (rule, told, (record { 0 = rule }, state, refl, lists)))) added.order at in
     runs-apply (Plain StoreRule) (NoBatch Overflow) Overflow (λ plain. plain.0) added.order rules added.list (configuration_in before) (configuration_in after)
     (in-order (Plain StoreRule) (NoBatch Overflow) Overflow (λ plain. plain.0) states rules 0 added.order rules (λ k. ap (slice_get rules) (let z : 0 + k ≡ k = omega arith in z)) (omega arith) counts has)
-    (entries-run (Plain StoreRule) (NoBatch Overflow) Overflow (λ plain. plain.0) kind_of rule_relations applies added.depth (occupants_of before) added.order added.list there added.run) added.replays
+    (entries-run (Plain StoreRule) (NoBatch Overflow) Overflow (λ plain. plain.0) table_kind rule_relations applies added.depth (occupants_of before) added.order added.list there added.run) added.replays
 
 -- what is held does not matter to which rules stand in a plan
 pub runs-over : (rules : List StoreRule) (situation : RulesOver) (values : Held (Only Pairs)) → RunsRules rules situation → RunsRules rules (record situation { values = values })
 runs-over rules situation values runs = record { in_order = runs.in_order; one_place = runs.one_place; each = runs.each; stands = runs.stands }
 
 -- where a tick tells that it is Done, it applied the rules
-pub tick-applies : (rules : List StoreRule) (before after : RulesOver) → ∥ RunsRules rules before ∥₁ → (answer : Answer (DispatchError Overflow)) (result : Answer TickError) → IsDispatch before answer after → Tells answer result → OnOk result ((entity table : ℕ) → values_in after.values entity table ≡ applied_all rules (values_in before.values) entity table)
+pub tick-applies : (rules : List StoreRule) (before after : RulesOver) → ∥ RunsRules rules before ∥₁ → (answer : Answer (DispatchError Overflow)) (result : Answer TickError) → RulesDispatched before answer after → Tells answer result → OnOk result ((entity table : ℕ) → values_in after.values entity table ≡ applied_all rules (values_in before.values) entity table)
 tick-applies rules before after runs (Ok ended) (Ok told) ran tells = λ entity table. ∥∥₁_elim runs (Prim.hlevel props) (λ r. ap (λ v. v entity table) (ticked rules before after r ran))
 tick-applies rules before after runs (Ok ended) (Err error) ran tells = tt
 tick-applies rules before after runs (Err refused) (Ok told) ran tells = absurd tells

@@ -8,7 +8,7 @@ use Rattle.std.proofs.lemmas.List.Sorted.{IsNonDecreasingBy-from_default}
 use Rattle.std.proofs.lemmas.List.Edits.{length-insert, get_or-insert_below, get_or-insert_at, get_or-insert_above, length-remove, get_or-remove_below, get_or-remove_above}
 use Rattle.std.proofs.lemmas.Bool.Decides.{nat_tests}
 use Rattle.std.proofs.lemmas.Grind.{common_steps}
-use Rattle.shredstore.specs.Rows.{Pairs, value_at, entity_at, IsAscending, IsAt, IsGapFor, IsChangedAt}
+use Rattle.shredstore.specs.Rows.{Pairs, value_at, entity_at, IsAscending, IsAt, IsRowGap, IsChangedAt}
 use Rattle.shredstore.proofs.Found.{NoneBefore, NoneFrom, FindsChanged, value_absent, value_present, found_set, found-insert, found-remove}
 
 -- one equation for every entity gives the contract's two facts
@@ -23,7 +23,7 @@ module _ (rows : Pairs) (ascending : IsAscending rows) (entity : ℕ) where
       grind (arith, nat_tests))
 
   -- a binary search ends at the entity's row, or at the gap for it
-  pub searched : (r : Result ℕ ℕ) → IsSearchInRange r (length rows) → IsBinarySearchResult (λ row. nat_cmp row.0 entity) rows r → record { found : IfOk r (IsAt rows entity); absent : IfErr r (IsGapFor rows entity) }
+  pub searched : (r : Result ℕ ℕ) → IsSearchInRange r (length rows) → IsBinarySearchResult (λ row. nat_cmp row.0 entity) rows r → record { found : IfOk r (IsAt rows entity); absent : IfErr r (IsRowGap rows entity) }
   searched (Ok place) in_range equal = record { found = record { in_range = in_range; is_its = ranked _ entity _ (sym (equal (0, pos 0))) }; absent = tt }
   searched (Err place) in_range parted = record {
     found = tt;
@@ -69,7 +69,7 @@ module _ (rows : Pairs) (ascending : IsAscending rows) (entity place : ℕ) (at 
       let above : (i : ℕ) → place ≤ i → entity_at new i ≡ entity_at rows (i + 1) = λ i above. ap its (get_or-remove_above rows place (0, pos 0) i above at.in_range) in
       grind (arith, below i, above i, below j, above j, ascending i j, ascending i (j + 1), ascending (i + 1) (j + 1))
 
-module _ (rows : Pairs) (entity place : ℕ) (gap : IsGapFor rows entity place) where
+module _ (rows : Pairs) (entity place : ℕ) (gap : IsRowGap rows entity place) where
   -- where it has none, nothing is to be taken away
   pub same_in_gap : IsChangedAt rows rows entity None
   same_in_gap = record { its = value_absent rows entity (λ i below same. grind (arith, gap.smaller_before i, gap.greater_after i)); others = λ other differs. refl }

@@ -4,7 +4,7 @@ use Rattle.std.specs.Option.{option_map}
 use Rattle.std.proofs.lemmas.List.{length-map, get_or-map, drop_all}
 use Rattle.std.proofs.lemmas.Bool.{cases_lt}
 use Rattle.std.proofs.lemmas.Bool.Decides.{nat_tests}
-use Rattle.shredstore.specs.Rows.{IsAscending, IsAt, IsLeastUnfit, IsUnfit, NoneUnfit, AllFit, AllFitTwice, Pairs, each_row, entity_at, number_at, plus, value_at, with_constant, with_sum}
+use Rattle.shredstore.specs.Rows.{IsAscending, IsAt, IsLeastUnfit, IsUnfit, NoneUnfit, AllFit, AllFitTwice, Pairs, each_row, entity_at, row_value, plus, value_at, with_constant, with_sum}
 use Rattle.shredstore.proofs.Place.{value_there}
 
 module _ {X : Type 0} (f : X → X) where
@@ -71,7 +71,7 @@ constant-each constant None = refl
 
 module _ (rows : Pairs) (ascending : IsAscending rows) where
   -- the entity of a row has its value
-  pub value_of_row : (i : ℕ) → i < length rows → value_at rows (entity_at rows i) ≡ Some (number_at rows i)
+  pub value_of_row : (i : ℕ) → i < length rows → value_at rows (entity_at rows i) ≡ Some (row_value rows i)
   value_of_row i below = value_there rows ascending (entity_at rows i) i (record { in_range = below; is_its = refl })
 
   -- what fits for each entity fits for each row
@@ -91,11 +91,11 @@ row_of (row ∷ rows) entity more unfit = told (row.0 == entity) refl (λ there.
 
 module _ (rows : Pairs) (ascending : IsAscending rows) (more : ℕ → Option ℤ) where
   -- the sum of an entity fits where that of its row does
-  fits_of_row : (entity place : ℕ) → IsAt rows entity place → (IsUnfit (Some (number_at rows place)) (more (entity_at rows place)) → ⊥) → IsUnfit (value_at rows entity) (more entity) → ⊥
+  fits_of_row : (entity place : ℕ) → IsAt rows entity place → (IsUnfit (Some (row_value rows place)) (more (entity_at rows place)) → ⊥) → IsUnfit (value_at rows entity) (more entity) → ⊥
   fits_of_row entity place at fits unfit = fits (subst (λ (o : Option ℤ). IsUnfit o (more (entity_at rows place))) (value_of_row rows ascending place at.in_range) (subst (λ (e : ℕ). IsUnfit (value_at rows e) (more e)) (sym at.is_its) unfit))
 
   -- the first row whose sum does not fit is that of the least such entity
-  pub least_of_first : (i : ℕ) → i < length rows → ((j : ℕ) → j < i → IsUnfit (Some (number_at rows j)) (more (entity_at rows j)) → ⊥) → IsUnfit (Some (number_at rows i)) (more (entity_at rows i)) → IsLeastUnfit (value_at rows) more (entity_at rows i)
+  pub least_of_first : (i : ℕ) → i < length rows → ((j : ℕ) → j < i → IsUnfit (Some (row_value rows j)) (more (entity_at rows j)) → ⊥) → IsUnfit (Some (row_value rows i)) (more (entity_at rows i)) → IsLeastUnfit (value_at rows) more (entity_at rows i)
   least_of_first i below before here = record {
     unfit = subst (λ (o : Option ℤ). IsUnfit o (more (entity_at rows i))) (sym (value_of_row rows ascending i below)) here;
     least = λ other unfit.

@@ -1,6 +1,8 @@
 -- What a store has: its facts, the number of the next entity, and how many tables there are.
-use Rattle.std.specs.Prelude.{◌≡◌, ◌+◌, ◌==◌, ◌&&◌, ℕ, ℤ, true, false, cond, Some, None}
+use Rattle.std.specs.Prelude.{◌≡◌, ◌+◌, ◌==◌, ◌&&◌, ℕ, ℤ, true, false, cond, Some, None, ◌<◌, ◌-◌, ◌^◌}
 use Rattle.shredstore.specs.Facts.{Facts}
+use Rattle.shredstore.specs.declared.error.StoreError.{StoreError}
+use Rattle.shredstore.specs.declared.error.StoreError.TheVariants.{OutOfMemory as NoMemory}
 
 -- The facts, the number that the next entity is to have, and how many tables there are.
 pub record Contents : Type 0 where
@@ -48,3 +50,19 @@ pub record KeepsEntities (old new : Contents) : Type 0 where
   pub live : (entity : ℕ) → new.facts.live entity ≡ old.facts.live entity
   pub next : new.next ≡ old.next
   pub tables : new.tables ≡ old.tables
+
+-- memory was wanting for a value that the entity has not got in the table, where both are there
+abbrev pub IsWithoutSpace : Contents → ℕ → ℕ → StoreError → Type 0
+IsWithoutSpace contents entity table error = table < contents.tables → contents.facts.live entity ≡ true → (error ≡ NoMemory) × (contents.facts.value entity table ≡ None)
+
+-- there is no table of this number
+abbrev pub HasNoTable : Contents → ℕ → Type 0
+HasNoTable contents table = table < contents.tables → ⊥
+
+-- the entity is not live
+abbrev pub IsDead : Contents → ℕ → Type 0
+IsDead contents entity = contents.facts.live entity ≡ false
+
+-- there is a number for one more entity
+abbrev pub HasNumberLeft : Contents → Type 0
+HasNumberLeft contents = contents.next ≡ 2 ^ 64 - 1 → ⊥

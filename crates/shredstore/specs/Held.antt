@@ -7,7 +7,7 @@ use Rattle.shred_world.specs.declared.world.World.{World}
 use Rattle.shred_world.specs.Worlds.{world_held}
 use Rattle.shredstore.specs.Facts.{OnlyLive}
 use Rattle.shredstore.specs.Rows.{Pairs}
-use Rattle.shredstore.specs.Tables.{kind_of, table_id, values_in}
+use Rattle.shredstore.specs.Tables.{table_kind, table_id, values_in}
 
 -- whether an entity is one of these
 abbrev pub is_live : BTreeSet ℕ → ℕ → Bool
@@ -15,7 +15,7 @@ is_live live entity = contains nat_cmp live entity
 
 -- just the first so many tables are held
 abbrev pub HasTables : ℕ → World (Only Pairs) → Type 0
-HasTables tables world = (table : ℕ) → is_some (world_held kind_of world (table_id table)) ≡ nat_lt table tables
+HasTables tables world = (table : ℕ) → is_some (world_held table_kind world (table_id table)) ≡ nat_lt table tables
 
 -- each live entity has a number below the next one
 abbrev pub AreBelow : ℕ → BTreeSet ℕ → Type 0
@@ -23,4 +23,4 @@ AreBelow next live = (entity : ℕ) → is_live live entity ≡ true → entity 
 
 -- live entities alone have values in the tables
 abbrev pub AreOfLive : BTreeSet ℕ → World (Only Pairs) → Type 0
-AreOfLive live world = OnlyLive (is_live live) (values_in (world_held kind_of world))
+AreOfLive live world = OnlyLive (is_live live) (values_in (world_held table_kind world))

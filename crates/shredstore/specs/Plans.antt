@@ -7,7 +7,7 @@ use Rattle.shred_table.specs.declared.only.Only.{Only}
 use Rattle.shred_world.specs.Worked.{Held}
 use Rattle.shred_run.specs.AdditionOrder.{KeepsAddition}
 use Rattle.shred_run.specs.Controls.{Refuses}
-use Rattle.shred_run.specs.Depths.{Related, lists_of, relations_of}
+use Rattle.shred_run.specs.Depths.{Related, relations_of}
 use Rattle.shred_run.specs.Dispatched.{Situation, configuration_in, occupants_of}
 use Rattle.shred_run.specs.Occupants.{a_system, of_system}
 use Rattle.shred_run.specs.declared.no_batch.NoBatch.{NoBatch}
@@ -23,7 +23,7 @@ use Rattle.shred.specs.declared.plain.Plain.{Plain}
 use Rattle.shredstore.specs.declared.rule.Overflow.{Overflow}
 use Rattle.shredstore.specs.declared.rule.StoreRule.{StoreRule}
 use Rattle.shredstore.specs.Rows.{Pairs}
-use Rattle.shredstore.specs.RuleSteps.{HasListsOf, RuleStep, rule_reads, rule_writes}
+use Rattle.shredstore.specs.RuleSteps.{HasListsOf, AppliesRule, rule_reads, rule_writes}
 
 -- a plan of rules without batches, over tables
 abbrev pub RulesOver : Type 0
@@ -35,7 +35,7 @@ RulesBuilt = Built (Work (Plain StoreRule) (Nested (Only Pairs) (Plain StoreRule
 
 -- the relations of such a plan: that of the rules' runs, and a controller's calls that refuse
 abbrev pub rule_relations : Related (Only Pairs) (Plain StoreRule) (NoBatch Overflow) Overflow
-rule_relations = relations_of (lists_of (λ plain. rule_reads plain.0) (λ plain. rule_writes plain.0) (λ none. []) (λ none. [])) (λ before seen outcome after left. RuleStep before.0 seen outcome after.0 left) Refuses Refuses
+rule_relations = relations_of (record { reads = λ plain. rule_reads plain.0; writes = λ plain. rule_writes plain.0; control_reads = λ none. []; control_writes = λ none. [] }) (λ before seen outcome after left. AppliesRule before.0 seen outcome after.0 left) Refuses Refuses
 
 -- the rule at the place that is the entry's id stands in the entry, which is kept with the rule's lists
 abbrev pub IsRuleEntry : List StoreRule → RulesOver → Agent → PlanEntry ResourceId → Type 0

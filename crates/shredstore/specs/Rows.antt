@@ -25,7 +25,7 @@ pub record IsAt (rows : Pairs) (entity place : ℕ) : Type 0 where
   pub is_its : entity_at rows place ≡ entity
 
 -- The row of the entity would go at the place: smaller entities before it, and greater ones from it on.
-pub record IsGapFor (rows : Pairs) (entity place : ℕ) : Type 0 where
+pub record IsRowGap (rows : Pairs) (entity place : ℕ) : Type 0 where
   pub in_range : place ≤ length rows
   pub smaller_before : (i : ℕ) → i < place → entity_at rows i < entity
   pub greater_after : (i : ℕ) → place ≤ i → i < length rows → entity < entity_at rows i
@@ -71,13 +71,17 @@ plus value (Some more) = value +ℤ more
 plus value None = value
 
 -- the value of the row at a place
-abbrev pub number_at : Pairs → ℕ → ℤ
-number_at rows place = let row = slice_index_or rows place (0, pos 0) in row.1
+abbrev pub row_value : Pairs → ℕ → ℤ
+row_value rows place = let row = slice_index_or rows place (0, pos 0) in row.1
 
 -- the value of each row and what these have for its entity have a sum that fits
 abbrev pub AllFit : (ℕ → Option ℤ) → Pairs → Type 0
-AllFit more rows = (i : ℕ) → i < length rows → IsUnfit (Some (number_at rows i)) (more (entity_at rows i)) → ⊥
+AllFit more rows = (i : ℕ) → i < length rows → IsUnfit (Some (row_value rows i)) (more (entity_at rows i)) → ⊥
 
 -- twice the value of each row fits
 abbrev pub AllFitTwice : Pairs → Type 0
-AllFitTwice rows = (i : ℕ) → i < length rows → IsUnfit (Some (number_at rows i)) (Some (number_at rows i)) → ⊥
+AllFitTwice rows = (i : ℕ) → i < length rows → IsUnfit (Some (row_value rows i)) (Some (row_value rows i)) → ⊥
+
+-- each entity with a value has the sum with what the other rows have for it, or its value where they have none
+abbrev pub AreSums : (rows other sums : Pairs) → Type 0
+AreSums rows other sums = (entity : ℕ) → value_at sums entity ≡ with_sum (value_at rows entity) (value_at other entity)

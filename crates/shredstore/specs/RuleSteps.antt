@@ -35,7 +35,7 @@ IsRuleFault rule value (Refused overflow) = IsFirstOverflow rule value overflow.
 IsRuleFault rule value OutOfMemory = ⊥
 
 -- A run keeps the rule. Where it is Done, each sum fits, and the entities have what the rule makes of their values; where it is refused, nothing changes.
-abbrev pub RuleStep : Step (Only Pairs) StoreRule Overflow
-RuleStep rule seen outcome after left = (after ≡ rule) × MatchResult outcome
+abbrev pub AppliesRule : Step (Only Pairs) StoreRule Overflow
+AppliesRule rule seen outcome after left = (after ≡ rule) × MatchResult outcome
     (λ done. AllSumsFit rule (values_in seen) × ((entity table : ℕ) → values_in left entity table ≡ applied rule (values_in seen) entity table))
     (λ fault. IsRuleFault rule (values_in seen) fault × ((id : ResourceId) → left id ≡ seen id))

@@ -1,9 +1,10 @@
 -- What a rule makes of the values of entities.
-use Rattle.std.specs.Prelude.{ℕ, ℤ, ◌==◌, nat_lt, cond, List, [], ◌∷◌, Option, Some, None}
+use Rattle.std.specs.Prelude.{ℕ, ℤ, ◌==◌, nat_lt, cond, List, [], ◌∷◌, Option, Some, None, ◌≡◌}
 use Rattle.shredstore.specs.declared.rule.StoreRule.{StoreRule}
 use Rattle.shredstore.specs.declared.rule.StoreRule.TheVariants.{Add, Set}
 use Rattle.shredstore.specs.Facts.{Values}
 use Rattle.shredstore.specs.Rows.{IsLeastUnfit, NoneUnfit, with_constant, with_sum}
+use Rattle.shredstore.specs.Contents.{Contents}
 
 -- what the entities have in one table
 abbrev pub in_table : Values → ℕ → ℕ → Option ℤ
@@ -47,3 +48,7 @@ first_of None other = other
 abbrev pub first_missing : ℕ → List StoreRule → Option ℕ
 first_missing tables [] = None
 first_missing tables (rule ∷ rules) = first_of (missing tables rule) (first_missing tables rules)
+
+-- the store has after what the rules, applied in this order, make of what it had
+abbrev pub AppliesAll : List StoreRule → (old new : Contents) → Type 0
+AppliesAll rules old new = (entity table : ℕ) → new.facts.value entity table ≡ applied_all rules old.facts.value entity table

@@ -6,7 +6,7 @@ use Rattle.shredstore.specs.declared.store.Store.{Store}
 use Rattle.shredstore.specs.Contents as contents
 use Rattle.shredstore.specs.EntityFacts as entities
 use Rattle.shredstore.specs.Plans.{RulesOver}
-use Rattle.shredstore.specs.Tables.{kind_of}
+use Rattle.shredstore.specs.Tables.{table_kind}
 
 -- its facts, the number of the next entity, and how many tables there are
 abbrev pub contents_of : Store → contents.Contents
@@ -18,4 +18,4 @@ rules_of store = store.rules.items
 
 -- the plan of its rules, over its tables
 abbrev pub situation_of : Store → RulesOver
-situation_of store = dispatcher_over kind_of store.dispatcher store.entities.world
+situation_of store = dispatcher_over table_kind store.dispatcher store.entities.world

@@ -1,5 +1,5 @@
 -- Tables of rows, held under ids of kind 0, each under its own number.
-use Rattle.std.specs.Prelude.{◌≡◌, ℕ, ℤ, Option, Some, None, MatchOption}
+use Rattle.std.specs.Prelude.{◌≡◌, ℕ, ℤ, Option, Some, None, MatchOption, ◌&&◌, ◌==◌, cond, nat_lt}
 use Rattle.shred_table.specs.Id.{id_of}
 use Rattle.shred_table.specs.Only.{only_kind}
 use Rattle.shred_table.specs.Slots.{with_at}
@@ -9,10 +9,14 @@ use Rattle.shred_table.specs.declared.only.Only.{Only}
 use Rattle.shred_world.specs.Worked.{Held}
 use Rattle.shredstore.specs.Facts.{Values}
 use Rattle.shredstore.specs.Rows.{Pairs, value_at}
+use Rattle.shred_world.specs.declared.world.World.{World}
+use Rattle.shred_world.specs.declared.world.view.View.{View}
+use Rattle.shred_world.specs.Views.{view_held}
+use Rattle.shred_world.specs.Worlds.{world_held}
 
 -- the kind of every table
-abbrev pub kind_of : Only Pairs → Kind
-kind_of value = only_kind
+abbrev pub table_kind : Only Pairs → Kind
+table_kind value = only_kind
 
 -- the id of a table
 abbrev pub table_id : ℕ → ResourceId
@@ -36,3 +40,19 @@ abbrev pub IsRemade : (ℕ → Option ℤ → Option ℤ) → ℕ → Held (Only
 IsRemade made table before after = MatchOption (before (table_id table))
     ((id : ResourceId) → after id ≡ before id)
     (λ old. (rows : Pairs) × ((entity : ℕ) → value_at rows entity ≡ made entity (value_at old.0 entity)) × ((id : ResourceId) → after id ≡ with_at before (table_id table) (Some (table_of rows)) id))
+
+-- the value of each entity in a table that a view shows
+abbrev pub column_in : View (Only Pairs) → ℕ → ℕ → Option ℤ
+column_in view table entity = value_in (view_held table_kind view (table_id table)) entity
+
+-- `IsRemade`, of what a view shows before and after
+abbrev pub IsRemadeIn : (ℕ → Option ℤ → Option ℤ) → ℕ → View (Only Pairs) → View (Only Pairs) → Type 0
+IsRemadeIn made table old new = IsRemade made table (view_held table_kind old) (view_held table_kind new)
+
+-- `IsRemade`, of what a world holds before and after
+abbrev pub IsWorldRemade : (ℕ → Option ℤ → Option ℤ) → ℕ → World (Only Pairs) → World (Only Pairs) → Type 0
+IsWorldRemade made table old new = IsRemade made table (world_held table_kind old) (world_held table_kind new)
+
+-- the entity has a value in none of so many tables, and each other value stays
+abbrev pub IsRemovedFrom : ℕ → ℕ → World (Only Pairs) → World (Only Pairs) → Type 0
+IsRemovedFrom tables entity old new = (other table : ℕ) → values_in (world_held table_kind new) other table ≡ cond (nat_lt table tables && entity == other) None (values_in (world_held table_kind old) other table)

@@ -16,7 +16,7 @@ use Rattle.shredstore.specs.declared.rule.Overflow as rule
 use Rattle.shredstore.specs.Plans.{RulesOver, rule_relations}
 use Rattle.shredstore.specs.Rows.{Pairs}
 use Rattle.shredstore.specs.Rules.{IsFirstOverflow}
-use Rattle.shredstore.specs.Tables.{kind_of, values_in}
+use Rattle.shredstore.specs.Tables.{table_kind, values_in}
 use Rattle.shredstore.specs.declared.rule.StoreRule.{StoreRule}
 use Rattle.shred.specs.declared.plain.Plain.{Plain}
 use Rattle.shred_table.specs.declared.id.ResourceId.{ResourceId}
@@ -29,8 +29,8 @@ IsOfSystems (Err (System id fault)) = Unit {0}
 IsOfSystems (Err refused) = ⊥
 
 -- the plan of the rules was dispatched, with this answer
-abbrev pub IsDispatch : RulesOver → Answer (DispatchError rule.Overflow) → RulesOver → Type 0
-IsDispatch before answer after = Dispatched kind_of rule_relations dispatch_answer before answer after
+abbrev pub RulesDispatched : RulesOver → Answer (DispatchError rule.Overflow) → RulesOver → Type 0
+RulesDispatched before answer after = Dispatched table_kind rule_relations dispatch_answer before answer after
 
 -- what a tick tells of a dispatch's refusal: a rule's place is the id of its system; thread-local systems there are none
 abbrev pub TellsError : DispatchError rule.Overflow → TickError → Type 0
@@ -66,7 +66,7 @@ pub record IsOverflowOf (rules : List StoreRule) (plan : Plan ResourceId) (list 
 -- The plan of the rules was dispatched, and this was told of its answer; an `Overflow` is one of the rule that it names, and no rule wants memory.
 pub record IsTick (rules : List StoreRule) (before : RulesOver) (result : Answer TickError) (after : RulesOver) : Type 0 where
   pub answer : Answer (DispatchError rule.Overflow)
-  pub dispatch : IsDispatch before answer after
+  pub dispatch : RulesDispatched before answer after
   pub tells : Tells answer result
   pub overflow : (place entity : ℕ) → result ≡ Err (Overflow place entity) → ∥ IsOverflowOf rules before.plan dispatch.list place entity ∥₁
   pub no_want : (place : ℕ) → result ≡ Err (RuleMemory place) → ⊥

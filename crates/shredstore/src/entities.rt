@@ -1,5 +1,6 @@
 //! Entities, and their values in tables.
 ghost use Rattle.shredstore.specs.Held.{AreBelow, AreOfLive, HasTables};
+ghost use Rattle.shredstore.specs.Contents.{IsWithoutSpace, HasNoTable, IsDead, HasNumberLeft};
 
 use crate::entity::Entity;
 use crate::error::StoreError;
@@ -22,7 +23,7 @@ pub struct Entities {
 }
 
 impl Entities {
-    ghost use Rattle.std.specs.Prelude.{◌≡◌, ◌↔◌, ◌<◌, ◌-◌, ◌^◌, true, false, None, Err, IfErr, IfOk, OnErr, OnOk};
+    ghost use Rattle.std.specs.Prelude.{◌≡◌, ◌↔◌, ◌<◌, ◌-◌, ◌^◌, true, false, Err, IfErr, IfOk, OnErr, OnOk};
     ghost use Rattle.shredstore.specs.Contents.{IsCreated, IsDeleted, IsEmpty, IsSame, IsValueSet};
     ghost use Rattle.shredstore.specs.EntityFacts.{contents_in};
     ghost use Rattle.shredstore.specs.Facts.{OnlyLive};
@@ -46,7 +47,7 @@ impl Entities {
         ensures number { IfOk result (λ entity. entity.0 ≡ (contents_in self.old).next) }
         ensures created { OnOk result (IsCreated (contents_in self.old) (contents_in self.new)) }
         ensures exhausted { ((contents_in self.old).next ≡ 2 ^ 64 - 1) ↔ (result ≡ Err EntitiesExhausted) }
-        ensures refused { IfErr result (λ error. ((contents_in self.old).next ≡ 2 ^ 64 - 1 → ⊥) → error ≡ NoMemory) }
+        ensures refused { IfErr result (λ error. HasNumberLeft (contents_in self.old) → error ≡ NoMemory) }
         ensures unchanged { OnErr result (IsSame (contents_in self.old) (contents_in self.new)) }
     {
         if self.next == u64::MAX {
@@ -78,9 +79,9 @@ impl Entities {
     pub fn set(&mut self, entity: Entity, table: u64, value: i64) -> Result<Option<i64>, StoreError>
         ensures had { IfOk result (λ had. had ≡ (contents_in self.old).facts.value entity.0 table) }
         ensures set { OnOk result (IsValueSet (contents_in self.old) (contents_in self.new) entity.0 table value) }
-        ensures no_such_table { (table < (contents_in self.old).tables → ⊥) ↔ (result ≡ Err (NoSuchTable table)) }
-        ensures no_such_entity { table < (contents_in self.old).tables → ((contents_in self.old).facts.live entity.0 ≡ false) ↔ (result ≡ Err NoSuchEntity) }
-        ensures refused { IfErr result (λ error. table < (contents_in self.old).tables → (contents_in self.old).facts.live entity.0 ≡ true → (error ≡ NoMemory) × ((contents_in self.old).facts.value entity.0 table ≡ None)) }
+        ensures no_such_table { HasNoTable (contents_in self.old) table ↔ (result ≡ Err (NoSuchTable table)) }
+        ensures no_such_entity { table < (contents_in self.old).tables → IsDead (contents_in self.old) entity.0 ↔ (result ≡ Err NoSuchEntity) }
+        ensures refused { IfErr result (IsWithoutSpace (contents_in self.old) entity.0 table) }
         ensures unchanged { OnErr result (IsSame (contents_in self.old) (contents_in self.new)) }
     {
         if table >= self.tables {

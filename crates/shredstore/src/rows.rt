@@ -1,7 +1,7 @@
 //! The rows of a table.
 ghost use Rattle.std.specs.Prelude.{◌≡◌, ℕ, [], None, Some, IfErr, IfOk, IfSome, OnErr, IfNone, OnOk};
 ghost use Rattle.std.specs.Bool.{OnFalse, OnTrue};
-ghost use Rattle.shredstore.specs.Rows.{AllFit, AllFitTwice, IsAscending, IsAt, IsChangedAt, IsGapFor, IsLeastUnfit, IsUnfit, NoneUnfit, Pairs, each_row, plus, value_at, with_constant, with_sum};
+ghost use Rattle.shredstore.specs.Rows.{AllFit, AllFitTwice, IsAscending, IsAt, IsChangedAt, IsRowGap, IsLeastUnfit, IsUnfit, NoneUnfit, Pairs, each_row, plus, value_at, with_constant, AreSums};
 
 use shred::OutOfMemory;
 use std::alloc::Global;
@@ -153,7 +153,7 @@ impl Rows {
     /// Adds to each value that of the other rows for its entity, if there is one.
     pub fn add(&mut self, other: &Rows)
         requires { NoneUnfit (value_at self.old) (value_at other.now) }
-        ensures { (entity : ℕ) → value_at self.new entity ≡ with_sum (value_at self.old entity) (value_at other.now entity) }
+        ensures { AreSums self.old other.now self.new }
     {
         add_to_each(self.pairs.as_mut_slice(), other);
     }
@@ -161,7 +161,7 @@ impl Rows {
     /// Adds each value to itself.
     pub fn double(&mut self)
         requires { NoneUnfit (value_at self.old) (value_at self.old) }
-        ensures { (entity : ℕ) → value_at self.new entity ≡ with_sum (value_at self.old entity) (value_at self.old entity) }
+        ensures { AreSums self.old self.old self.new }
     {
         double_each(self.pairs.as_mut_slice());
     }
@@ -176,7 +176,7 @@ impl Rows {
     // Where the entity's row is, or where it would go.
     fn place(&self, entity: u64) -> Result<usize, usize>
         ensures found { IfOk result (IsAt self.now entity) }
-        ensures absent { IfErr result (IsGapFor self.now entity) }
+        ensures absent { IfErr result (IsRowGap self.now entity) }
     {
         self.pairs.binary_search_by_key(&entity, |&(its, _)| its)
     }

@@ -2,10 +2,10 @@
 ghost use Rattle.std.specs.Prelude.{◌≡◌, ◌≢◌, [], ℕ, false, IfErr, IfSome, OnErr, IfNone, OnOk, OnSome, Some, is_some, true};
 ghost use Rattle.std.specs.Option.{option_map};
 ghost use Rattle.shred_table.specs.declared.id.ResourceId.{ResourceId};
-ghost use Rattle.shred_table.specs.Slots.{with_at};
 ghost use Rattle.shred_world.specs.Views.{IsSameView, is_out, may_read, may_write, view_held};
 ghost use Rattle.shredstore.specs.Rows.{IsLeastUnfit, NoneUnfit, with_constant, with_sum};
-ghost use Rattle.shredstore.specs.Tables.{IsRemade, kind_of, table_id, table_of, value_in};
+ghost use Rattle.shredstore.specs.Tables.{table_kind, table_id, table_of, column_in, IsRemadeIn};
+ghost use Rattle.shred_table.specs.Changes.{Stays, Puts};
 
 use crate::rows::Rows;
 use shred::{BatchAccessor, Fault, Only, OutOfMemory, PlainSystem, View, only_id};
@@ -33,7 +33,7 @@ pub struct Overflow {
 fn rows_in<'v>(view: &'v View<Only<Rows>>, table: u64) -> Option<&'v Rows>
     requires may { may_read view.now (table_id table) ≡ true }
     requires in_place { is_out view.now (table_id table) ≡ false }
-    ensures { option_map (λ rows. table_of rows.now) result ≡ view_held kind_of view.now (table_id table) }
+    ensures { option_map (λ rows. table_of rows.now) result ≡ view_held table_kind view.now (table_id table) }
 {
     view.read::<Rows>(only_id(table)).ok()
 }
@@ -43,8 +43,8 @@ fn overflow_in(view: &View<Only<Rows>>, x: u64, y: u64) -> Option<u64>
     requires may_x { may_read view.now (table_id x) ≡ true }
     requires may_y { may_read view.now (table_id y) ≡ true }
     requires in_place { (id : ResourceId) → is_out view.now id ≡ false }
-    ensures least { IfSome result (IsLeastUnfit (value_in (view_held kind_of view.now (table_id x))) (value_in (view_held kind_of view.now (table_id y)))) }
-    ensures none { IfNone result (NoneUnfit (value_in (view_held kind_of view.now (table_id x))) (value_in (view_held kind_of view.now (table_id y)))) }
+    ensures least { IfSome result (IsLeastUnfit (column_in view.now x) (column_in view.now y)) }
+    ensures none { IfNone result (NoneUnfit (column_in view.now x) (column_in view.now y)) }
 {
     rows_in(view, x)?.least_unfit(rows_in(view, y)?)
 }
@@ -53,9 +53,9 @@ fn overflow_in(view: &View<Only<Rows>>, x: u64, y: u64) -> Option<u64>
 fn take(view: &mut View<Only<Rows>>, table: u64) -> Option<Rows>
     requires may { may_write view.old (table_id table) ≡ true }
     requires in_place { is_out view.old (table_id table) ≡ false }
-    ensures taken { option_map (λ rows. table_of rows) result ≡ view_held kind_of view.old (table_id table) }
-    ensures emptied { OnSome result ((id : ResourceId) → view_held kind_of view.new id ≡ with_at (view_held kind_of view.old) (table_id table) (Some (table_of [])) id) }
-    ensures unchanged { IfNone result ((id : ResourceId) → view_held kind_of view.new id ≡ view_held kind_of view.old id) }
+    ensures taken { option_map (λ rows. table_of rows) result ≡ view_held table_kind view.old (table_id table) }
+    ensures emptied { OnSome result (Puts (view_held table_kind) view.old (table_id table) (Some (table_of [])) view.new) }
+    ensures unchanged { IfNone result (Stays (view_held table_kind) view.old view.new) }
     ensures view { IsSameView view.old view.new }
 {
     match view.write::<Rows>(only_id(table)) {
@@ -71,8 +71,8 @@ fn take(view: &mut View<Only<Rows>>, table: u64) -> Option<Rows>
 fn put(view: &mut View<Only<Rows>>, table: u64, rows: Rows)
     requires may { may_write view.old (table_id table) ≡ true }
     requires in_place { is_out view.old (table_id table) ≡ false }
-    requires there { is_some (view_held kind_of view.old (table_id table)) ≡ true }
-    ensures put { (id : ResourceId) → view_held kind_of view.new id ≡ with_at (view_held kind_of view.old) (table_id table) (Some (table_of rows)) id }
+    requires there { is_some (view_held table_kind view.old (table_id table)) ≡ true }
+    ensures put { Puts (view_held table_kind) view.old (table_id table) (Some (table_of rows)) view.new }
     ensures view { IsSameView view.old view.new }
 {
     match view.write::<Rows>(only_id(table)) {
@@ -87,8 +87,8 @@ fn add_other(view: &mut View<Only<Rows>>, x: u64, y: u64)
     requires may_x { may_write view.old (table_id x) ≡ true }
     requires may_y { may_read view.old (table_id y) ≡ true }
     requires in_place { (id : ResourceId) → is_out view.old id ≡ false }
-    requires fit { NoneUnfit (value_in (view_held kind_of view.old (table_id x))) (value_in (view_held kind_of view.old (table_id y))) }
-    ensures remade { IsRemade (λ entity value. with_sum value (value_in (view_held kind_of view.old (table_id y)) entity)) x (view_held kind_of view.old) (view_held kind_of view.new) }
+    requires fit { NoneUnfit (column_in view.old x) (column_in view.old y) }
+    ensures remade { IsRemadeIn (λ entity value. with_sum value (column_in view.old y entity)) x view.old view.new }
     ensures view { IsSameView view.old view.new }
 {
     let Some(mut rows) = take(view, x) else {
@@ -104,8 +104,8 @@ fn add_other(view: &mut View<Only<Rows>>, x: u64, y: u64)
 fn double(view: &mut View<Only<Rows>>, table: u64)
     requires may { may_write view.old (table_id table) ≡ true }
     requires in_place { is_out view.old (table_id table) ≡ false }
-    requires fit { NoneUnfit (value_in (view_held kind_of view.old (table_id table))) (value_in (view_held kind_of view.old (table_id table))) }
-    ensures remade { IsRemade (λ entity value. with_sum value value) table (view_held kind_of view.old) (view_held kind_of view.new) }
+    requires fit { NoneUnfit (column_in view.old table) (column_in view.old table) }
+    ensures remade { IsRemadeIn (λ entity value. with_sum value value) table view.old view.new }
     ensures view { IsSameView view.old view.new }
 {
     if let Ok(rows) = view.write::<Rows>(only_id(table)) {
@@ -117,7 +117,7 @@ fn double(view: &mut View<Only<Rows>>, table: u64)
 fn set_all(view: &mut View<Only<Rows>>, table: u64, value: i64)
     requires may { may_write view.old (table_id table) ≡ true }
     requires in_place { is_out view.old (table_id table) ≡ false }
-    ensures remade { IsRemade (λ entity old. with_constant value old) table (view_held kind_of view.old) (view_held kind_of view.new) }
+    ensures remade { IsRemadeIn (λ entity old. with_constant value old) table view.old view.new }
     ensures view { IsSameView view.old view.new }
 {
     if let Ok(rows) = view.write::<Rows>(only_id(table)) {
@@ -130,10 +130,10 @@ fn add(view: &mut View<Only<Rows>>, x: u64, y: u64) -> Result<(), Overflow>
     requires may_x { may_write view.old (table_id x) ≡ true }
     requires may_y { may_read view.old (table_id y) ≡ true }
     requires in_place { (id : ResourceId) → is_out view.old id ≡ false }
-    ensures fit { OnOk result (NoneUnfit (value_in (view_held kind_of view.old (table_id x))) (value_in (view_held kind_of view.old (table_id y)))) }
-    ensures remade { OnOk result (IsRemade (λ entity value. with_sum value (value_in (view_held kind_of view.old (table_id y)) entity)) x (view_held kind_of view.old) (view_held kind_of view.new)) }
-    ensures least { IfErr result (λ overflow. IsLeastUnfit (value_in (view_held kind_of view.old (table_id x))) (value_in (view_held kind_of view.old (table_id y))) overflow.entity) }
-    ensures unchanged { OnErr result ((id : ResourceId) → view_held kind_of view.new id ≡ view_held kind_of view.old id) }
+    ensures fit { OnOk result (NoneUnfit (column_in view.old x) (column_in view.old y)) }
+    ensures remade { OnOk result (IsRemadeIn (λ entity value. with_sum value (column_in view.old y entity)) x view.old view.new) }
+    ensures least { IfErr result (λ overflow. IsLeastUnfit (column_in view.old x) (column_in view.old y) overflow.entity) }
+    ensures unchanged { OnErr result (Stays (view_held table_kind) view.old view.new) }
     ensures view { IsSameView view.old view.new }
 {
     if let Some(entity) = overflow_in(view, x, y) {
@@ -148,7 +148,7 @@ fn add(view: &mut View<Only<Rows>>, x: u64, y: u64) -> Result<(), Overflow>
 }
 
 impl PlainSystem<Only<Rows>> for StoreRule {
-    ghost use Rattle.shredstore.specs.RuleSteps.{RuleStep, rule_reads, rule_writes};
+    ghost use Rattle.shredstore.specs.RuleSteps.{AppliesRule, rule_reads, rule_writes};
 
     type Error = Overflow;
 
@@ -156,7 +156,7 @@ impl PlainSystem<Only<Rows>> for StoreRule {
 
     ghost writes = { rule_writes };
 
-    ghost step = { RuleStep };
+    ghost step = { AppliesRule };
 
     fn run(&mut self, view: &mut View<Only<Rows>>) -> Result<(), Fault<Overflow>> {
         match *self {

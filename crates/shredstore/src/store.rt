@@ -1,12 +1,12 @@
 //! The store.
 ghost use Rattle.std.specs.Prelude.{◌≡◌, IfOk};
 ghost use Rattle.shred.specs.Dispatchers.{dispatcher_over, dispatcher_with};
-ghost use Rattle.shredstore.specs.Contents.{IsEmpty};
+ghost use Rattle.shredstore.specs.Contents.{IsEmpty, IsWithoutSpace, HasNoTable, IsDead, HasNumberLeft};
 ghost use Rattle.shredstore.specs.EntityFacts.{contents_in};
 ghost use Rattle.shredstore.specs.Plans.{RunsOverAny};
-ghost use Rattle.shredstore.specs.Rules.{first_missing, missing};
-ghost use Rattle.shredstore.specs.Tables.{kind_of};
-ghost use Rattle.shredstore.specs.Ticks.{IsDispatch, IsOfSystems, Tells};
+ghost use Rattle.shredstore.specs.Rules.{first_missing, missing, AppliesAll};
+ghost use Rattle.shredstore.specs.Tables.{table_kind};
+ghost use Rattle.shredstore.specs.Ticks.{RulesDispatched, IsOfSystems, Tells};
 
 use crate::entities::Entities;
 use crate::entity::Entity;
@@ -82,7 +82,7 @@ fn dispatched<R: Threads + Sync>(
     dispatcher: &mut RuleDispatcher,
     world: &mut World<Only<Rows>>,
 ) -> Result<(), DispatchError<Overflow>>
-    ensures { IsDispatch (dispatcher_over kind_of dispatcher.old world.old) result (dispatcher_over kind_of dispatcher.new world.new) }
+    ensures { RulesDispatched (dispatcher_over table_kind dispatcher.old world.old) result (dispatcher_over table_kind dispatcher.new world.new) }
 {
     dispatcher.dispatch_par(rt, world)
 }
@@ -92,7 +92,7 @@ fn dispatched_in_order(
     dispatcher: &mut RuleDispatcher,
     world: &mut World<Only<Rows>>,
 ) -> Result<(), DispatchError<Overflow>>
-    ensures { IsDispatch (dispatcher_over kind_of dispatcher.old world.old) result (dispatcher_over kind_of dispatcher.new world.new) }
+    ensures { RulesDispatched (dispatcher_over table_kind dispatcher.old world.old) result (dispatcher_over table_kind dispatcher.new world.new) }
 {
     dispatcher.dispatch_seq(world)
 }
@@ -110,10 +110,9 @@ fn store_of(alloc: Global, tables: u64, rules: &[StoreRule]) -> Result<Store, Ou
 }
 
 impl Store {
-    ghost use Rattle.std.specs.Prelude.{◌↔◌, ◌<◌, ◌-◌, ◌^◌, ℕ, true, false, None, Err, IfErr, IfNone, IfSome, OnErr, OnOk};
+    ghost use Rattle.std.specs.Prelude.{◌↔◌, ◌<◌, ◌-◌, ◌^◌, None, Err, IfErr, IfNone, IfSome, OnErr, OnOk};
     ghost use Rattle.shredstore.specs.Contents.{IsCreated, IsDeleted, IsSame, IsValueSet, KeepsEntities};
     ghost use Rattle.shredstore.specs.Facts.{OnlyLive};
-    ghost use Rattle.shredstore.specs.Rules.{applied_all};
     ghost use Rattle.shredstore.specs.Stores.{contents_of, rules_of, situation_of};
     ghost use Rattle.shredstore.specs.Ticks.{IsTick};
     ghost use Rattle.shredstore.specs.declared.error.StoreError.TheVariants.{EntitiesExhausted, NoSuchEntity, NoSuchTable, OutOfMemory as NoMemory};
@@ -141,7 +140,7 @@ impl Store {
         ensures number { IfOk result (λ entity. entity.0 ≡ (contents_of self.old).next) }
         ensures created { OnOk result (IsCreated (contents_of self.old) (contents_of self.new)) }
         ensures exhausted { ((contents_of self.old).next ≡ 2 ^ 64 - 1) ↔ (result ≡ Err EntitiesExhausted) }
-        ensures refused { IfErr result (λ error. ((contents_of self.old).next ≡ 2 ^ 64 - 1 → ⊥) → error ≡ NoMemory) }
+        ensures refused { IfErr result (λ error. HasNumberLeft (contents_of self.old) → error ≡ NoMemory) }
         ensures unchanged { OnErr result (IsSame (contents_of self.old) (contents_of self.new)) }
         ensures rules { rules_of self.new ≡ rules_of self.old }
     {
@@ -162,9 +161,9 @@ impl Store {
     pub fn set(&mut self, entity: Entity, table: u64, value: i64) -> Result<Option<i64>, StoreError>
         ensures had { IfOk result (λ had. had ≡ (contents_of self.old).facts.value entity.0 table) }
         ensures set { OnOk result (IsValueSet (contents_of self.old) (contents_of self.new) entity.0 table value) }
-        ensures no_such_table { (table < (contents_of self.old).tables → ⊥) ↔ (result ≡ Err (NoSuchTable table)) }
-        ensures no_such_entity { table < (contents_of self.old).tables → ((contents_of self.old).facts.live entity.0 ≡ false) ↔ (result ≡ Err NoSuchEntity) }
-        ensures refused { IfErr result (λ error. table < (contents_of self.old).tables → (contents_of self.old).facts.live entity.0 ≡ true → (error ≡ NoMemory) × ((contents_of self.old).facts.value entity.0 table ≡ None)) }
+        ensures no_such_table { HasNoTable (contents_of self.old) table ↔ (result ≡ Err (NoSuchTable table)) }
+        ensures no_such_entity { table < (contents_of self.old).tables → IsDead (contents_of self.old) entity.0 ↔ (result ≡ Err NoSuchEntity) }
+        ensures refused { IfErr result (IsWithoutSpace (contents_of self.old) entity.0 table) }
         ensures unchanged { OnErr result (IsSame (contents_of self.old) (contents_of self.new)) }
         ensures rules { rules_of self.new ≡ rules_of self.old }
     {
@@ -189,7 +188,7 @@ impl Store {
     /// Applies the rules one after the other, in the order given to `new`, those that touch other tables beside each other on
     /// threads. A refused rule ends the tick; what the rules that ran have done stays.
     pub fn tick<R: Threads + Sync>(&mut self, rt: &R) -> Result<(), TickError>
-        ensures applied { OnOk result ((entity table : ℕ) → (contents_of self.new).facts.value entity table ≡ applied_all (rules_of self.old) (contents_of self.old).facts.value entity table) }
+        ensures applied { OnOk result (AppliesAll (rules_of self.old) (contents_of self.old) (contents_of self.new)) }
         ensures dispatched { IsTick (rules_of self.old) (situation_of self.old) result (situation_of self.new) }
         ensures kept { KeepsEntities (contents_of self.old) (contents_of self.new) }
         ensures rules { rules_of self.new ≡ rules_of self.old }
@@ -199,7 +198,7 @@ impl Store {
 
     /// `tick`, on the caller's thread.
     pub fn tick_seq(&mut self) -> Result<(), TickError>
-        ensures applied { OnOk result ((entity table : ℕ) → (contents_of self.new).facts.value entity table ≡ applied_all (rules_of self.old) (contents_of self.old).facts.value entity table) }
+        ensures applied { OnOk result (AppliesAll (rules_of self.old) (contents_of self.old) (contents_of self.new)) }
         ensures dispatched { IsTick (rules_of self.old) (situation_of self.old) result (situation_of self.new) }
         ensures kept { KeepsEntities (contents_of self.old) (contents_of self.new) }
         ensures rules { rules_of self.new ≡ rules_of self.old }

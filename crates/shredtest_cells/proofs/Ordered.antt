@@ -14,8 +14,8 @@ use Rattle.shred_world.specs.declared.world.World.{World}
 use Rattle.shred_world.specs.Worlds.{world_held, world_slot}
 use Rattle.shred_table.proofs.Tables.Slots.{same_id-true}
 use Rattle.shred_meta.specs.declared.meta.MetaIterMut.{MetaIterMut}
-use Rattle.shred_meta.specs.MetaWalks.{Stays, WalksOn, left_to_write, walk_held, walk_kinds, walk_world}
-use Rattle.shred_meta.specs.Walks.{walk, first_held, after_first}
+use Rattle.shred_meta.specs.MetaWalks.{KeepsWalk, WalksOn, left_to_write, walk_held, walk_kinds, walk_world}
+use Rattle.shred_meta.specs.Walks.{walk, first_held_kind, after_first}
 use Rattle.shred_meta.proofs.Firsts.{first-shown}
 use Rattle.shredtest_cells.specs.declared.numbers.Number.{Number}
 use Rattle.shredtest_cells.specs.Numbers.{after_order, kind_of}
@@ -34,13 +34,13 @@ IfNone-here None is p = p
 IfNone-here (Some x) is p = absurd (none-some x (sym is))
 
 -- where none of the kinds is held nothing is shown
-first-none : {V : Type 0} (held : ResourceId → Option V) (kinds : List Kind) → first_held held kinds ≡ None → walk held kinds ≡ []
+first-none : {V : Type 0} (held : ResourceId → Option V) (kinds : List Kind) → first_held_kind held kinds ≡ None → walk held kinds ≡ []
 first-none held [] none = refl
 first-none {V} held (kind ∷ kinds) none = told (first-none held kinds) (held (id_of kind 0)) refl where
-  told : (first_held held kinds ≡ None → walk held kinds ≡ []) → (o : Option V) → held (id_of kind 0) ≡ o → walk held (kind ∷ kinds) ≡ []
-  told of_rest (Some v) e = absurd (let first : first_held held (kind ∷ kinds) ≡ Some kind = ap (λ (o : Option V). cond (is_some o) (Some kind) (first_held held kinds)) e in none-some kind (sym none ∙ first))
+  told : (first_held_kind held kinds ≡ None → walk held kinds ≡ []) → (o : Option V) → held (id_of kind 0) ≡ o → walk held (kind ∷ kinds) ≡ []
+  told of_rest (Some v) e = absurd (let first : first_held_kind held (kind ∷ kinds) ≡ Some kind = ap (λ (o : Option V). cond (is_some o) (Some kind) (first_held_kind held kinds)) e in none-some kind (sym none ∙ first))
   told of_rest None e =
-      let later : first_held held (kind ∷ kinds) ≡ first_held held kinds = ap (λ (o : Option V). cond (is_some o) (Some kind) (first_held held kinds)) e in
+      let later : first_held_kind held (kind ∷ kinds) ≡ first_held_kind held kinds = ap (λ (o : Option V). cond (is_some o) (Some kind) (first_held_kind held kinds)) e in
       ap (λ (o : Option V). cons_option o (walk held kinds)) e ∙ of_rest (sym later ∙ none)
 
 abbrev Map : Type 0
@@ -78,29 +78,29 @@ module _ (order : ℤ) where
         same_after kinds _ held (skipped held (id_of kind 0) e) q ∙ of_rest rest q
 
   -- to answer the first number that is held, and then those of the kinds after it, is to answer all
-  pub stepped : (kinds : List Kind) (held new : Map) (k : Kind) (v : Number) → first_held held kinds ≡ Some k → held (id_of k 0) ≡ Some v
+  pub stepped : (kinds : List Kind) (held new : Map) (k : Kind) (v : Number) → first_held_kind held kinds ≡ Some k → held (id_of k 0) ≡ Some v
       → ((q : ResourceId) → new q ≡ with_at held (id_of k 0) (Some (after_order v order)) q) → (q : ResourceId) → ordered order (after_first held kinds) new q ≡ ordered order kinds held q
   stepped [] held new k v first is put q = absurd (none-some k first)
   stepped (kind ∷ kinds) held new k v first is put q = told (λ later. stepped kinds held new k v later is put) (held (id_of kind 0)) refl where
-    told : (first_held held kinds ≡ Some k → (p : ResourceId) → ordered order (after_first held kinds) new p ≡ ordered order kinds held p) → (o : Option Number) → held (id_of kind 0) ≡ o → ordered order (after_first held (kind ∷ kinds)) new q ≡ ordered order (kind ∷ kinds) held q
+    told : (first_held_kind held kinds ≡ Some k → (p : ResourceId) → ordered order (after_first held kinds) new p ≡ ordered order kinds held p) → (o : Option Number) → held (id_of kind 0) ≡ o → ordered order (after_first held (kind ∷ kinds)) new q ≡ ordered order (kind ∷ kinds) held q
     told of_rest (Some u) e =
-        let here : kind ≡ k = same_Some kind k (sym (ap (λ (o : Option Number). cond (is_some o) (Some kind) (first_held held kinds)) e) ∙ first) in
+        let here : kind ≡ k = same_Some kind k (sym (ap (λ (o : Option Number). cond (is_some o) (Some kind) (first_held_kind held kinds)) e) ∙ first) in
         let after : after_first held (kind ∷ kinds) ≡ kinds = ap (λ (o : Option Number). cond (is_some o) kinds (after_first held kinds)) e in
         ap (λ ks. ordered order ks new q) after
         ∙ same_after kinds new _ (λ p. put p ∙ ap (λ (o : Option Number). with_at held (id_of k 0) o p) (sym (ap answered is)) ∙ sym (ap (λ (c : Kind). with_at held (id_of c 0) (answered (held (id_of c 0))) p) here)) q
     told of_rest None e =
-        let later : first_held held kinds ≡ Some k = sym (ap (λ (o : Option Number). cond (is_some o) (Some kind) (first_held held kinds)) e) ∙ first in
+        let later : first_held_kind held kinds ≡ Some k = sym (ap (λ (o : Option Number). cond (is_some o) (Some kind) (first_held_kind held kinds)) e) ∙ first in
         let after : after_first held (kind ∷ kinds) ≡ after_first held kinds = ap (λ (o : Option Number). cond (is_some o) kinds (after_first held kinds)) e in
         ap (λ ks. ordered order ks new q) after ∙ of_rest later q ∙ sym (same_after kinds _ held (skipped held (id_of kind 0) e) q)
 
 -- fewer kinds are left after the first of which something is held
-pub fewer : {V : Type 0} (held : ResourceId → Option V) (kinds : List Kind) (k : Kind) → first_held held kinds ≡ Some k → length (after_first held kinds) < length kinds
+pub fewer : {V : Type 0} (held : ResourceId → Option V) (kinds : List Kind) (k : Kind) → first_held_kind held kinds ≡ Some k → length (after_first held kinds) < length kinds
 fewer held [] k first = absurd (none-some k first)
 fewer {V} held (kind ∷ kinds) k first = told (fewer held kinds k) (held (id_of kind 0)) refl where
-  told : (first_held held kinds ≡ Some k → length (after_first held kinds) < length kinds) → (o : Option V) → held (id_of kind 0) ≡ o → length (after_first held (kind ∷ kinds)) < length (kind ∷ kinds)
+  told : (first_held_kind held kinds ≡ Some k → length (after_first held kinds) < length kinds) → (o : Option V) → held (id_of kind 0) ≡ o → length (after_first held (kind ∷ kinds)) < length (kind ∷ kinds)
   told of_rest (Some u) e = let after : after_first held (kind ∷ kinds) ≡ kinds = ap (λ (o : Option V). cond (is_some o) kinds (after_first held kinds)) e in rw after (omega arith)
   told of_rest None e =
-      let later : first_held held kinds ≡ Some k = sym (ap (λ (o : Option V). cond (is_some o) (Some kind) (first_held held kinds)) e) ∙ first in
+      let later : first_held_kind held kinds ≡ Some k = sym (ap (λ (o : Option V). cond (is_some o) (Some kind) (first_held_kind held kinds)) e) ∙ first in
       let after : after_first held (kind ∷ kinds) ≡ after_first held kinds = ap (λ (o : Option V). cond (is_some o) kinds (after_first held kinds)) e in
       let less = of_rest later in rw after (omega arith)
 
@@ -136,13 +136,13 @@ pub goes : (order : ℤ) (s n : MetaIterMut Number) (r : Option (MutBor Number))
 goes order s n r number w is shown walks acted same =
     let on = OnSome-here r number is walks in
     let at : slice_get (left_to_write kind_of s) 0 ≡ Some number.now = sym shown ∙ ap option_copied_mut is in
-    found (first_held (walk_held kind_of s) (walk_kinds s)) refl on at where
-      found : (first : Option Kind) → first_held (walk_held kind_of s) (walk_kinds s) ≡ first → WalksOn kind_of s n w → slice_get (left_to_write kind_of s) 0 ≡ Some number.now → Goes order s n
+    found (first_held_kind (walk_held kind_of s) (walk_kinds s)) refl on at where
+      found : (first : Option Kind) → first_held_kind (walk_held kind_of s) (walk_kinds s) ≡ first → WalksOn kind_of s n w → slice_get (left_to_write kind_of s) 0 ≡ Some number.now → Goes order s n
       found (Some k) e on at =
           let id = id_of k 0 in
           let there : walk_held kind_of s id ≡ Some number.now = sym (first-shown (walk_held kind_of s) (walk_kinds s) k e) ∙ at in
           let fits = of_same_kind id number.now w same (held_kind (walk_world s).now id number.now there) in
-          let put = IfSome-here (λ j. (q : ResourceId) → walk_held kind_of n q ≡ with_at (walk_held kind_of s) (id_of j 0) (of_kind kind_of (id_of j 0) (Some w)) q) (first_held (walk_held kind_of s) (walk_kinds s)) k e on.2 in
+          let put = IfSome-here (λ j. (q : ResourceId) → walk_held kind_of n q ≡ with_at (walk_held kind_of s) (id_of j 0) (of_kind kind_of (id_of j 0) (Some w)) q) (first_held_kind (walk_held kind_of s) (walk_kinds s)) k e on.2 in
           record {
             name = on.1;
             left = λ q. ap (λ ks. ordered order ks (walk_held kind_of n) q) on.0
@@ -158,7 +158,7 @@ no-first [] none = refl
 no-first (x ∷ xs) none = absurd (none-some x (sym none))
 
 -- what a walk that has come to its end leaves
-pub finished : (order : ℤ) (s n : MetaIterMut Number) (r : Option (MutBor Number)) (world : World Number) → r ≡ None → option_copied_mut r ≡ slice_get (left_to_write kind_of s) 0 → Stays kind_of s n → (walk_world n).now ≡ world
+pub finished : (order : ℤ) (s n : MetaIterMut Number) (r : Option (MutBor Number)) (world : World Number) → r ≡ None → option_copied_mut r ≡ slice_get (left_to_write kind_of s) 0 → KeepsWalk kind_of s n → (walk_world n).now ≡ world
     → (q : ResourceId) → world_held kind_of world q ≡ ordered order (walk_kinds s) (walk_held kind_of s) q
 finished order s n r world is shown stays last q =
     let none : slice_get (left_to_write kind_of s) 0 ≡ None = sym shown ∙ ap option_copied_mut is in

@@ -6,14 +6,14 @@ use Rattle.shred_world.specs.declared.world.World.{World}
 use Rattle.shred.specs.declared.thread_local.ThreadLocal.{ThreadLocal}
 use Rattle.shred.specs.AsyncState.{AsyncState, Joins, Runs, home, lost, out}
 use Rattle.shred.specs.AsyncPlaces.{ShowsHome, with_world}
-use Rattle.shred.specs.AsyncShown.{IsBack, Shows, with_values}
+use Rattle.shred.specs.AsyncShown.{IsHome, Shows, with_values}
 use Rattle.shred.specs.AsyncDispatchers.{state_at}
 use Rattle.shred.specs.declared.dispatch.async_error.AsyncError.TheVariants as error
 use Rattle.shred.specs.declared.dispatch.async_place.Place.{Place}
 use Rattle.shred.specs.declared.dispatch.async_place.Place.TheVariants.{Home, Lost, Out}
 
 -- what joining came to is not out
-pub joined-back : {X E : Type 0} (Run : Runs X E) (before after : AsyncState X E) → Joins Run before after → IsBack after
+pub joined-back : {X E : Type 0} (Run : Runs X E) (before after : AsyncState X E) → Joins Run before after → IsHome after
 joined-back Run (home x untold) after joins = rw joins tt
 joined-back Run (out x) after joins = rw joins.3 tt
 joined-back Run lost after joins = rw joins tt
@@ -26,7 +26,7 @@ module _ {V S C L N A B : Type 0} {vd : _} {sd : _} {ad : _} {cd : _} {bd : _} (
   shows-some F Lost world shows = absurd (let f : Some world ≡ None = shows in cc)
 
   -- where nothing is home, all is lost
-  pub shows-none : (F : Type 0) (place : Place V S C N A B vd sd ad cd bd) → IsBack (state_at kind locals workers place) → ShowsHome place None → Shows {F = F} (λ (lent : MutBor (World V)). world_held kind lent.now) (state_at kind locals workers place) (Err error.Lost)
+  pub shows-none : (F : Type 0) (place : Place V S C N A B vd sd ad cd bd) → IsHome (state_at kind locals workers place) → ShowsHome place None → Shows {F = F} (λ (lent : MutBor (World V)). world_held kind lent.now) (state_at kind locals workers place) (Err error.Lost)
   shows-none F (Home h) back shows = absurd shows
   shows-none F (Out run) back shows = absurd back
   shows-none F Lost back shows = refl

@@ -1,11 +1,9 @@
 //! A dispatcher whose runs go on while its caller does other things.
 ghost use Rattle.std.specs.Prelude.{◌≡◌, Ok};
-ghost use Rattle.shred_run.specs.Depths.{lists_of, relations_of};
-ghost use Rattle.shred_run.specs.WorkSetups.{setups_of};
-ghost use Rattle.shred.specs.AsyncState.{Joins, OnceJoined, home};
-ghost use Rattle.shred.specs.AsyncRuns.{LocalsRan, PlanRan, SetUpOver};
+ghost use Rattle.shred.specs.AsyncState.{home};
 ghost use Rattle.shred.specs.AsyncDispatchers.{over, state_of};
-ghost use Rattle.shred.specs.AsyncSteps.{Dispatches, IsAtRest, RunsThen, SaysRunning, SetsUp, TellsOr, Waits, WaitsWithoutLocals};
+ghost use Rattle.shred.specs.AsyncSteps.{IsAtRest, SaysRunning};
+ghost use Rattle.shred.specs.AsyncOver.{AsyncJoins, AsyncDispatches, AsyncWaitsWithoutLocals, AsyncWaits, AsyncRunsLocals, AsyncSetsUp};
 
 use crate::dispatch::async_error::{AsyncError, as_told};
 use crate::dispatch::async_place::{Place, begin};
@@ -63,7 +61,7 @@ impl<
 > AsyncDispatcher<V, S, C, L> {
     // Waits for the run that is out, where one is, and takes home what it left.
     pub(crate) fn join<R: Threads>(&mut self, rt: &R)
-        ensures { Joins (PlanRan V.kind_of (relations_of (lists_of S.reads S.writes C.reads C.writes) S.step C.begins C.asks)) (state_of V.kind_of self.old) (state_of V.kind_of self.new) }
+        ensures { AsyncJoins self.old self.new }
     {
         match mem::replace(&mut self.place, Place::Lost) {
             Place::Out(run) => self.place = Place::Home(join_run(rt, run)),
@@ -74,7 +72,7 @@ impl<
     /// Waits for the run that is out, where one is, and tells a refusal that was not told yet: that of the last run. It runs no
     /// thread-local system. `Lost` where a run could not be started before.
     pub fn wait_without_tl<R: Threads>(&mut self, rt: &R) -> Result<(), AsyncError<E>>
-        ensures { WaitsWithoutLocals (PlanRan V.kind_of (relations_of (lists_of S.reads S.writes C.reads C.writes) S.step C.begins C.asks)) (state_of V.kind_of self.old) result (state_of V.kind_of self.new) }
+        ensures { AsyncWaitsWithoutLocals self.old result self.new }
     {
         self.join(rt);
         match &mut self.place {
@@ -109,7 +107,7 @@ impl<
     /// thread-local systems, up to the first that is not Done, which the answer tells. What was done before it stays, and a
     /// refusal of the last run that was not told yet stays so. `Lost` where a run could not be started before.
     pub fn setup<R: Threads>(&mut self, rt: &R) -> Result<(), AsyncError<E>>
-        ensures { SetsUp (PlanRan V.kind_of (relations_of (lists_of S.reads S.writes C.reads C.writes) S.step C.begins C.asks)) (SetUpOver (setups_of (lists_of S.reads S.writes C.reads C.writes) S.sets_up C.sets_up) L.sets_up) (state_of V.kind_of self.old) result (state_of V.kind_of self.new) }
+        ensures { AsyncSetsUp L.sets_up self.old result self.new }
     {
         self.join(rt);
         match &mut self.place {
@@ -127,7 +125,7 @@ impl<
     /// is none, it runs the thread-local systems on the caller's thread, one after the other, up to the first that is not
     /// Done, which the answer tells; also where nothing was dispatched. `Lost` where a run could not be started before.
     pub fn wait<R: Threads + Sync>(&mut self, rt: &R) -> Result<(), AsyncError<E>>
-        ensures { Waits (PlanRan V.kind_of (relations_of (lists_of S.reads S.writes C.reads C.writes) S.step C.begins C.asks)) (LocalsRan V.kind_of L.runs) (state_of V.kind_of self.old) result (state_of V.kind_of self.new) }
+        ensures { AsyncWaits L.runs self.old result self.new }
     {
         if let Err(told) = self.wait_without_tl(rt) {
             return Err(told);
@@ -138,7 +136,7 @@ impl<
     // Runs the thread-local systems over the world that is home.
     fn run_locals<R: Threads + Sync>(&mut self, rt: &R) -> Result<(), AsyncError<E>>
         requires { IsAtRest (state_of V.kind_of self.old) }
-        ensures { OnceJoined (TellsOr (RunsThen (LocalsRan V.kind_of L.runs))) (state_of V.kind_of self.old) result (state_of V.kind_of self.new) }
+        ensures { AsyncRunsLocals L.runs self.old result self.new }
     {
         match &mut self.place {
             Place::Home(home) => as_told(self.thread_local.run(rt, home.world.local())),
@@ -166,7 +164,7 @@ where
         &mut self,
         rt: &R,
     ) -> Result<(), AsyncError<E>>
-        ensures { Dispatches (PlanRan V.kind_of (relations_of (lists_of S.reads S.writes C.reads C.writes) S.step C.begins C.asks)) (state_of V.kind_of self.old) result (state_of V.kind_of self.new) }
+        ensures { AsyncDispatches self.old result self.new }
     {
         if let Err(refused) = self.wait_without_tl(rt) {
             return Err(refused);

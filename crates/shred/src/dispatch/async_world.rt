@@ -1,12 +1,12 @@
 //! The world of an asynchronous dispatcher.
 ghost use Rattle.std.specs.Borrow.{sem};
-ghost use Rattle.shred_run.specs.Depths.{lists_of, relations_of};
-ghost use Rattle.shred.specs.AsyncState.{AsyncState};
-ghost use Rattle.shred.specs.AsyncLent.{LendsShown, LendsWritten};
+ghost use Rattle.shred_run.specs.Depths.{steps_of};
+ghost use Rattle.shred.specs.AsyncLent.{LendsShown, LendsJoined};
 ghost use Rattle.shred.specs.AsyncRuns.{PlanRan};
-ghost use Rattle.shred.specs.AsyncShown.{IsBack, JoinsAndShows, Shows};
+ghost use Rattle.shred.specs.AsyncShown.{IsHome, Shows};
 ghost use Rattle.shred.specs.AsyncDispatchers.{state_of};
 ghost use Rattle.shred_world.specs.Worlds.{world_held};
+ghost use Rattle.shred.specs.AsyncOver.{AsyncShows, AsyncLends};
 
 use crate::dispatch::async_dispatcher::AsyncDispatcher;
 use crate::dispatch::async_error::AsyncError;
@@ -27,7 +27,7 @@ impl<
 > AsyncDispatcher<V, S, C, L> {
     // The world, where no run is out.
     fn shown(&self) -> Result<&World<V>, AsyncError<Infallible>>
-        requires { IsBack (state_of V.kind_of self.now) }
+        requires { IsHome (state_of V.kind_of self.now) }
         ensures { Shows (λ world. world_held V.kind_of world.now) (state_of V.kind_of self.now) result }
     {
         match &self.place {
@@ -40,8 +40,8 @@ impl<
     /// Waits for the run that is out, where one is, and shows the world. A refusal that was not told yet stays so. `Lost` where a
     /// run could not be started before.
     pub fn world<R: Threads>(&mut self, rt: &R) -> Result<&World<V>, AsyncError<Infallible>>
-        ensures shown { (joined : AsyncState _ E) × JoinsAndShows (λ world. world_held V.kind_of world.now) (PlanRan V.kind_of (relations_of (lists_of S.reads S.writes C.reads C.writes) S.step C.begins C.asks)) (state_of V.kind_of self.old) result joined }
-        ensures* after { sem 𝓛 (LendsShown V.row S.row C.row L.row E.row A.row B.row V.ResourceValue S.System A.Accessor C.BatchController B.Accessor V.kind_of (PlanRan V.kind_of (relations_of (lists_of S.reads S.writes C.reads C.writes) S.step C.begins C.asks)) self.entry result) }
+        ensures shown { AsyncShows self.old result }
+        ensures* after { sem 𝓛 (LendsShown V.row S.row C.row L.row E.row A.row B.row V.ResourceValue S.System A.Accessor C.BatchController B.Accessor V.kind_of (PlanRan V.kind_of (steps_of S.System C.BatchController)) self.entry result) }
     {
         self.join(rt);
         self.shown()
@@ -49,8 +49,8 @@ impl<
 
     /// Another name of `world`.
     pub fn res<R: Threads>(&mut self, rt: &R) -> Result<&World<V>, AsyncError<Infallible>>
-        ensures shown { (joined : AsyncState _ E) × JoinsAndShows (λ world. world_held V.kind_of world.now) (PlanRan V.kind_of (relations_of (lists_of S.reads S.writes C.reads C.writes) S.step C.begins C.asks)) (state_of V.kind_of self.old) result joined }
-        ensures* after { sem 𝓛 (LendsShown V.row S.row C.row L.row E.row A.row B.row V.ResourceValue S.System A.Accessor C.BatchController B.Accessor V.kind_of (PlanRan V.kind_of (relations_of (lists_of S.reads S.writes C.reads C.writes) S.step C.begins C.asks)) self.entry result) }
+        ensures shown { AsyncShows self.old result }
+        ensures* after { sem 𝓛 (LendsShown V.row S.row C.row L.row E.row A.row B.row V.ResourceValue S.System A.Accessor C.BatchController B.Accessor V.kind_of (PlanRan V.kind_of (steps_of S.System C.BatchController)) self.entry result) }
     {
         self.world(rt)
     }
@@ -58,8 +58,8 @@ impl<
     /// Waits for the run that is out, where one is, and lends the world to be written. A refusal that was not told yet stays
     /// so. `Lost` where a run could not be started before.
     pub fn world_mut<R: Threads>(&mut self, rt: &R) -> Result<&mut World<V>, AsyncError<E>>
-        ensures shown { (joined : AsyncState _ E) × JoinsAndShows (λ world. world_held V.kind_of world.now) (PlanRan V.kind_of (relations_of (lists_of S.reads S.writes C.reads C.writes) S.step C.begins C.asks)) (state_of V.kind_of self.old) result joined }
-        ensures* after { sem 𝓛 (LendsWritten V.row S.row C.row L.row E.row A.row B.row V.ResourceValue S.System A.Accessor C.BatchController B.Accessor V.kind_of (PlanRan V.kind_of (relations_of (lists_of S.reads S.writes C.reads C.writes) S.step C.begins C.asks)) self.entry result) }
+        ensures shown { AsyncLends self.old result }
+        ensures* after { sem 𝓛 (LendsJoined V.row S.row C.row L.row E.row A.row B.row V.ResourceValue S.System A.Accessor C.BatchController B.Accessor V.kind_of (PlanRan V.kind_of (steps_of S.System C.BatchController)) self.entry result) }
     {
         self.join(rt);
         match home_world(&mut self.place) {
@@ -70,8 +70,8 @@ impl<
 
     /// Another name of `world_mut`.
     pub fn mut_res<R: Threads>(&mut self, rt: &R) -> Result<&mut World<V>, AsyncError<E>>
-        ensures shown { (joined : AsyncState _ E) × JoinsAndShows (λ world. world_held V.kind_of world.now) (PlanRan V.kind_of (relations_of (lists_of S.reads S.writes C.reads C.writes) S.step C.begins C.asks)) (state_of V.kind_of self.old) result joined }
-        ensures* after { sem 𝓛 (LendsWritten V.row S.row C.row L.row E.row A.row B.row V.ResourceValue S.System A.Accessor C.BatchController B.Accessor V.kind_of (PlanRan V.kind_of (relations_of (lists_of S.reads S.writes C.reads C.writes) S.step C.begins C.asks)) self.entry result) }
+        ensures shown { AsyncLends self.old result }
+        ensures* after { sem 𝓛 (LendsJoined V.row S.row C.row L.row E.row A.row B.row V.ResourceValue S.System A.Accessor C.BatchController B.Accessor V.kind_of (PlanRan V.kind_of (steps_of S.System C.BatchController)) self.entry result) }
     {
         self.world_mut(rt)
     }

@@ -11,27 +11,25 @@ ghost use Rattle.shred_model.specs.Record.{Agent};
 ghost use Rattle.shred_stage.specs.BuilderPlan.{planned, barrier_of, rule_of, builder_states};
 ghost use Rattle.shred.specs.AsyncBuilt.{IsBuiltOver};
 ghost use Rattle.shred.specs.AsyncDispatchers.{state_of};
-ghost use Rattle.shred.specs.Built.{IsAddition, IsBarrierSet, IsConsistent, IsEntryAdded, IsLocalAdded, IsNewBuilt, IsPoolSet, IsRuleSet, IsSameBuilt, KeepsAdditionIfOrdered};
+ghost use Rattle.shred.specs.Built.{IsBarrierSet, IsConsistent, IsLocalAdded, IsNewBuilt, IsPoolSet, IsRuleSet, IsSameBuilt, KeepsAdditionIfOrdered};
 ghost use Rattle.shred_run.specs.AdditionOrder.{KeepsAddition};
 ghost use Rattle.shred_stage.specs.declared.dispatch.rule.Rule.TheVariants.{Ordered};
-ghost use Rattle.shred_run.specs.Depths.{Declared, lists_of};
+ghost use Rattle.shred_run.specs.Depths.{lists_of};
 ghost use Rattle.shred_run.specs.OwnDepth.{OwnsItself};
 ghost use Rattle.shred_run.specs.OwnLists.{IsEntryOf};
 ghost use Rattle.shred_model.specs.Access.{Access};
-ghost use Rattle.shred.specs.Batches.{IsBatchAddition, IsTiersAddition};
 ghost use Rattle.shred_run.specs.PlanOf.{entry_plan};
-ghost use Rattle.shred_stage.specs.Refusals.{IsBatchRefusal, IsRefusal, MayAdd};
 ghost use Rattle.shred.specs.Dispatchers.{dispatcher_locals, dispatcher_plan, dispatcher_states, dispatcher_workers};
 ghost use Rattle.shred.specs.SystemNames.{names_known, names_pairs};
 ghost use Rattle.shred.specs.ThreadLocals.{systems_of};
 ghost use Rattle.shred_stage.specs.Earlier.{plan_has};
 ghost use Rattle.shred_stage.specs.Inner.{tiers_states};
-ghost use Rattle.shred_stage.specs.Known.{texts_of};
 ghost use Rattle.shred_stage.specs.Names.{AreNames, first_unnamed, names_of};
 ghost use Rattle.shred_stage.specs.Printed.{line_feed, plan_text};
-ghost use Rattle.shred_stage.specs.Prints.{IsPrinted};
+ghost use Rattle.shred_stage.specs.Prints.{PrintsPlan};
 ghost use Rattle.shred_stage.specs.StagePlan.{plan_of};
 ghost use Rattle.shred_world.specs.Worlds.{world_held};
+ghost use Rattle.shred_stage.specs.Added.{AreSame};
 
 use crate::dispatch::async_dispatcher::{AsyncDispatcher, new_async};
 use crate::dispatch::dispatcher::{Dispatcher, new_dispatcher};
@@ -194,7 +192,7 @@ impl<V: ResourceValue, S: System<V>, C: BatchController<V>, L: Drop> DispatcherB
     /// text was put. The printed names are the known ones. It takes no memory.
     pub fn print_par_seq<W: PlanSink>(&self, sink: &mut W) -> Result<(), PrintError>
         ensures printed { let plan = (built self.now).plan in let pairs = builder_pairs self.now in
-            IsPrinted W.told W.failures sink.old sink.new (first_unnamed pairs (plan_ids plan)) (plan_text pairs plan ++ line_feed) result }
+            PrintsPlan W.told W.failures sink.old sink.new (first_unnamed pairs (plan_ids plan)) (plan_text pairs plan ++ line_feed) result }
         ensures names { AreNames (builder_pairs self.now) (built self.now).known }
         ensures consistent { IsConsistent (built self.now) }
     {
@@ -278,13 +276,13 @@ impl<
     L: Drop,
 > DispatcherBuilder<V, S, C, L> {
     ghost use Rattle.shred.specs.Builders.{built};
-    ghost use Rattle.shred_run.specs.declared.work.Work.TheVariants.{System as ASystem};
+    ghost use Rattle.shred.specs.Adding.{MayAddTo, IsAddRefusal, IsBatchAddRefusal, AddsSystem, AddsBatch, AddsTiers, AddsEntry};
 
     // The stages of a plan without thread-local systems. Refused where there is one.
     fn into_inner(self) -> Result<StagesBuilder<V, S, C>, AddError>
         ensures no_local { OnOk result ((built self).locals ≡ []) }
         ensures plan { IfOk result (λ stages. planned stages ≡ (built self).plan) }
-        ensures states { IfOk result (λ stages. (path : Agent) → builder_states stages path ≡ (built self).states path) }
+        ensures states { IfOk result (λ stages. AreSame (built self).states (builder_states stages)) }
         ensures local { OnErr result ((built self).locals ≡ [] → ⊥) }
         ensures refused { IfErr result (λ e. e ≡ AddError.ThreadLocalInBatch) }
     {
@@ -302,12 +300,12 @@ impl<
         name: &str,
         dependencies: &[&str],
     ) -> Result<Vec<Tier<V, Work<S, Nested<V, S, C>>>>, AddError>
-        ensures allowed { OnOk result (MayAdd (built self.now).known (built self.now).next name.now (texts_of dependencies.now)) }
+        ensures allowed { OnOk result (MayAddTo self.now name.now dependencies.now) }
         ensures no_local { OnOk result ((built inner).locals ≡ []) }
         ensures plan { IfOk result (λ tiers. tiers_plan tiers.items ≡ (built inner).plan) }
-        ensures states { IfOk result (λ tiers. (path : Agent) → tiers_states tiers.items path ≡ (built inner).states path) }
-        ensures own_lists { IfOk result (λ tiers. All (IsTierOf (OwnsItself (lists_of S.reads S.writes C.reads C.writes))) tiers.items) }
-        ensures refused { IfErr result (IsBatchRefusal (built inner).locals (built self.now).known (built self.now).next name.now (texts_of dependencies.now)) }
+        ensures states { IfOk result (λ tiers. AreSame (built inner).states (tiers_states tiers.items)) }
+        ensures own_lists { IfOk result (λ tiers. All (IsTierOf (OwnsItself (lists_of S.System C.BatchController))) tiers.items) }
+        ensures refused { IfErr result (IsBatchAddRefusal inner self.now name.now dependencies.now) }
     {
         let stages = inner.into_inner()?;
         may_add(&self.names, self.next, name, dependencies)?;
@@ -324,9 +322,9 @@ impl<
         dependencies: &[&str],
     ) -> Result<SystemId, AddError>
         ensures id { IfOk result (λ id. id.0 ≡ (built self.old).next) }
-        ensures allowed { OnOk result (MayAdd (built self.old).known (built self.old).next name.now (texts_of dependencies.now)) }
-        ensures added { OnOk result (IsAddition (built self.old) (built self.new) name.now (texts_of dependencies.now) (S.reads system) (S.writes system) (S.time system) (ASystem system)) }
-        ensures refused { IfErr result (IsRefusal (built self.old).known (built self.old).next name.now (texts_of dependencies.now)) }
+        ensures allowed { OnOk result (MayAddTo self.old name.now dependencies.now) }
+        ensures added { OnOk result (AddsSystem self.old self.new name.now dependencies.now system) }
+        ensures refused { IfErr result (IsAddRefusal self.old name.now dependencies.now) }
         ensures unchanged { OnErr result (IsSameBuilt (built self.old) (built self.new)) }
     {
         let id = SystemId(self.next);
@@ -337,9 +335,9 @@ impl<
 
     /// `add`, on a builder that is handed on. After a refusal the builder is dropped.
     pub fn with(self, system: S, name: &str, dependencies: &[&str]) -> Result<Self, AddError>
-        ensures allowed { OnOk result (MayAdd (built self).known (built self).next name.now (texts_of dependencies.now)) }
-        ensures added { IfOk result (λ after. IsAddition (built self) (built after) name.now (texts_of dependencies.now) (S.reads system) (S.writes system) (S.time system) (ASystem system)) }
-        ensures refused { IfErr result (IsRefusal (built self).known (built self).next name.now (texts_of dependencies.now)) }
+        ensures allowed { OnOk result (MayAddTo self name.now dependencies.now) }
+        ensures added { IfOk result (λ after. AddsSystem self after name.now dependencies.now system) }
+        ensures refused { IfErr result (IsAddRefusal self name.now dependencies.now) }
     {
         let mut builder = self;
         builder.add(system, name, dependencies)?;
@@ -353,11 +351,11 @@ impl<
         name: &str,
         dependencies: &[&str],
     ) -> Result<SystemId, AddError>
-        requires allowed { MayAdd (built self.old).known (built self.old).next name.now (texts_of dependencies.now) }
-        requires own_lists { IsEntryOf (OwnsItself (lists_of S.reads S.writes C.reads C.writes)) entry }
+        requires allowed { MayAddTo self.old name.now dependencies.now }
+        requires own_lists { IsEntryOf (OwnsItself (lists_of S.System C.BatchController)) entry }
         requires id { (entry_plan entry).id ≡ (built self.old).next }
         ensures id { IfOk result (λ id. id.0 ≡ (built self.old).next) }
-        ensures added { OnOk result (IsEntryAdded (entry_plan entry) (built self.old) (built self.new) name.now (texts_of dependencies.now) entry.work) }
+        ensures added { OnOk result (AddsEntry self.old self.new name.now dependencies.now (entry_plan entry) entry.work) }
         ensures refused { IfErr result (λ e. e ≡ AddError.OutOfMemory) }
         ensures unchanged { OnErr result (IsSameBuilt (built self.old) (built self.new)) }
     {
@@ -384,11 +382,11 @@ impl<
         dependencies: &[&str],
     ) -> Result<SystemId, AddError>
         ensures id { IfOk result (λ id. id.0 ≡ (built self.old).next) }
-        ensures allowed { OnOk result (MayAdd (built self.old).known (built self.old).next name.now (texts_of dependencies.now)) }
+        ensures allowed { OnOk result (MayAddTo self.old name.now dependencies.now) }
         ensures no_local { OnOk result ((built inner).locals ≡ []) }
-        ensures added { OnOk result (IsBatchAddition (built self.old) (built self.new) name.now (texts_of dependencies.now) (record { reads = C.reads controller; writes = C.writes controller }) (C.time controller) controller (built inner)) }
+        ensures added { OnOk result (AddsBatch self.old self.new name.now dependencies.now controller inner) }
         ensures inner_addition { KeepsAdditionIfOrdered (built inner) }
-        ensures refused { IfErr result (IsBatchRefusal (built inner).locals (built self.old).known (built self.old).next name.now (texts_of dependencies.now)) }
+        ensures refused { IfErr result (IsBatchAddRefusal inner self.old name.now dependencies.now) }
         ensures unchanged { OnErr result (IsSameBuilt (built self.old) (built self.new)) }
     {
         let tiers = self.inner_tiers(inner, name, dependencies)?;
@@ -403,10 +401,10 @@ impl<
         name: &str,
         dependencies: &[&str],
     ) -> Result<SystemId, AddError>
-        requires allowed { MayAdd (built self.old).known (built self.old).next name.now (texts_of dependencies.now) }
-        requires own_lists { All (IsTierOf (OwnsItself (lists_of S.reads S.writes C.reads C.writes))) tiers.items }
+        requires allowed { MayAddTo self.old name.now dependencies.now }
+        requires own_lists { All (IsTierOf (OwnsItself (lists_of S.System C.BatchController))) tiers.items }
         ensures id { IfOk result (λ id. id.0 ≡ (built self.old).next) }
-        ensures added { OnOk result (IsTiersAddition (built self.old) (built self.new) name.now (texts_of dependencies.now) (record { reads = C.reads controller; writes = C.writes controller }) (C.time controller) controller tiers.items) }
+        ensures added { OnOk result (AddsTiers self.old self.new name.now dependencies.now controller tiers.items) }
         ensures refused { IfErr result (λ e. e ≡ AddError.OutOfMemory) }
         ensures unchanged { OnErr result (IsSameBuilt (built self.old) (built self.new)) }
     {
@@ -422,11 +420,11 @@ impl<
         name: &str,
         dependencies: &[&str],
     ) -> Result<Self, AddError>
-        ensures allowed { OnOk result (MayAdd (built self).known (built self).next name.now (texts_of dependencies.now)) }
+        ensures allowed { OnOk result (MayAddTo self name.now dependencies.now) }
         ensures no_local { OnOk result ((built inner).locals ≡ []) }
-        ensures added { IfOk result (λ after. IsBatchAddition (built self) (built after) name.now (texts_of dependencies.now) (record { reads = C.reads controller; writes = C.writes controller }) (C.time controller) controller (built inner)) }
+        ensures added { IfOk result (λ after. AddsBatch self after name.now dependencies.now controller inner) }
         ensures inner_addition { KeepsAdditionIfOrdered (built inner) }
-        ensures refused { IfErr result (IsBatchRefusal (built inner).locals (built self).known (built self).next name.now (texts_of dependencies.now)) }
+        ensures refused { IfErr result (IsBatchAddRefusal inner self name.now dependencies.now) }
     {
         let mut builder = self;
         builder.add_batch(controller, inner, name, dependencies)?;

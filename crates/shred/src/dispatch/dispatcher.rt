@@ -1,24 +1,27 @@
 //! The dispatcher: it runs a plan, and then the thread-local systems.
-ghost use Rattle.std.specs.Prelude.{◌≡◌, ◌++◌, ℕ};
+ghost use Rattle.std.specs.Prelude.{◌≡◌, ◌++◌};
 ghost use Rattle.shred_model.specs.Plan.{plan_ids};
 ghost use Rattle.shred_model.specs.Record.{Agent};
-ghost use Rattle.shred_run.specs.Alone.{KeepsKinds};
-ghost use Rattle.shred_run.specs.Depths.{Related, lists_of, relations_of};
+ghost use Rattle.shred_run.specs.Alone.{KeepsKindsIn};
+ghost use Rattle.shred_run.specs.Depths.{steps_of};
 ghost use Rattle.shred_run.specs.Dispatched.{Dispatched};
 ghost use Rattle.shred_run.specs.WorkSetups.{setups_of};
 ghost use Rattle.shred_stage.specs.Names.{AreNames, first_unnamed};
 ghost use Rattle.shred_stage.specs.Plans.{plan_states};
 ghost use Rattle.shred_stage.specs.Printed.{line_feed, plan_text};
-ghost use Rattle.shred_stage.specs.Prints.{IsPrinted};
+ghost use Rattle.shred_stage.specs.Prints.{PrintsPlan};
 ghost use Rattle.shred_stage.specs.Situations.{dispatch_answer};
 ghost use Rattle.shred_stage.specs.StagePlan.{plan_of, widest};
 ghost use Rattle.shred.specs.Dispatchers.{dispatcher_locals, dispatcher_over, dispatcher_plan, dispatcher_states, dispatcher_workers};
-ghost use Rattle.shred.specs.FullRuns.{FullyDispatched, IsRefusedBy, RunsNow, whole_of, whole_over, whole_with};
+ghost use Rattle.shred.specs.FullRuns.{FullyDispatched, IsRefusedBy, RunsNow, whole_over, whole_with, whole_over_local};
 ghost use Rattle.shred.specs.LocalRuns.{LocalsRun};
-ghost use Rattle.shred.specs.Setups.{DisposesNow, IsDisposedOf, IsSetUp, SetsUpNow};
+ghost use Rattle.shred.specs.Setups.{DisposesNow, SetsUpNow};
 ghost use Rattle.shred.specs.SystemNames.{names_known, names_pairs};
 ghost use Rattle.shred.specs.ThreadLocals.{systems_of};
 ghost use Rattle.shred_world.specs.Worlds.{local_held, world_held};
+ghost use Rattle.shred_world.specs.Between.{OverWorld};
+ghost use Rattle.shred.specs.OverWorlds.{DispatcherSetUp, DispatcherDisposed, BothSetUp};
+ghost use Rattle.shred_stage.specs.Added.{AreSame};
 
 use crate::dispatch::names::SystemNames;
 use crate::thread_local::ThreadLocal;
@@ -84,7 +87,7 @@ impl<V: ResourceValue, S: System<V>, C: BatchController<V>, L> Dispatcher<V, S, 
         names: &SystemNames,
     ) -> Result<(), PrintError>
         ensures printed { let plan = dispatcher_plan self.now in let pairs = names_pairs names.now in
-            IsPrinted W.told W.failures sink.old sink.new (first_unnamed pairs (plan_ids plan)) (plan_text pairs plan ++ line_feed) result }
+            PrintsPlan W.told W.failures sink.old sink.new (first_unnamed pairs (plan_ids plan)) (plan_text pairs plan ++ line_feed) result }
         ensures names { AreNames (names_pairs names.now) (names_known names.now) }
     {
         self.plan.print(sink, &names.names, b"\n")
@@ -103,7 +106,7 @@ pub(crate) fn set_up_both<
     thread_local: &mut ThreadLocal<L>,
     world: &mut World<V>,
 ) -> Result<(), DispatchError<E>>
-    ensures { (workers : ℕ) → IsSetUp (setups_of (lists_of S.reads S.writes C.reads C.writes) S.sets_up C.sets_up) L.sets_up (whole_of plan.old thread_local.old workers (world_held V.kind_of world.old)) result (whole_of plan.new thread_local.new workers (world_held V.kind_of world.new)) }
+    ensures { BothSetUp L.sets_up plan.old thread_local.old world.old result plan.new thread_local.new world.new }
 {
     match plan.setup(world) {
         Ok(()) => thread_local.setup(world),
@@ -134,10 +137,10 @@ impl<V: ResourceValue, S: System<V>, C: BatchController<V>, L: RunNow<V> + Drop>
         rt: &R,
         world: &mut World<V>,
     ) -> Result<(), DispatchError<L::Error>>
-        ensures run { LocalsRun V.kind_of L.runs (dispatcher_locals self.old) (world_held V.kind_of world.old) result (dispatcher_locals self.new) (world_held V.kind_of world.new) }
-        ensures kinds { KeepsKinds V.kind_of (world_held V.kind_of world.old) (world_held V.kind_of world.new) }
+        ensures run { OverWorld V.kind_of (LocalsRun V.kind_of L.runs) (dispatcher_locals self.old) world.old result (dispatcher_locals self.new) world.new }
+        ensures kinds { KeepsKindsIn world_held V.kind_of world.old world.new }
         ensures plan { dispatcher_plan self.new ≡ dispatcher_plan self.old }
-        ensures states { (path : Agent) → dispatcher_states self.new path ≡ dispatcher_states self.old path }
+        ensures states { AreSame (dispatcher_states self.old) (dispatcher_states self.new) }
         ensures workers { dispatcher_workers self.new ≡ dispatcher_workers self.old }
     {
         self.thread_local.run(rt, world.local())
@@ -154,7 +157,7 @@ impl<
     /// Runs the stages, one after the other, up to the first that is not Done, on the caller's thread, and so inner plans. It
     /// takes no memory but what its systems and controllers take.
     pub fn dispatch_seq(&mut self, world: &mut World<V>) -> Result<(), DispatchError<E>>
-        ensures dispatched { Dispatched V.kind_of (relations_of (lists_of S.reads S.writes C.reads C.writes) S.step C.begins C.asks) dispatch_answer (dispatcher_over V.kind_of self.old world.old) result (dispatcher_over V.kind_of self.new world.new) }
+        ensures dispatched { Dispatched V.kind_of (steps_of S.System C.BatchController) dispatch_answer (dispatcher_over V.kind_of self.old world.old) result (dispatcher_over V.kind_of self.new world.new) }
         ensures locals { dispatcher_locals self.new ≡ dispatcher_locals self.old }
         ensures workers { dispatcher_workers self.new ≡ dispatcher_workers self.old }
     {
@@ -172,7 +175,7 @@ impl<
     /// Sets up what stands in the plan, in its order, and then the thread-local ones, up to the first that is not Done,
     /// which the answer tells. What was done before it stays.
     pub fn setup(&mut self, world: &mut World<V>) -> Result<(), DispatchError<E>>
-        ensures { IsSetUp (setups_of (lists_of S.reads S.writes C.reads C.writes) S.sets_up C.sets_up) L.sets_up (whole_over V.kind_of self.old world.old) result (whole_over V.kind_of self.new world.new) }
+        ensures { DispatcherSetUp L.sets_up self.old world.old result self.new world.new }
     {
         set_up_both(&mut self.plan, &mut self.thread_local, world)
     }
@@ -180,7 +183,7 @@ impl<
     /// Disposes of what stands in the plan, in its order, and then of the thread-local ones, of all of them. The answer
     /// tells the first that is not Done.
     pub fn dispose(self, world: &mut World<V>) -> Result<(), DispatchError<E>>
-        ensures { IsDisposedOf S.disposes L.disposes (whole_over V.kind_of self world.old) result (world_held V.kind_of world.new) }
+        ensures { DispatcherDisposed L.disposes self world.old result world.new }
     {
         let staged = self.plan.dispose(world);
         first(staged, self.thread_local.dispose(world))
@@ -200,8 +203,8 @@ impl<
         rt: &R,
         world: &mut LocalWorld<V>,
     ) -> Result<(), DispatchError<E>>
-        ensures dispatched { FullyDispatched V.kind_of (relations_of (lists_of S.reads S.writes C.reads C.writes) S.step C.begins C.asks) L.runs (whole_with self.old (local_held V.kind_of world.old)) result (whole_with self.new (local_held V.kind_of world.new)) }
-        ensures kinds { KeepsKinds V.kind_of (local_held V.kind_of world.old) (local_held V.kind_of world.new) }
+        ensures dispatched { FullyDispatched V.kind_of (steps_of S.System C.BatchController) L.runs (whole_over_local V.kind_of self.old world.old) result (whole_over_local V.kind_of self.new world.new) }
+        ensures kinds { KeepsKindsIn local_held V.kind_of world.old world.new }
     {
         match self.plan.run_in_order(world) {
             Ok(()) => self.thread_local.run(rt, world),
@@ -219,9 +222,9 @@ impl<
 > RunNow<V> for Dispatcher<V, S, C, L> {
     type Error = DispatchError<E>;
 
-    ghost runs = { λ old before outcome new after. RunsNow V.kind_of (relations_of (lists_of S.reads S.writes C.reads C.writes) S.step C.begins C.asks) L.runs (whole_with old before) outcome (whole_with new after) };
+    ghost runs = { λ old before outcome new after. RunsNow V.kind_of (steps_of S.System C.BatchController) L.runs (whole_with old before) outcome (whole_with new after) };
 
-    ghost sets_up = { λ old before outcome new after. SetsUpNow (setups_of (lists_of S.reads S.writes C.reads C.writes) S.sets_up C.sets_up) L.sets_up (whole_with old before) outcome (whole_with new after) };
+    ghost sets_up = { λ old before outcome new after. SetsUpNow (setups_of S.System C.BatchController) L.sets_up (whole_with old before) outcome (whole_with new after) };
 
     ghost disposes = { λ old before outcome after. DisposesNow S.disposes L.disposes (whole_with old before) outcome after };
 
@@ -261,7 +264,7 @@ where
         rt: &R,
         world: &mut World<V>,
     ) -> Result<(), DispatchError<E>>
-        ensures dispatched { Dispatched V.kind_of (relations_of (lists_of S.reads S.writes C.reads C.writes) S.step C.begins C.asks) dispatch_answer (dispatcher_over V.kind_of self.old world.old) result (dispatcher_over V.kind_of self.new world.new) }
+        ensures dispatched { Dispatched V.kind_of (steps_of S.System C.BatchController) dispatch_answer (dispatcher_over V.kind_of self.old world.old) result (dispatcher_over V.kind_of self.new world.new) }
         ensures locals { dispatcher_locals self.new ≡ dispatcher_locals self.old }
         ensures workers { dispatcher_workers self.new ≡ dispatcher_workers self.old }
     {
@@ -286,8 +289,8 @@ where
         rt: &R,
         world: &mut LocalWorld<V>,
     ) -> Result<(), DispatchError<E>>
-        ensures dispatched { FullyDispatched V.kind_of (relations_of (lists_of S.reads S.writes C.reads C.writes) S.step C.begins C.asks) L.runs (whole_with self.old (local_held V.kind_of world.old)) result (whole_with self.new (local_held V.kind_of world.new)) }
-        ensures kinds { KeepsKinds V.kind_of (local_held V.kind_of world.old) (local_held V.kind_of world.new) }
+        ensures dispatched { FullyDispatched V.kind_of (steps_of S.System C.BatchController) L.runs (whole_over_local V.kind_of self.old world.old) result (whole_over_local V.kind_of self.new world.new) }
+        ensures kinds { KeepsKindsIn local_held V.kind_of world.old world.new }
     {
         match self.plan.run_beside(rt, world, self.workers) {
             Ok(()) => self.thread_local.run(rt, world),
@@ -301,8 +304,8 @@ where
         rt: &R,
         world: &mut World<V>,
     ) -> Result<(), DispatchError<E>>
-        ensures dispatched { FullyDispatched V.kind_of (relations_of (lists_of S.reads S.writes C.reads C.writes) S.step C.begins C.asks) L.runs (whole_over V.kind_of self.old world.old) result (whole_over V.kind_of self.new world.new) }
-        ensures kinds { KeepsKinds V.kind_of (world_held V.kind_of world.old) (world_held V.kind_of world.new) }
+        ensures dispatched { FullyDispatched V.kind_of (steps_of S.System C.BatchController) L.runs (whole_over V.kind_of self.old world.old) result (whole_over V.kind_of self.new world.new) }
+        ensures kinds { KeepsKindsIn world_held V.kind_of world.old world.new }
     {
         self.dispatch_beside(rt, world.local())
     }
@@ -314,8 +317,8 @@ where
         rt: &R,
         world: &mut LocalWorld<V>,
     ) -> Result<(), Fault<DispatchError<E>>>
-        ensures run { RunsNow V.kind_of (relations_of (lists_of S.reads S.writes C.reads C.writes) S.step C.begins C.asks) L.runs (whole_with self.old (local_held V.kind_of world.old)) result (whole_with self.new (local_held V.kind_of world.new)) }
-        ensures kinds { KeepsKinds V.kind_of (local_held V.kind_of world.old) (local_held V.kind_of world.new) }
+        ensures run { RunsNow V.kind_of (steps_of S.System C.BatchController) L.runs (whole_over_local V.kind_of self.old world.old) result (whole_over_local V.kind_of self.new world.new) }
+        ensures kinds { KeepsKindsIn local_held V.kind_of world.old world.new }
     {
         as_run(self.dispatch_beside(rt, world))
     }

@@ -1,15 +1,16 @@
 //! A dispatcher whose stages run on workers that are kept.
 ghost use Rattle.std.specs.Prelude.{◌≡◌, IfErr, IfOk};
-ghost use Rattle.shred_run.specs.Alone.{KeepsKinds};
-ghost use Rattle.shred_run.specs.Depths.{lists_of, relations_of};
+ghost use Rattle.shred_run.specs.Alone.{KeepsKindsIn};
+ghost use Rattle.shred_run.specs.Depths.{steps_of};
 ghost use Rattle.shred_run.specs.Dispatched.{Dispatched};
 ghost use Rattle.shred_run.specs.WorkSetups.{setups_of};
 ghost use Rattle.shred_stage.specs.Situations.{dispatch_answer};
-ghost use Rattle.shred.specs.Dispatchers.{dispatcher_locals, dispatcher_over, dispatcher_with, dispatcher_workers};
-ghost use Rattle.shred.specs.FullRuns.{FullyDispatched, RunsNow, whole_over, whole_with};
+ghost use Rattle.shred.specs.Dispatchers.{dispatcher_locals, dispatcher_over, dispatcher_workers, dispatcher_over_local};
+ghost use Rattle.shred.specs.FullRuns.{FullyDispatched, RunsNow, whole_over, whole_with, whole_over_local};
 ghost use Rattle.shred.specs.KeptDispatchers.{dispatcher_of};
-ghost use Rattle.shred.specs.Setups.{DisposesNow, IsDisposedOf, IsSetUp, SetsUpNow};
+ghost use Rattle.shred.specs.Setups.{DisposesNow, SetsUpNow};
 ghost use Rattle.shred_world.specs.Worlds.{local_held, world_held};
+ghost use Rattle.shred.specs.OverWorlds.{DispatcherSetUp, DispatcherDisposed};
 
 use crate::dispatch::dispatcher::{Dispatcher, as_run};
 use shred_kept::StageCrew;
@@ -47,7 +48,7 @@ impl<
         crew: &mut StageCrew<R, V, S, C>,
         world: &mut LocalWorld<V>,
     ) -> Result<(), DispatchError<E>>
-        ensures dispatched { Dispatched V.kind_of (relations_of (lists_of S.reads S.writes C.reads C.writes) S.step C.begins C.asks) dispatch_answer (dispatcher_with self.old (local_held V.kind_of world.old)) result (dispatcher_with self.new (local_held V.kind_of world.new)) }
+        ensures dispatched { Dispatched V.kind_of (steps_of S.System C.BatchController) dispatch_answer (dispatcher_over_local V.kind_of self.old world.old) result (dispatcher_over_local V.kind_of self.new world.new) }
         ensures locals { dispatcher_locals self.new ≡ dispatcher_locals self.old }
         ensures workers { dispatcher_workers self.new ≡ dispatcher_workers self.old }
     {
@@ -99,7 +100,7 @@ impl<
     /// Runs the stages, one after the other, up to the first that is not Done, the groups of each beside each other on the workers that
     /// are free and on the caller's thread.
     pub fn dispatch_par(&mut self, world: &mut World<V>) -> Result<(), DispatchError<E>>
-        ensures dispatched { Dispatched V.kind_of (relations_of (lists_of S.reads S.writes C.reads C.writes) S.step C.begins C.asks) dispatch_answer (dispatcher_over V.kind_of (dispatcher_of self.old) world.old) result (dispatcher_over V.kind_of (dispatcher_of self.new) world.new) }
+        ensures dispatched { Dispatched V.kind_of (steps_of S.System C.BatchController) dispatch_answer (dispatcher_over V.kind_of (dispatcher_of self.old) world.old) result (dispatcher_over V.kind_of (dispatcher_of self.new) world.new) }
         ensures locals { dispatcher_locals (dispatcher_of self.new) ≡ dispatcher_locals (dispatcher_of self.old) }
         ensures workers { dispatcher_workers (dispatcher_of self.new) ≡ dispatcher_workers (dispatcher_of self.old) }
     {
@@ -132,8 +133,8 @@ impl<
         rt: &T,
         world: &mut LocalWorld<V>,
     ) -> Result<(), DispatchError<E>>
-        ensures dispatched { FullyDispatched V.kind_of (relations_of (lists_of S.reads S.writes C.reads C.writes) S.step C.begins C.asks) L.runs (whole_with (dispatcher_of self.old) (local_held V.kind_of world.old)) result (whole_with (dispatcher_of self.new) (local_held V.kind_of world.new)) }
-        ensures kinds { KeepsKinds V.kind_of (local_held V.kind_of world.old) (local_held V.kind_of world.new) }
+        ensures dispatched { FullyDispatched V.kind_of (steps_of S.System C.BatchController) L.runs (whole_over_local V.kind_of (dispatcher_of self.old) world.old) result (whole_over_local V.kind_of (dispatcher_of self.new) world.new) }
+        ensures kinds { KeepsKindsIn local_held V.kind_of world.old world.new }
     {
         match self.dispatcher.run_on(&mut self.crew, world) {
             Ok(()) => self.dispatcher.thread_local.run(rt, world),
@@ -147,8 +148,8 @@ impl<
         rt: &T,
         world: &mut World<V>,
     ) -> Result<(), DispatchError<E>>
-        ensures dispatched { FullyDispatched V.kind_of (relations_of (lists_of S.reads S.writes C.reads C.writes) S.step C.begins C.asks) L.runs (whole_over V.kind_of (dispatcher_of self.old) world.old) result (whole_over V.kind_of (dispatcher_of self.new) world.new) }
-        ensures kinds { KeepsKinds V.kind_of (world_held V.kind_of world.old) (world_held V.kind_of world.new) }
+        ensures dispatched { FullyDispatched V.kind_of (steps_of S.System C.BatchController) L.runs (whole_over V.kind_of (dispatcher_of self.old) world.old) result (whole_over V.kind_of (dispatcher_of self.new) world.new) }
+        ensures kinds { KeepsKindsIn world_held V.kind_of world.old world.new }
     {
         self.dispatch_local(rt, world.local())
     }
@@ -156,7 +157,7 @@ impl<
     /// Sets up what stands in the plan, in its order, and then the thread-local ones, up to the first that is not Done, which the answer
     /// tells. What was done before it stays.
     pub fn setup(&mut self, world: &mut World<V>) -> Result<(), DispatchError<E>>
-        ensures { IsSetUp (setups_of (lists_of S.reads S.writes C.reads C.writes) S.sets_up C.sets_up) L.sets_up (whole_over V.kind_of (dispatcher_of self.old) world.old) result (whole_over V.kind_of (dispatcher_of self.new) world.new) }
+        ensures { DispatcherSetUp L.sets_up (dispatcher_of self.old) world.old result (dispatcher_of self.new) world.new }
     {
         self.dispatcher.setup(world)
     }
@@ -164,7 +165,7 @@ impl<
     /// Ends the workers, and disposes of what stands in the plan, in its order, and then of the thread-local ones, of all of them. The
     /// answer tells the first that is not Done.
     pub fn dispose(self, world: &mut World<V>) -> Result<(), DispatchError<E>>
-        ensures { IsDisposedOf S.disposes L.disposes (whole_over V.kind_of (dispatcher_of self) world.old) result (world_held V.kind_of world.new) }
+        ensures { DispatcherDisposed L.disposes (dispatcher_of self) world.old result world.new }
     {
         self.into_dispatcher().dispose(world)
     }
@@ -180,9 +181,9 @@ impl<
 > RunNow<V> for KeptDispatcher<R, V, S, C, L> {
     type Error = DispatchError<E>;
 
-    ghost runs = { λ old before outcome new after. RunsNow V.kind_of (relations_of (lists_of S.reads S.writes C.reads C.writes) S.step C.begins C.asks) L.runs (whole_with (dispatcher_of old) before) outcome (whole_with (dispatcher_of new) after) };
+    ghost runs = { λ old before outcome new after. RunsNow V.kind_of (steps_of S.System C.BatchController) L.runs (whole_with (dispatcher_of old) before) outcome (whole_with (dispatcher_of new) after) };
 
-    ghost sets_up = { λ old before outcome new after. SetsUpNow (setups_of (lists_of S.reads S.writes C.reads C.writes) S.sets_up C.sets_up) L.sets_up (whole_with (dispatcher_of old) before) outcome (whole_with (dispatcher_of new) after) };
+    ghost sets_up = { λ old before outcome new after. SetsUpNow (setups_of S.System C.BatchController) L.sets_up (whole_with (dispatcher_of old) before) outcome (whole_with (dispatcher_of new) after) };
 
     ghost disposes = { λ old before outcome after. DisposesNow S.disposes L.disposes (whole_with (dispatcher_of old) before) outcome after };
 

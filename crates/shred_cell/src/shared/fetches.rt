@@ -3,6 +3,7 @@ ghost use Rattle.std.specs.Prelude.{◌≡◌, ◌≢◌, ◌⊎◌, true, false
 ghost use Rattle.shred_cell.specs.Cells.{tag_of};
 ghost use Rattle.shred_cell.specs.SharedWorlds.{cell_kind, shares};
 ghost use Rattle.shred_table.specs.Id.{id_kind, id_of};
+ghost use Rattle.shred_cell.specs.Refusals.{IsWrongSharedKind, IsBorrowed};
 
 use super::{CellRef, OfKind, SharedError, SharedFetch, SharedFetchMut, SharedWorld};
 use crate::cell::{InvalidBorrow, TrustCell};
@@ -14,7 +15,7 @@ use std::sync::Wait;
 // Refuses an id of another kind than the resource's.
 fn test_kind<V: ResourceValue, R: Resource<V>>(id: ResourceId) -> Result<(), SharedError>
     ensures ok { OnOk result (R.KIND ≡ id_kind id) }
-    ensures wrong_kind { IfErr result (λ e. (R.KIND ≢ id_kind id) × (e ≡ SharedError.WrongKind R.KIND (id_kind id))) }
+    ensures wrong_kind { IfErr result (IsWrongSharedKind R.KIND id) }
 {
     if R::KIND == id.kind() {
         Ok(())
@@ -80,7 +81,7 @@ impl<V: ResourceValue + Drop> SharedWorld<V> {
         rt: &impl Wait,
     ) -> Result<Option<SharedFetch<'_, V, R>>, SharedError>
         ensures held { IfOk result (λ found. is_some found ≡ shares self.now (id_of R.KIND 0)) }
-        ensures borrowed { IfErr result (λ e. (e ≡ SharedError.InvalidBorrow) × (shares self.now (id_of R.KIND 0) ≡ true)) }
+        ensures borrowed { IfErr result (IsBorrowed self.now (id_of R.KIND 0)) }
     {
         self.try_fetch_by_id(rt, ResourceId::new::<V, R>())
     }
@@ -94,7 +95,7 @@ impl<V: ResourceValue + Drop> SharedWorld<V> {
     ) -> Result<Option<SharedFetch<'_, V, R>>, SharedError>
         ensures wrong_kind { (R.KIND ≢ id_kind id) → result ≡ Err (SharedError.WrongKind R.KIND (id_kind id)) }
         ensures held { IfOk result (λ found. (R.KIND ≡ id_kind id) × (is_some found ≡ shares self.now id)) }
-        ensures borrowed { IfErr result (λ e. (R.KIND ≡ id_kind id) → (e ≡ SharedError.InvalidBorrow) × (shares self.now id ≡ true)) }
+        ensures borrowed { IfErr result (λ e. (R.KIND ≡ id_kind id) → IsBorrowed self.now id e) }
     {
         test_kind::<V, R>(id)?;
         let Some(cell) = self.cell(id) else {
@@ -123,7 +124,7 @@ impl<V: ResourceValue + Drop> SharedWorld<V> {
         &self,
     ) -> Result<Option<SharedFetchMut<'_, V, R>>, SharedError>
         ensures held { IfOk result (λ found. is_some found ≡ shares self.now (id_of R.KIND 0)) }
-        ensures borrowed { IfErr result (λ e. (e ≡ SharedError.InvalidBorrow) × (shares self.now (id_of R.KIND 0) ≡ true)) }
+        ensures borrowed { IfErr result (IsBorrowed self.now (id_of R.KIND 0)) }
     {
         self.try_fetch_mut_by_id(ResourceId::new::<V, R>())
     }
@@ -136,7 +137,7 @@ impl<V: ResourceValue + Drop> SharedWorld<V> {
     ) -> Result<Option<SharedFetchMut<'_, V, R>>, SharedError>
         ensures wrong_kind { (R.KIND ≢ id_kind id) → result ≡ Err (SharedError.WrongKind R.KIND (id_kind id)) }
         ensures held { IfOk result (λ found. (R.KIND ≡ id_kind id) × (is_some found ≡ shares self.now id)) }
-        ensures borrowed { IfErr result (λ e. (R.KIND ≡ id_kind id) → (e ≡ SharedError.InvalidBorrow) × (shares self.now id ≡ true)) }
+        ensures borrowed { IfErr result (λ e. (R.KIND ≡ id_kind id) → IsBorrowed self.now id e) }
     {
         test_kind::<V, R>(id)?;
         let Some(cell) = self.cell(id) else {

@@ -1,9 +1,9 @@
 //! Moving the values of a world into cells, and back.
-ghost use Rattle.std.specs.Prelude.{◌≡◌, ◌||◌, cond, true, false, is_some};
-ghost use Rattle.shred_cell.specs.Shared.{ArePlaced, cell_of, has_cell};
-ghost use Rattle.shred_table.specs.Parting.{emptied, given};
-ghost use Rattle.shred_table.specs.Slots.{among, held, slot_at, with_at};
+ghost use Rattle.std.specs.Prelude.{◌≡◌, ◌||◌, true, false, is_some};
+ghost use Rattle.shred_cell.specs.Shared.{ArePlaced, has_cell, cell_in, KeepsHeldOrShared};
+ghost use Rattle.shred_table.specs.Slots.{among, slot_at};
 ghost use Rattle.shred_table.specs.declared.id.ResourceId.{ResourceId};
+ghost use Rattle.shred_table.specs.Changes.{Empties, EmptiesEach, Receives, ReceivesEach};
 
 use super::OfKind;
 use crate::cell::{InvalidBorrow, TrustCell};
@@ -17,8 +17,8 @@ fn enclose_one<V: ResourceValue + Drop>(
     id: ResourceId,
     cells: &mut Table<TrustCell<V, OfKind>>,
 )
-    ensures table { (q : ResourceId) → slot_at table.new q ≡ with_at (slot_at table.old) id (emptied (slot_at table.old id)) q }
-    ensures cells { (q : ResourceId) → slot_at cells.new q ≡ with_at (slot_at cells.old) id (given (cell_of V.kind_of id (slot_at table.old id)) (slot_at cells.old id)) q }
+    ensures table { Empties slot_at table.old id table.new }
+    ensures cells { Receives slot_at cells.old (cell_in V.kind_of table.old) id cells.new }
 {
     if let Some(value) = take(table, id) {
         let kind = id.kind();
@@ -34,8 +34,8 @@ pub(super) fn enclose<V: ResourceValue + Drop>(
     ids: &[ResourceId],
     cells: &mut Table<TrustCell<V, OfKind>>,
 )
-    ensures table { (q : ResourceId) → slot_at table.new q ≡ cond (among ids.now q) (emptied (slot_at table.old q)) (slot_at table.old q) }
-    ensures cells { (q : ResourceId) → slot_at cells.new q ≡ cond (among ids.now q) (given (cell_of V.kind_of q (slot_at table.old q)) (slot_at cells.old q)) (slot_at cells.old q) }
+    ensures table { EmptiesEach slot_at table.old (among ids.now) table.new }
+    ensures cells { ReceivesEach slot_at cells.old (cell_in V.kind_of table.old) (among ids.now) cells.new }
 {
     for id in ids {
         enclose_one(table, *id, cells);
@@ -50,7 +50,7 @@ fn release_one<V: ResourceValue + Drop>(
 ) -> bool
     requires home { is_some (slot_at table.old id) ≡ true }
     requires placed { ArePlaced cells.old }
-    ensures either { (q : ResourceId) → is_some (held V.kind_of table.new q) || has_cell cells.new q ≡ is_some (held V.kind_of table.old q) || has_cell cells.old q }
+    ensures either { KeepsHeldOrShared V.kind_of table.old cells.old table.new cells.new }
     ensures gone { result ≡ true → has_cell cells.new id ≡ false }
     ensures fewer { (q : ResourceId) → has_cell cells.old q ≡ false → has_cell cells.new q ≡ false }
     ensures homes { (q : ResourceId) → is_some (slot_at table.new q) ≡ is_some (slot_at table.old q) }
@@ -80,7 +80,7 @@ pub(super) fn release<V: ResourceValue + Drop>(
 ) -> bool
     requires homes { (q : ResourceId) → is_some (slot_at table.old q) ≡ among ids.now q }
     requires placed { ArePlaced cells.old }
-    ensures either { (q : ResourceId) → is_some (held V.kind_of table.new q) || has_cell cells.new q ≡ is_some (held V.kind_of table.old q) || has_cell cells.old q }
+    ensures either { KeepsHeldOrShared V.kind_of table.old cells.old table.new cells.new }
     ensures gone { result ≡ true → (q : ResourceId) → among ids.now q ≡ true → has_cell cells.new q ≡ false }
     ensures homes { (q : ResourceId) → is_some (slot_at table.new q) ≡ is_some (slot_at table.old q) }
     ensures slots { (q : ResourceId) → is_some (slot_at cells.new q) ≡ is_some (slot_at cells.old q) }

@@ -1,7 +1,7 @@
 //! The table's own calls.
-ghost use Rattle.std.specs.Prelude.{◌≡◌, false, true, [], IfSome, MatchOption, OnOk, OnErr};
+ghost use Rattle.std.specs.Prelude.{◌≡◌, false, [], IfSome, OnOk, OnErr};
 ghost use Rattle.shred_meta.specs.Kinds.{is_registered, registered};
-ghost use Rattle.shred_meta.specs.MetaTables.{kinds_of};
+ghost use Rattle.shred_meta.specs.MetaTables.{kinds_of, ShowsRegistered, LendsRegistered};
 ghost use Rattle.shred_meta.specs.MetaWalks.{left_to_read, walk_kinds, walk_world};
 ghost use Rattle.shred_meta.specs.Walks.{walk};
 ghost use Rattle.shred_world.specs.Worlds.{world_held};
@@ -47,7 +47,7 @@ impl<V: ResourceValue> MetaTable<V> {
 
     /// The value, where its kind is registered.
     pub fn get<'v>(&self, value: &'v V) -> Option<&'v V>
-        ensures { MatchOption result (is_registered (kinds_of self.now) (V.kind_of value.now) ≡ false) (λ shown. (is_registered (kinds_of self.now) (V.kind_of value.now) ≡ true) × (shown.now ≡ value.now)) }
+        ensures { ShowsRegistered V.kind_of (kinds_of self.now) value.now result }
     {
         if self.kinds.contains(&value.kind()) {
             Some(value)
@@ -58,7 +58,7 @@ impl<V: ResourceValue> MetaTable<V> {
 
     /// The value, to read it and to give it orders, where its kind is registered.
     pub fn get_mut<'v>(&self, value: &'v mut V) -> Option<MetaMut<'v, V>>
-        ensures shown { MatchOption result (is_registered (kinds_of self.now) (V.kind_of value.old) ≡ false) (λ shown. (is_registered (kinds_of self.now) (V.kind_of value.old) ≡ true) × (shown.now ≡ value.old)) }
+        ensures shown { LendsRegistered V.kind_of (kinds_of self.now) value.old result }
         ensures name { IfSome result (λ shown. shown.ghost_name ≡ value.entry.ghost_name) }
     {
         if self.kinds.contains(&value.kind()) {

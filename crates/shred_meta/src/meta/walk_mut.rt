@@ -1,10 +1,10 @@
 //! The walk that writes.
 ghost use Rattle.std.specs.Borrow.{sem};
 ghost use Rattle.std.specs.Option.{option_copied_mut};
-ghost use Rattle.std.specs.Prelude.{◌≡◌, [], IfNone, IfSome, MatchOption, OnSome, Some, slice_get};
-ghost use Rattle.shred_meta.specs.MetaWalks.{LendsNext, left_to_write, walk_held, walk_kinds, walk_world};
-ghost use Rattle.shred_meta.specs.Walks.{after_first, first_held, walk};
-ghost use Rattle.shred_table.specs.Id.{dynamic_id_of, id_kind};
+ghost use Rattle.std.specs.Prelude.{◌≡◌, [], IfNone, IfSome, OnSome, Some, slice_get};
+ghost use Rattle.shred_meta.specs.MetaWalks.{LendsNext, left_to_write, walk_held, walk_kinds, KeepsWorld, IsNextOf};
+ghost use Rattle.shred_meta.specs.Walks.{after_first, IsFirstHeld};
+ghost use Rattle.shred_table.specs.Id.{dynamic_id_of};
 ghost use Rattle.shred_world.specs.Worlds.{world_held};
 
 use super::{MetaIterMut, MetaMut};
@@ -15,7 +15,7 @@ use shred_world::world::World;
 
 // The first of the kinds of which a value is held, and the kinds after it.
 fn first_of<'a, V: ResourceValue>(world: &World<V>, kinds: &'a [Kind]) -> Option<(Kind, &'a [Kind])>
-    ensures { MatchOption result (walk (world_held V.kind_of world.now) kinds.now ≡ []) (λ first. (first_held (world_held V.kind_of world.now) kinds.now ≡ Some first.0) × (first.1.now ≡ after_first (world_held V.kind_of world.now) kinds.now)) }
+    ensures { IsFirstHeld (world_held V.kind_of world.now) kinds.now result }
 {
     let mut left = kinds;
     for _ in 0..kinds.len() {
@@ -34,10 +34,10 @@ impl<V: ResourceValue> MetaIterMut<'_, V> {
     // Goes on to the next kind of which a value is held, and gives the id of that value.
     fn advance(&mut self) -> Option<ResourceId>
         ensures ended { IfNone result ((left_to_write V.kind_of self.old ≡ []) × (walk_kinds self.new ≡ walk_kinds self.old)) }
-        ensures first { IfSome result (λ id. first_held (walk_held V.kind_of self.old) (walk_kinds self.old) ≡ Some (id_kind id)) }
+        ensures first { IfSome result (IsNextOf V.kind_of self.old) }
         ensures number { IfSome result (λ id. dynamic_id_of id ≡ 0) }
         ensures left { OnSome result (walk_kinds self.new ≡ after_first (walk_held V.kind_of self.old) (walk_kinds self.old)) }
-        ensures world { ((walk_world self.new).now ≡ (walk_world self.old).now) × ((walk_world self.new).ghost_name ≡ (walk_world self.old).ghost_name) }
+        ensures world { KeepsWorld self.old self.new }
     {
         let (kind, others) = first_of(self.world, self.kinds)?;
         self.kinds = others;

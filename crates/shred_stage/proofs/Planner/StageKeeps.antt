@@ -18,7 +18,7 @@ use Rattle.shred_run.specs.OwnLists.{IsEntryOf, IsGroupOf}
 use Rattle.shred_run.specs.declared.entry.GroupEntry.{GroupEntry}
 use Rattle.shred_run.specs.declared.entry.Group.{Group}
 use Rattle.shred_run.specs.Hands.{KeepsRoom}
-use Rattle.shred_run.specs.PlanOf.{access_of, entry_plan, group_plan, groups_plan, HasEntryIds, group_numbers}
+use Rattle.shred_run.specs.PlanOf.{entry_access, entry_plan, group_plan, groups_plan, HasEntryIds, group_numbers}
 use Rattle.shred_stage.specs.Search.{OthersDoNotConflict, PlaceIs}
 use Rattle.shred_stage.specs.Soundness.{IsSmallGroup}
 use Rattle.shred_stage.specs.Placement.{NoneAdmits, IsPlaced, in_new_group, at_end_of_group}
@@ -104,7 +104,7 @@ single_is_small : {I : Type 0} (entry : model.PlanEntry I) (group : model.Group 
 single_is_small entry group e = rw e (omega arith, omega arith)
 
 pub kept_after_group : {V S : Type 0} (keeps : S → List ResourceId → List ResourceId → Type 0) (groups : List (Group V S)) (new : Group V S) (entry : GroupEntry V S) → IsKeptBy keeps groups → group_plan new ≡ entry_plan entry ∷ [] → HasEntryIds new → KeepsRoom new → IsGroupOf keeps new
-    → All (λ group. Conflicts (group_access group) (access_of entry) → ⊥) (groups_plan groups) → IsKeptBy keeps (groups ++ new ∷ [])
+    → All (λ group. Conflicts (group_access group) (entry_access entry) → ⊥) (groups_plan groups) → IsKeptBy keeps (groups ++ new ∷ [])
 kept_after_group {S} keeps groups new entry kept single ids room own free =
     let plan : groups_plan (groups ++ new ∷ []) ≡ groups_plan groups ++ group_plan new ∷ [] = map_push group_plan groups new in
     record {
@@ -151,7 +151,7 @@ apart_after result stage g entry after pushed within apart free =
     (pushed_cases result (get_or stage g []) after entry pushed)
 
 pub kept_after_entry : {V S E : Type 0} (keeps : S → List ResourceId → List ResourceId → Type 0) (result : Result (Unit {0}) E) (groups : List (Group V S)) (g : ℕ) (new : Group V S) (entry : GroupEntry V S) → IsKeptBy keeps groups → g < length (groups_plan groups)
-    → length (get_or (groups_plan groups) g []) < 4 → OthersDoNotConflict (groups_plan groups) g (access_of entry) → IsPushed result (get_or (groups_plan groups) g []) (entry_plan entry) (group_plan new) → HasEntryIds new → KeepsRoom new → IsGroupOf keeps new
+    → length (get_or (groups_plan groups) g []) < 4 → OthersDoNotConflict (groups_plan groups) g (entry_access entry) → IsPushed result (get_or (groups_plan groups) g []) (entry_plan entry) (group_plan new) → HasEntryIds new → KeepsRoom new → IsGroupOf keeps new
     → IsKeptBy keeps (set groups g new)
 kept_after_entry keeps result groups g new entry kept within few free pushed ids room own = record {
   some_group = omega (arith, length-set groups g new, kept.some_group);

@@ -1,13 +1,13 @@
 //! The inner plan of a batch: the stages of a builder, as the tiers that a batch holds.
-ghost use Rattle.std.specs.Prelude.{◌≡◌, All, IfOk};
+ghost use Rattle.std.specs.Prelude.{◌≡◌, IfOk, All};
 ghost use Rattle.shred_run.specs.Works.{tiers_plan};
-ghost use Rattle.shred_model.specs.Record.{Agent};
 ghost use Rattle.shred_stage.specs.Inner.{tiers_states};
 ghost use Rattle.shred_stage.specs.Plans.{plan_states};
 ghost use Rattle.shred_stage.specs.StagePlan.{plan_of};
 ghost use Rattle.shred_run.specs.Batches.{IsTierOf};
 ghost use Rattle.shred_run.specs.Depths.{lists_of};
 ghost use Rattle.shred_run.specs.OwnDepth.{OwnsItself};
+ghost use Rattle.shred_stage.specs.Added.{AreSame};
 
 use crate::dispatch::stage::Stage;
 use shred_run::entry::push_or_drop;
@@ -22,8 +22,8 @@ pub fn tiers_of<V: ResourceValue + Drop, S: System<V> + Drop, C: BatchController
     stages: Vec<Stage<V, S, C>>,
 ) -> Result<Vec<Tier<V, Work<S, Nested<V, S, C>>>>, OutOfMemory>
     ensures plan { IfOk result (λ tiers. tiers_plan tiers.items ≡ plan_of stages.items) }
-    ensures states { IfOk result (λ tiers. (path : Agent) → tiers_states tiers.items path ≡ plan_states stages.items path) }
-    ensures own { IfOk result (λ tiers. All (IsTierOf (OwnsItself (lists_of S.reads S.writes C.reads C.writes))) tiers.items) }
+    ensures states { IfOk result (λ tiers. AreSame (plan_states stages.items) (tiers_states tiers.items)) }
+    ensures own { IfOk result (λ tiers. All (IsTierOf (OwnsItself (lists_of S.System C.BatchController))) tiers.items) }
 {
     let mut tiers = Vec::new(alloc);
     for stage in stages {

@@ -1,17 +1,16 @@
 //! The plan that a dispatcher runs: stages, one after the other.
 ghost use Rattle.std.specs.Prelude.{◌≡◌, ◌++◌, Err};
 ghost use Rattle.shred_model.specs.Plan.{plan_ids};
-ghost use Rattle.shred_run.specs.Depths.{lists_of, relations_of};
+ghost use Rattle.shred_run.specs.Depths.{steps_of};
 ghost use Rattle.shred_run.specs.Dispatched.{Dispatched};
-ghost use Rattle.shred_run.specs.PlanSetups.{DisposedOf, SetUp};
-ghost use Rattle.shred_run.specs.WorkSetups.{setups_of};
 ghost use Rattle.shred_stage.specs.Names.{first_unnamed, named_ids};
 ghost use Rattle.shred_stage.specs.Printed.{plan_text};
-ghost use Rattle.shred_stage.specs.Prints.{IsPrinted};
-ghost use Rattle.shred_stage.specs.Setups.{StageDisposalAt, dispatch_fault};
-ghost use Rattle.shred_stage.specs.Situations.{dispatch_answer, plan_with};
+ghost use Rattle.shred_stage.specs.Prints.{PrintsPlan};
+ghost use Rattle.shred_stage.specs.Setups.{StageDisposalAt};
+ghost use Rattle.shred_stage.specs.Situations.{dispatch_answer, plan_over_local};
 ghost use Rattle.shred_stage.specs.StagePlan.{plan_of, widest};
-ghost use Rattle.shred_world.specs.Worlds.{local_held, world_held};
+ghost use Rattle.shred_world.specs.Between.{LeavesWorld};
+ghost use Rattle.shred_stage.specs.OverWorlds.{PlanSetUp, PlanDisposed};
 
 use crate::dispatch::dispatch_error::DispatchError;
 use crate::dispatch::printing::{PrintError, print};
@@ -67,7 +66,7 @@ impl<V: ResourceValue, S: System<V>, C: BatchController<V>> Plan<V, S, C> {
         end: &[u8],
     ) -> Result<(), PrintError>
         ensures { let plan = plan_of self.now.stages.items in let pairs = named_ids names.now in
-            IsPrinted W.told W.failures sink.old sink.new (first_unnamed pairs (plan_ids plan)) (plan_text pairs plan ++ end.now) result }
+            PrintsPlan W.told W.failures sink.old sink.new (first_unnamed pairs (plan_ids plan)) (plan_text pairs plan ++ end.now) result }
     {
         print(sink, names, &self.stages, end)
     }
@@ -81,7 +80,7 @@ impl<
 > Plan<V, S, C> {
     /// Runs the stages, one after the other, up to the first that is not Done, on the caller's thread.
     pub fn run_in_order(&mut self, world: &mut LocalWorld<V>) -> Result<(), DispatchError<E>>
-        ensures { Dispatched V.kind_of (relations_of (lists_of S.reads S.writes C.reads C.writes) S.step C.begins C.asks) dispatch_answer (plan_with self.old (local_held V.kind_of world.old)) result (plan_with self.new (local_held V.kind_of world.new)) }
+        ensures { Dispatched V.kind_of (steps_of S.System C.BatchController) dispatch_answer (plan_over_local V.kind_of self.old world.old) result (plan_over_local V.kind_of self.new world.new) }
     {
         for place in 0..self.stages.len() {
             if let Err(fault) = self.stages[place].turn_in_order(world) {
@@ -110,7 +109,7 @@ where
         world: &mut LocalWorld<V>,
         workers: usize,
     ) -> Result<(), DispatchError<E>>
-        ensures { Dispatched V.kind_of (relations_of (lists_of S.reads S.writes C.reads C.writes) S.step C.begins C.asks) dispatch_answer (plan_with self.old (local_held V.kind_of world.old)) result (plan_with self.new (local_held V.kind_of world.new)) }
+        ensures { Dispatched V.kind_of (steps_of S.System C.BatchController) dispatch_answer (plan_over_local V.kind_of self.old world.old) result (plan_over_local V.kind_of self.new world.new) }
     {
         for place in 0..self.stages.len() {
             if let Err(fault) = self.stages[place].turn_beside(rt, world, workers) {
@@ -134,7 +133,7 @@ impl<
         crew: &mut StageCrew<R, V, S, C>,
         world: &mut LocalWorld<V>,
     ) -> Result<(), DispatchError<E>>
-        ensures { Dispatched V.kind_of (relations_of (lists_of S.reads S.writes C.reads C.writes) S.step C.begins C.asks) dispatch_answer (plan_with self.old (local_held V.kind_of world.old)) result (plan_with self.new (local_held V.kind_of world.new)) }
+        ensures { Dispatched V.kind_of (steps_of S.System C.BatchController) dispatch_answer (plan_over_local V.kind_of self.old world.old) result (plan_over_local V.kind_of self.new world.new) }
     {
         for place in 0..self.stages.len() {
             if let Err(fault) = self.stages[place].turn_kept(crew, world) {
@@ -146,7 +145,7 @@ impl<
 
     /// Sets up what stands in the plan, in its order, up to the first that is not Done. What was done before it stays.
     pub fn setup(&mut self, world: &mut World<V>) -> Result<(), DispatchError<E>>
-        ensures { SetUp (setups_of (lists_of S.reads S.writes C.reads C.writes) S.sets_up C.sets_up) dispatch_fault (plan_with self.old (world_held V.kind_of world.old)) result (plan_with self.new (world_held V.kind_of world.new)) }
+        ensures { PlanSetUp self.old world.old result self.new world.new }
     {
         for place in 0..self.stages.len() {
             if let Err(fault) = self.stages[place].setup(world) {
@@ -158,7 +157,7 @@ impl<
 
     /// Disposes of what stands in the plan, in its order, of all of it. The answer is the first that is not Done.
     pub fn dispose(self, world: &mut World<V>) -> Result<(), DispatchError<E>>
-        ensures { DisposedOf S.disposes dispatch_fault (plan_with self (world_held V.kind_of world.old)) result (world_held V.kind_of world.new) }
+        ensures { PlanDisposed self world.old result world.new }
     {
         let mut answer = Ok(());
         let mut place = 0;
@@ -177,7 +176,7 @@ fn dispose_of_stage<
     C: BatchController<V, Error = E> + Drop,
     E: Drop,
 >(place: usize, stage: Stage<V, S, C>, world: &mut World<V>) -> Result<(), DispatchError<E>>
-    ensures { StageDisposalAt S.disposes place stage (world_held V.kind_of world.old) result (world_held V.kind_of world.new) }
+    ensures { LeavesWorld V.kind_of (StageDisposalAt S.disposes place stage) world.old result world.new }
 {
     match stage.dispose(world) {
         Ok(()) => Ok(()),

@@ -7,8 +7,8 @@ ghost use Rattle.shred_stage.specs.BuilderPlan.{planned};
 ghost use Rattle.shred_stage.specs.Names.{first_unnamed, least_name, lesser, named_ids};
 ghost use Rattle.shred_run.specs.PlanOf.{numbers_of};
 ghost use Rattle.shred_stage.specs.Printed.{cleaned, group_text, ids_text, plan_text, printed_name, stage_text, system_line};
-ghost use Rattle.shred_stage.specs.Prints.{IsPrinted};
-ghost use Rattle.shred_stage.specs.Sinks.{IsPut};
+ghost use Rattle.shred_stage.specs.Prints.{PrintsPlan};
+ghost use Rattle.shred_stage.specs.SinkTexts.{PutsText};
 ghost use Rattle.shred_stage.specs.StagePlan.{plan_of, stage_plan};
 
 use crate::dispatch::sink::{PlanSink, SinkFailed, put_all};
@@ -111,7 +111,7 @@ fn cleaned(byte: u8) -> u8
 }
 
 fn put_cleaned<W: PlanSink>(sink: &mut W, name: &[u8]) -> Result<(), SinkFailed>
-    ensures { IsPut (W.told sink.old) (W.told sink.new) (W.failures sink.old) (W.failures sink.new) (map cleaned name.now) result }
+    ensures { PutsText W.PlanSink sink.old sink.new (map cleaned name.now) result }
 {
     for byte in name {
         if let Err(e) = put_all(sink, &[cleaned(*byte)]) {
@@ -127,7 +127,7 @@ fn put_name<W: PlanSink>(
     names: &HashMap<String, SystemId>,
     id: SystemId,
 ) -> Result<(), SinkFailed>
-    ensures { IsPut (W.told sink.old) (W.told sink.new) (W.failures sink.old) (W.failures sink.new) (printed_name (named_ids names.now) id.0) result }
+    ensures { PutsText W.PlanSink sink.old sink.new (printed_name (named_ids names.now) id.0) result }
 {
     put_cleaned(sink, least_name(names, id).unwrap_or("").as_bytes())
 }
@@ -137,7 +137,7 @@ fn put_system<W: PlanSink>(
     names: &HashMap<String, SystemId>,
     id: SystemId,
 ) -> Result<(), SinkFailed>
-    ensures { IsPut (W.told sink.old) (W.told sink.new) (W.failures sink.old) (W.failures sink.new) (system_line (named_ids names.now) id.0) result }
+    ensures { PutsText W.PlanSink sink.old sink.new (system_line (named_ids names.now) id.0) result }
 {
     if let Err(e) = put_all(sink, b"\t\t\t") {
         return Err(e);
@@ -153,7 +153,7 @@ fn put_ids<W: PlanSink>(
     names: &HashMap<String, SystemId>,
     ids: &[SystemId],
 ) -> Result<(), SinkFailed>
-    ensures { IsPut (W.told sink.old) (W.told sink.new) (W.failures sink.old) (W.failures sink.new) (flat_map (system_line (named_ids names.now)) (numbers_of ids.now)) result }
+    ensures { PutsText W.PlanSink sink.old sink.new (flat_map (system_line (named_ids names.now)) (numbers_of ids.now)) result }
 {
     for id in ids {
         if let Err(e) = put_system(sink, names, *id) {
@@ -168,7 +168,7 @@ fn put_group<W: PlanSink>(
     names: &HashMap<String, SystemId>,
     ids: &[SystemId],
 ) -> Result<(), SinkFailed>
-    ensures { IsPut (W.told sink.old) (W.told sink.new) (W.failures sink.old) (W.failures sink.new) (ids_text (named_ids names.now) (numbers_of ids.now)) result }
+    ensures { PutsText W.PlanSink sink.old sink.new (ids_text (named_ids names.now) (numbers_of ids.now)) result }
 {
     if let Err(e) = put_all(sink, b"\t\tseq![\n") {
         return Err(e);
@@ -184,7 +184,7 @@ fn put_groups<W: PlanSink, V: ResourceValue, S: System<V>, C: BatchController<V>
     names: &HashMap<String, SystemId>,
     stage: &Stage<V, S, C>,
 ) -> Result<(), SinkFailed>
-    ensures { IsPut (W.told sink.old) (W.told sink.new) (W.failures sink.old) (W.failures sink.new) (flat_map (group_text (named_ids names.now)) (stage_plan stage.now)) result }
+    ensures { PutsText W.PlanSink sink.old sink.new (flat_map (group_text (named_ids names.now)) (stage_plan stage.now)) result }
 {
     for place in 0..stage.max_threads() {
         if let Some(ids) = stage.group_ids(place) {
@@ -201,7 +201,7 @@ fn put_stage<W: PlanSink, V: ResourceValue, S: System<V>, C: BatchController<V>>
     names: &HashMap<String, SystemId>,
     stage: &Stage<V, S, C>,
 ) -> Result<(), SinkFailed>
-    ensures { IsPut (W.told sink.old) (W.told sink.new) (W.failures sink.old) (W.failures sink.new) (stage_text (named_ids names.now) (stage_plan stage.now)) result }
+    ensures { PutsText W.PlanSink sink.old sink.new (stage_text (named_ids names.now) (stage_plan stage.now)) result }
 {
     if let Err(e) = put_all(sink, b"\tpar![\n") {
         return Err(e);
@@ -217,7 +217,7 @@ fn put_stages<W: PlanSink, V: ResourceValue, S: System<V>, C: BatchController<V>
     names: &HashMap<String, SystemId>,
     stages: &Vec<Stage<V, S, C>>,
 ) -> Result<(), SinkFailed>
-    ensures { IsPut (W.told sink.old) (W.told sink.new) (W.failures sink.old) (W.failures sink.new) (flat_map (stage_text (named_ids names.now)) (plan_of stages.now.items)) result }
+    ensures { PutsText W.PlanSink sink.old sink.new (flat_map (stage_text (named_ids names.now)) (plan_of stages.now.items)) result }
 {
     for place in 0..stages.len() {
         if let Err(e) = put_stage(sink, names, &stages[place]) {
@@ -233,7 +233,7 @@ pub(crate) fn put_plan<W: PlanSink, V: ResourceValue, S: System<V>, C: BatchCont
     names: &HashMap<String, SystemId>,
     stages: &Vec<Stage<V, S, C>>,
 ) -> Result<(), SinkFailed>
-    ensures { IsPut (W.told sink.old) (W.told sink.new) (W.failures sink.old) (W.failures sink.new) (plan_text (named_ids names.now) (plan_of stages.now.items)) result }
+    ensures { PutsText W.PlanSink sink.old sink.new (plan_text (named_ids names.now) (plan_of stages.now.items)) result }
 {
     if let Err(e) = put_all(sink, b"seq![\n") {
         return Err(e);
@@ -252,7 +252,7 @@ pub(crate) fn print<W: PlanSink, V: ResourceValue, S: System<V>, C: BatchControl
     end: &[u8],
 ) -> Result<(), PrintError>
     ensures { let plan = plan_of stages.now.items in let pairs = named_ids names.now in
-        IsPrinted W.told W.failures sink.old sink.new (first_unnamed pairs (plan_ids plan)) (plan_text pairs plan ++ end.now) result }
+        PrintsPlan W.told W.failures sink.old sink.new (first_unnamed pairs (plan_ids plan)) (plan_text pairs plan ++ end.now) result }
 {
     if let Some(id) = first_unnamed(stages, names) {
         return Err(PrintError::Unnamed(id));
@@ -269,7 +269,7 @@ fn put_with_end<W: PlanSink, V: ResourceValue, S: System<V>, C: BatchController<
     stages: &Vec<Stage<V, S, C>>,
     end: &[u8],
 ) -> Result<(), SinkFailed>
-    ensures { IsPut (W.told sink.old) (W.told sink.new) (W.failures sink.old) (W.failures sink.new) (plan_text (named_ids names.now) (plan_of stages.now.items) ++ end.now) result }
+    ensures { PutsText W.PlanSink sink.old sink.new (plan_text (named_ids names.now) (plan_of stages.now.items) ++ end.now) result }
 {
     if let Err(e) = put_plan(sink, names, stages) {
         return Err(e);
@@ -285,7 +285,7 @@ pub fn print_with_end<V: ResourceValue, S: System<V>, C: BatchController<V>, W: 
     end: &[u8],
 ) -> Result<(), PrintError>
     ensures { let pairs = named_ids names.now in
-        IsPrinted W.told W.failures sink.old sink.new (first_unnamed pairs (plan_ids (planned builder.now))) (plan_text pairs (planned builder.now) ++ end.now) result }
+        PrintsPlan W.told W.failures sink.old sink.new (first_unnamed pairs (plan_ids (planned builder.now))) (plan_text pairs (planned builder.now) ++ end.now) result }
 {
     print(sink, names, &builder.stages, end)
 }

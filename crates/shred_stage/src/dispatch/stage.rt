@@ -9,13 +9,13 @@ ghost use Rattle.shred_stage.specs.Placement.{greatest_time};
 ghost use Rattle.shred_run.specs.Left.{difference};
 ghost use Rattle.shred_run.specs.Hands.{KeepsRoom};
 ghost use Rattle.shred_run.specs.OwnLists.{IsEntryOf, IsGroupOf};
-ghost use Rattle.shred_run.specs.PlanOf.{access_of, entry_plan, groups_plan, numbers_of, HasEntryIds};
+ghost use Rattle.shred_run.specs.PlanOf.{entry_access, entry_plan, groups_plan, numbers_of, HasEntryIds};
 ghost use Rattle.shred_stage.specs.Search.{may_end, OthersDoNotConflict, SpotIs, TouchedIs};
 ghost use Rattle.shred_run.specs.Touching.{group_conflicts, is_touched};
 ghost use Rattle.std.specs.List.{list_any};
 ghost use Rattle.shred_run.specs.Sides.{stage_side};
 ghost use Rattle.shred_stage.specs.Soundness.{IsSmallGroup};
-ghost use Rattle.shred_run.specs.Depths.{lists_of, relations_of};
+ghost use Rattle.shred_run.specs.Depths.{lists_of, steps_of};
 ghost use Rattle.shred_run.specs.OwnDepth.{OwnsItself};
 ghost use Rattle.shred_run.specs.OwnFacts.{owns_itself-is_fact};
 ghost use Rattle.std.specs.Coded.{Coded-set};
@@ -62,7 +62,7 @@ pub struct Stage<
     ghost apart: { AreApart group_access (groups_plan groups.items) },
     ghost keep_ids: { All HasEntryIds groups.items },
     ghost keep_room: { All KeepsRoom groups.items },
-    ghost own_lists: { All (IsGroupOf (OwnsItself (lists_of S.reads S.writes C.reads C.writes))) groups.items } by { Prim.hlevel (props, owns_itself-is_fact (Coded-set V.code) (lists_of S.reads S.writes C.reads C.writes)) },
+    ghost own_lists: { All (IsGroupOf (OwnsItself (lists_of S.System C.BatchController))) groups.items } by { Prim.hlevel (props, owns_itself-is_fact (Coded-set V.code) (lists_of S.System C.BatchController)) },
 }
 
 impl<V: ResourceValue, S: System<V>, C: BatchController<V>> Stage<V, S, C> {
@@ -70,7 +70,7 @@ impl<V: ResourceValue, S: System<V>, C: BatchController<V>> Stage<V, S, C> {
     ghost use Rattle.shred_run.specs.Batches.{IsTierOf};
     ghost use Rattle.shred_run.specs.Works.{tier_plan, tier_states};
     ghost use Rattle.shred_stage.specs.Added.{nothing_at, AreSame, IsNew};
-    ghost use Rattle.shred_stage.specs.EntriesAt.{stage_entries};
+    ghost use Rattle.shred_stage.specs.EntriesAt.{stage_entry_at};
     ghost use Rattle.shred_stage.specs.Plans.{stage_states};
     ghost use Rattle.shred_stage.specs.StagePlan.{stage_plan};
 
@@ -83,9 +83,9 @@ impl<V: ResourceValue, S: System<V>, C: BatchController<V>> Stage<V, S, C> {
         V: Drop,
         S: Drop,
         C: Drop,
-        requires own_lists { IsEntryOf (OwnsItself (lists_of S.reads S.writes C.reads C.writes)) entry }
+        requires own_lists { IsEntryOf (OwnsItself (lists_of S.System C.BatchController)) entry }
         ensures plan { IfOk result (λ stage. stage_plan stage ≡ (entry_plan entry ∷ []) ∷ []) }
-        ensures added { IfOk result (λ stage. IsNew nothing_at (stage_entries stage) entry) }
+        ensures added { IfOk result (λ stage. IsNew nothing_at (stage_entry_at stage) entry) }
     {
         let mut groups = Vec::new(alloc);
         let group = Group::new(alloc, entry)?;
@@ -131,7 +131,7 @@ impl<V: ResourceValue, S: System<V>, C: BatchController<V>> Stage<V, S, C> {
 
     /// Whether a group of the stage conflicts with the entry.
     pub(crate) fn conflicts(&self, entry: &GroupEntry<V, Work<S, Nested<V, S, C>>>) -> bool
-        ensures { result ≡ list_any (group_conflicts same_id (access_of entry.now)) (stage_plan self.now) }
+        ensures { result ≡ list_any (group_conflicts same_id (entry_access entry.now)) (stage_plan self.now) }
     {
         self.groups.iter().any(|group| group.conflicts(entry))
     }
@@ -139,7 +139,7 @@ impl<V: ResourceValue, S: System<V>, C: BatchController<V>> Stage<V, S, C> {
     /// Which groups the entry has to come after.
     #[tactic(auto, using(crate::proofs::Planner::Earlier::touched_all))]
     fn touched(&self, left: &[SystemId], entry: &GroupEntry<V, Work<S, Nested<V, S, C>>>) -> Touched
-        ensures { TouchedIs (is_touched same_id (numbers_of left.now) (access_of entry.now)) (stage_plan self.now) result }
+        ensures { TouchedIs (is_touched same_id (numbers_of left.now) (entry_access entry.now)) (stage_plan self.now) result }
     {
         let mut touched = Touched::Nothing;
         for (place, group) in self.groups.iter().enumerate() {
@@ -212,12 +212,12 @@ impl<V: ResourceValue, S: System<V>, C: BatchController<V>> Stage<V, S, C> {
         V: Drop,
         S: Drop,
         C: Drop,
-        requires free { All (λ group. Conflicts (group_access group) (access_of entry) → ⊥) (stage_plan self.old) }
-        requires own_lists { IsEntryOf (OwnsItself (lists_of S.reads S.writes C.reads C.writes)) entry }
+        requires free { All (λ group. Conflicts (group_access group) (entry_access entry) → ⊥) (stage_plan self.old) }
+        requires own_lists { IsEntryOf (OwnsItself (lists_of S.System C.BatchController)) entry }
         ensures ok { OnOk result (stage_plan self.new ≡ stage_plan self.old ++ (entry_plan entry ∷ []) ∷ []) }
         ensures err { OnErr result (stage_plan self.new ≡ stage_plan self.old) }
-        ensures added { OnOk result (IsNew (stage_entries self.old) (stage_entries self.new) entry) }
-        ensures unchanged { OnErr result (AreSame (stage_entries self.old) (stage_entries self.new)) }
+        ensures added { OnOk result (IsNew (stage_entry_at self.old) (stage_entry_at self.new) entry) }
+        ensures unchanged { OnErr result (AreSame (stage_entry_at self.old) (stage_entry_at self.new)) }
     {
         let alloc = *self.groups.allocator();
         let group = Group::new(alloc, entry)?;
@@ -237,12 +237,12 @@ impl<V: ResourceValue, S: System<V>, C: BatchController<V>> Stage<V, S, C> {
         C: Drop,
         requires within { group < length (stage_plan self.old) }
         requires room { length (slice_index_or (stage_plan self.old) group []) < 4 }
-        requires others { OthersDoNotConflict (stage_plan self.old) group (access_of entry) }
-        requires own_lists { IsEntryOf (OwnsItself (lists_of S.reads S.writes C.reads C.writes)) entry }
+        requires others { OthersDoNotConflict (stage_plan self.old) group (entry_access entry) }
+        requires own_lists { IsEntryOf (OwnsItself (lists_of S.System C.BatchController)) entry }
         ensures ok { OnOk result (stage_plan self.new ≡ slice_set (stage_plan self.old) group (slice_index_or (stage_plan self.old) group [] ++ entry_plan entry ∷ [])) }
         ensures err { OnErr result (stage_plan self.new ≡ stage_plan self.old) }
-        ensures added { OnOk result (IsNew (stage_entries self.old) (stage_entries self.new) entry) }
-        ensures unchanged { OnErr result (AreSame (stage_entries self.old) (stage_entries self.new)) }
+        ensures added { OnOk result (IsNew (stage_entry_at self.old) (stage_entry_at self.new) entry) }
+        ensures unchanged { OnErr result (AreSame (stage_entry_at self.old) (stage_entry_at self.new)) }
     {
         self.groups[group].push(entry)
     }
@@ -255,7 +255,7 @@ impl<V: ResourceValue, S: System<V>, C: BatchController<V>> Stage<V, S, C> {
         C: Drop,
         ensures plan { tier_plan result ≡ stage_plan self }
         ensures states { (path : Agent) → tier_states result path ≡ stage_states self path }
-        ensures own { IsTierOf (OwnsItself (lists_of S.reads S.writes C.reads C.writes)) result }
+        ensures own { IsTierOf (OwnsItself (lists_of S.System C.BatchController)) result }
     {
         Tier {
             groups: self.groups,
@@ -270,12 +270,12 @@ impl<
     E: Drop,
 > Stage<V, S, C> {
     ghost use Rattle.shred_run.specs.Dispatched.{Dispatched};
-    ghost use Rattle.shred_stage.specs.Situations.{StageTook, stage_answer, stage_over};
-    ghost use Rattle.shred_world.specs.Worlds.{local_held};
+    ghost use Rattle.shred_stage.specs.Situations.{stage_answer, stage_over};
+    ghost use Rattle.shred_stage.specs.OverWorlds.{StageTookOver};
 
     // The turn of its groups, one after the other, over what a world holds.
     pub(crate) fn turn_in_order(&mut self, world: &mut LocalWorld<V>) -> Result<(), StageFault<E>>
-        ensures { StageTook V.kind_of (relations_of (lists_of S.reads S.writes C.reads C.writes) S.step C.begins C.asks) self.old (local_held V.kind_of world.old) result self.new (local_held V.kind_of world.new) }
+        ensures { StageTookOver self.old world.old result self.new world.new }
     {
         let groups = self.groups.as_mut_slice();
         let twin = twin_of_local(world);
@@ -287,7 +287,7 @@ impl<
     /// Runs every group, one after the other, each up to the first entry that is not Done, on the caller's thread, and so the
     /// groups of inner plans. The answer is that of the first group, in order, that is not Done; it is never `Memory`.
     pub fn execute_seq(&mut self, world: &mut World<V>) -> Result<(), StageFault<E>>
-        ensures { Dispatched V.kind_of (relations_of (lists_of S.reads S.writes C.reads C.writes) S.step C.begins C.asks) stage_answer (stage_over V.kind_of self.old world.old) result (stage_over V.kind_of self.new world.new) }
+        ensures { Dispatched V.kind_of (steps_of S.System C.BatchController) stage_answer (stage_over V.kind_of self.old world.old) result (stage_over V.kind_of self.new world.new) }
     {
         self.turn_in_order(world.local())
     }
@@ -304,8 +304,8 @@ where
     C::Accessor: Send,
 {
     ghost use Rattle.shred_run.specs.Dispatched.{Dispatched};
-    ghost use Rattle.shred_stage.specs.Situations.{StageTook, stage_answer, stage_over};
-    ghost use Rattle.shred_world.specs.Worlds.{local_held};
+    ghost use Rattle.shred_stage.specs.Situations.{stage_answer, stage_over};
+    ghost use Rattle.shred_stage.specs.OverWorlds.{StageTookOver};
 
     // The turn of its groups, beside each other on threads, over what a world holds.
     pub(crate) fn turn_beside<R: Threads + Sync>(
@@ -314,7 +314,7 @@ where
         world: &mut LocalWorld<V>,
         workers: usize,
     ) -> Result<(), StageFault<E>>
-        ensures { StageTook V.kind_of (relations_of (lists_of S.reads S.writes C.reads C.writes) S.step C.begins C.asks) self.old (local_held V.kind_of world.old) result self.new (local_held V.kind_of world.new) }
+        ensures { StageTookOver self.old world.old result self.new world.new }
     {
         let groups = self.groups.as_mut_slice();
         let twin = twin_of_local(world);
@@ -334,7 +334,7 @@ where
         world: &mut World<V>,
         workers: usize,
     ) -> Result<(), StageFault<E>>
-        ensures { Dispatched V.kind_of (relations_of (lists_of S.reads S.writes C.reads C.writes) S.step C.begins C.asks) stage_answer (stage_over V.kind_of self.old world.old) result (stage_over V.kind_of self.new world.new) }
+        ensures { Dispatched V.kind_of (steps_of S.System C.BatchController) stage_answer (stage_over V.kind_of self.old world.old) result (stage_over V.kind_of self.new world.new) }
     {
         self.turn_beside(rt, world.local(), workers)
     }
@@ -346,8 +346,7 @@ impl<
     C: BatchController<V, Error = E> + Drop,
     E: Drop,
 > Stage<V, S, C> {
-    ghost use Rattle.shred_stage.specs.Situations.{StageTook};
-    ghost use Rattle.shred_world.specs.Worlds.{local_held};
+    ghost use Rattle.shred_stage.specs.OverWorlds.{StageTookOver};
 
     // The turn of its groups, beside each other on workers that are kept, over what a world holds.
     pub(crate) fn turn_kept<R: Threads + Wait>(
@@ -355,7 +354,7 @@ impl<
         crew: &mut StageCrew<R, V, S, C>,
         world: &mut LocalWorld<V>,
     ) -> Result<(), StageFault<E>>
-        ensures { StageTook V.kind_of (relations_of (lists_of S.reads S.writes C.reads C.writes) S.step C.begins C.asks) self.old (local_held V.kind_of world.old) result self.new (local_held V.kind_of world.new) }
+        ensures { StageTookOver self.old world.old result self.new world.new }
     {
         let twin = twin_of_local(world);
         let answer = turn_kept(crew, &mut self.groups, &mut twin.table);
@@ -370,18 +369,14 @@ impl<
     C: BatchController<V, Error = E> + Drop,
     E: Drop,
 > Stage<V, S, C> {
-    ghost use Rattle.shred_run.specs.Depths.{lists_of};
-    ghost use Rattle.shred_run.specs.EntrySetups.{stage_fault};
-    ghost use Rattle.shred_run.specs.PlanSetups.{DisposedOf, SetUp};
-    ghost use Rattle.shred_run.specs.WorkSetups.{setups_of};
     ghost use Rattle.shred_stage.specs.Situations.{stage_over};
     ghost use Rattle.shred_stage.specs.StagePlan.{stage_plan};
-    ghost use Rattle.shred_world.specs.Worlds.{world_held};
+    ghost use Rattle.shred_stage.specs.OverWorlds.{StageSetUp, StageDisposed};
 
     /// Sets up what stands in the entries, in the plan's order, up to the first that is not Done, which the answer tells. What
     /// was done before it stays.
     pub fn setup(&mut self, world: &mut World<V>) -> Result<(), StageFault<E>>
-        ensures set_up { SetUp (setups_of (lists_of S.reads S.writes C.reads C.writes) S.sets_up C.sets_up) stage_fault (stage_over V.kind_of self.old world.old) result (stage_over V.kind_of self.new world.new) }
+        ensures set_up { StageSetUp self.old world.old result self.new world.new }
         ensures plan { stage_plan self.new ≡ stage_plan self.old }
     {
         set_up_groups(None, self.groups.as_mut_slice(), world)
@@ -390,7 +385,7 @@ impl<
     /// Disposes of all that stands in the entries, in the plan's order, also of what stands after one that is not Done. The
     /// answer tells the first that is not Done.
     pub fn dispose(self, world: &mut World<V>) -> Result<(), StageFault<E>>
-        ensures { DisposedOf S.disposes stage_fault (stage_over V.kind_of self world.old) result (world_held V.kind_of world.new) }
+        ensures { StageDisposed self world.old result world.new }
     {
         dispose_of_groups(None, self.groups, world)
     }

@@ -1,22 +1,21 @@
 //! The planner: it gives each new system a place in the plan.
-ghost use Rattle.std.specs.Prelude.{◌≡◌, ◌↔◌, ◌<◌, ◌≤◌, length, [], ◌∷◌, ◌++◌, AllPairs, Contains, IfOk, OnOk, OnErr};
+ghost use Rattle.std.specs.Prelude.{◌≡◌, ◌↔◌, ◌<◌, ◌≤◌, length, [], ◌∷◌, ◌++◌, AllPairs, IfOk, OnOk, OnErr};
 ghost use Rattle.std.specs.List.{flat_map};
 ghost use Rattle.shred_table.specs.Id.{IsBefore};
 ghost use Rattle.shred_table.specs.declared.id.ResourceId.{ResourceId};
 ghost use Rattle.shred_model.specs.Plan as model;
 ghost use Rattle.shred_model.specs.Plan.{plan_ids};
 ghost use Rattle.shred_stage.specs.Earlier.{AllBeforeBarrier};
-ghost use Rattle.shred_run.specs.Kept.{IsKept};
+ghost use Rattle.shred_run.specs.Kept.{IsKept, HaveSameIds};
 ghost use Rattle.shred_stage.specs.Names.{first_unnamed, named_ids};
-ghost use Rattle.shred_stage.specs.Placement.{IsPlaced};
 ghost use Rattle.shred_stage.specs.SearchStart.{IsOrderedStart, IsSearchStart};
 ghost use Rattle.shred_stage.specs.declared.dispatch.rule.Rule.TheVariants.{First};
 ghost use Rattle.shred_stage.specs.Printed.{plan_text};
-ghost use Rattle.shred_stage.specs.Prints.{IsPrinted};
+ghost use Rattle.shred_stage.specs.Prints.{PrintsPlan};
 ghost use Rattle.shred_run.specs.Depths.{lists_of};
 ghost use Rattle.shred_run.specs.OwnDepth.{OwnsItself};
 ghost use Rattle.shred_run.specs.OwnLists.{IsEntryOf};
-ghost use Rattle.shred_run.specs.PlanOf.{access_of, entry_plan, numbers_of};
+ghost use Rattle.shred_run.specs.PlanOf.{entry_access, entry_plan, numbers_of};
 ghost use Rattle.shred_stage.specs.Search.{PlaceIs};
 ghost use Rattle.shred_run.specs.Sides.{stage_side, plan_reads, plan_writes};
 ghost use Rattle.shred_stage.specs.StagePlan.{plan_of};
@@ -51,7 +50,7 @@ pub struct StagesBuilder<
 impl<V: ResourceValue, S: System<V>, C: BatchController<V>> StagesBuilder<V, S, C> {
     ghost use Rattle.shred_model.specs.Record.{Agent};
     ghost use Rattle.shred_stage.specs.Added.{AreSame, IsNew};
-    ghost use Rattle.shred_stage.specs.BuilderPlan.{planned, barrier_of, rule_of, builder_states};
+    ghost use Rattle.shred_stage.specs.BuilderPlan.{planned, barrier_of, rule_of, builder_states, PlacesEntry};
     ghost use Rattle.shred_stage.specs.EntriesAt.{builder_entries};
     ghost use Rattle.shred_stage.specs.Plans.{plan_states};
 
@@ -132,7 +131,7 @@ impl<V: ResourceValue, S: System<V>, C: BatchController<V>> StagesBuilder<V, S, 
     /// The ids that the systems read, in order, each once. `OutOfMemory` where memory is refused.
     pub fn fetch_all_reads(&self) -> Result<Vec<ResourceId>, OutOfMemory>
         ensures in_order { IfOk result (λ ids. AllPairs IsBefore ids.items) }
-        ensures same { IfOk result (λ ids. (i : ResourceId) → Contains ids.items i ↔ Contains (plan_reads (planned self.now)) i) }
+        ensures same { IfOk result (λ ids. HaveSameIds ids.items (plan_reads (planned self.now))) }
     {
         self.fetch_all(Side::Reads)
     }
@@ -140,7 +139,7 @@ impl<V: ResourceValue, S: System<V>, C: BatchController<V>> StagesBuilder<V, S, 
     /// The ids that the systems write, in order, each once. `OutOfMemory` where memory is refused.
     pub fn fetch_all_writes(&self) -> Result<Vec<ResourceId>, OutOfMemory>
         ensures in_order { IfOk result (λ ids. AllPairs IsBefore ids.items) }
-        ensures same { IfOk result (λ ids. (i : ResourceId) → Contains ids.items i ↔ Contains (plan_writes (planned self.now)) i) }
+        ensures same { IfOk result (λ ids. HaveSameIds ids.items (plan_writes (planned self.now))) }
     {
         self.fetch_all(Side::Writes)
     }
@@ -154,7 +153,7 @@ impl<V: ResourceValue, S: System<V>, C: BatchController<V>> StagesBuilder<V, S, 
         names: &HashMap<String, SystemId>,
     ) -> Result<(), PrintError>
         ensures { let pairs = named_ids names.now in
-            IsPrinted W.told W.failures sink.old sink.new (first_unnamed pairs (plan_ids (planned self.now))) (plan_text pairs (planned self.now)) result }
+            PrintsPlan W.told W.failures sink.old sink.new (first_unnamed pairs (plan_ids (planned self.now))) (plan_text pairs (planned self.now)) result }
     {
         print(sink, names, &self.stages, b"")
     }
@@ -162,7 +161,7 @@ impl<V: ResourceValue, S: System<V>, C: BatchController<V>> StagesBuilder<V, S, 
     /// The ids of one side of all systems' accesses, in order, each once.
     fn fetch_all(&self, side: Side) -> Result<Vec<ResourceId>, OutOfMemory>
         ensures in_order { IfOk result (λ ids. AllPairs IsBefore ids.items) }
-        ensures same { IfOk result (λ ids. (i : ResourceId) → Contains ids.items i ↔ Contains (flat_map (stage_side side) (planned self.now)) i) }
+        ensures same { IfOk result (λ ids. HaveSameIds ids.items (flat_map (stage_side side) (planned self.now))) }
     {
         let mut ids = Vec::new(*self.stages.allocator());
         match self.append_to(side, &mut ids) {
@@ -196,8 +195,8 @@ impl<V: ResourceValue, S: System<V>, C: BatchController<V>> StagesBuilder<V, S, 
         S: Drop,
         C: Drop,
         requires start { barrier_of self.old ≤ start }
-        requires own_lists { IsEntryOf (OwnsItself (lists_of S.reads S.writes C.reads C.writes)) entry }
-        ensures placed { OnOk result (IsPlaced (planned self.old) (barrier_of self.old) start (numbers_of dependencies.now) (entry_plan entry) (planned self.new)) }
+        requires own_lists { IsEntryOf (OwnsItself (lists_of S.System C.BatchController)) entry }
+        ensures placed { OnOk result (PlacesEntry self.old self.new start (numbers_of dependencies.now) (entry_plan entry)) }
         ensures err { OnErr result (planned self.new ≡ planned self.old) }
         ensures added { OnOk result (IsNew (builder_entries self.old) (builder_entries self.new) entry) }
         ensures unchanged { OnErr result (AreSame (builder_entries self.old) (builder_entries self.new)) }
@@ -222,7 +221,7 @@ impl<V: ResourceValue, S: System<V>, C: BatchController<V>> StagesBuilder<V, S, 
         V: Drop,
         S: Drop,
         C: Drop,
-        requires own_lists { IsEntryOf (OwnsItself (lists_of S.reads S.writes C.reads C.writes)) entry }
+        requires own_lists { IsEntryOf (OwnsItself (lists_of S.System C.BatchController)) entry }
         ensures ok { OnOk result (planned self.new ≡ planned self.old ++ ((entry_plan entry ∷ []) ∷ []) ∷ []) }
         ensures err { OnErr result (planned self.new ≡ planned self.old) }
         ensures added { OnOk result (IsNew (builder_entries self.old) (builder_entries self.new) entry) }
@@ -239,7 +238,7 @@ impl<V: ResourceValue, S: System<V>, C: BatchController<V>> StagesBuilder<V, S, 
 
     /// Where the search for a stage that takes the entry begins.
     fn search_start(&self, entry: &GroupEntry<V, Work<S, Nested<V, S, C>>>) -> usize
-        ensures { IsSearchStart (rule_of self.now) (planned self.now) (barrier_of self.now) (access_of entry.now) result }
+        ensures { IsSearchStart (rule_of self.now) (planned self.now) (barrier_of self.now) (entry_access entry.now) result }
     {
         match self.rule {
             Rule::First => self.barrier,
@@ -249,7 +248,7 @@ impl<V: ResourceValue, S: System<V>, C: BatchController<V>> StagesBuilder<V, S, 
 
     /// The last stage from the barrier on with a group that conflicts with the entry, or the barrier.
     fn ordered_start(&self, entry: &GroupEntry<V, Work<S, Nested<V, S, C>>>) -> usize
-        ensures { IsOrderedStart (planned self.now) (barrier_of self.now) (access_of entry.now) result }
+        ensures { IsOrderedStart (planned self.now) (barrier_of self.now) (entry_access entry.now) result }
     {
         let mut start = self.barrier;
         for stage in self.barrier..self.stages.len() {
@@ -288,8 +287,9 @@ impl<V: ResourceValue + Drop, S: System<V> + Drop, C: BatchController<V> + Drop>
     S,
     C,
 > {
+    ghost use Rattle.shred_stage.specs.Added.{AreSame};
     ghost use Rattle.shred_run.specs.declared.work.Work.TheVariants.{System as ASystem};
-    ghost use Rattle.shred_stage.specs.BuilderPlan.{planned, barrier_of, rule_of, builder_states};
+    ghost use Rattle.shred_stage.specs.BuilderPlan.{planned, barrier_of, rule_of, builder_states, InsertsEntry};
     ghost use Rattle.shred_stage.specs.Inserted.{IsInserted};
     ghost use Rattle.shred_model.specs.Record.{Agent};
 
@@ -299,10 +299,10 @@ impl<V: ResourceValue + Drop, S: System<V> + Drop, C: BatchController<V> + Drop>
         dependencies: &[SystemId],
         entry: GroupEntry<V, Work<S, Nested<V, S, C>>>,
     ) -> Result<(), OutOfMemory>
-        requires own_lists { IsEntryOf (OwnsItself (lists_of S.reads S.writes C.reads C.writes)) entry }
-        ensures inserted { OnOk result (IsInserted (rule_of self.old) (planned self.old) (planned self.new) (builder_states self.old) (builder_states self.new) (barrier_of self.old) (numbers_of dependencies.now) (entry_plan entry) entry.work) }
+        requires own_lists { IsEntryOf (OwnsItself (lists_of S.System C.BatchController)) entry }
+        ensures inserted { OnOk result (InsertsEntry self.old self.new (numbers_of dependencies.now) (entry_plan entry) entry.work) }
         ensures err { OnErr result (planned self.new ≡ planned self.old) }
-        ensures states { OnErr result ((path : Agent) → builder_states self.new path ≡ builder_states self.old path) }
+        ensures states { OnErr result (AreSame (builder_states self.old) (builder_states self.new)) }
         ensures barrier { barrier_of self.new ≡ barrier_of self.old }
         ensures rule { rule_of self.new ≡ rule_of self.old }
     {
@@ -322,7 +322,7 @@ impl<V: ResourceValue + Drop, S: System<V> + Drop, C: BatchController<V> + Drop>
         ensures placed { OnOk result ((entry : model.PlanEntry ResourceId) × IsKept id.0 (S.reads system) (S.writes system) (S.time system) entry
             × IsInserted (rule_of self.old) (planned self.old) (planned self.new) (builder_states self.old) (builder_states self.new) (barrier_of self.old) (numbers_of dependencies.now) entry (ASystem system)) }
         ensures err { OnErr result (planned self.new ≡ planned self.old) }
-        ensures states { OnErr result ((path : Agent) → builder_states self.new path ≡ builder_states self.old path) }
+        ensures states { OnErr result (AreSame (builder_states self.old) (builder_states self.new)) }
         ensures barrier { barrier_of self.new ≡ barrier_of self.old }
         ensures rule { rule_of self.new ≡ rule_of self.old }
     {

@@ -1,11 +1,11 @@
 //! Bundles: resources that are taken of a view together, and given back.
 ghost use Rattle.std.specs.Prelude.{◌≡◌, false, List, Option, IfOk, IfErr, OnOk, OnErr, None};
 ghost use Rattle.shred_table.specs.declared.id.ResourceId.{ResourceId};
-ghost use Rattle.shred_world.specs.Bundles.{Part, IsRefused, bundle_refusal, shown_parts, moved_parts, after_parts, ids_of, AreOut, Setup};
+ghost use Rattle.shred_world.specs.Bundles.{Part, IsRefused, bundle_refusal, ids_of, AreOut, Setup, parts_shown, parts_moved, LacksParts, HasBack};
 ghost use Rattle.shred_world.specs.Grants.{Moved, grant_of, given_back};
 ghost use Rattle.shred_table.specs.Accessors.{batch_reads, batch_writes};
 ghost use Rattle.shred_table.specs.Slots.{among};
-ghost use Rattle.shred_world.specs.Views.{is_out, table_of, IsSameLoan};
+ghost use Rattle.shred_world.specs.Views.{is_out, table_name, IsSameLoan};
 ghost use Rattle.shred_world.specs.Worlds.{world_held};
 
 use crate::world::view::{DataError, View};
@@ -51,18 +51,18 @@ pub trait SystemData<'s, V: ResourceValue> {
     fn fetch(view: &mut View<'s, '_, V>) -> Result<Self, DataError>
         ensures refused { IfErr result (IsRefused (grant_of V.kind_of view.old) parts) }
         ensures passed { OnOk result (bundle_refusal (grant_of V.kind_of view.old) parts ≡ None) }
-        ensures shown { IfOk result (λ bundle. shows bundle ≡ shown_parts (grant_of V.kind_of view.old) parts) }
-        ensures moved { IfOk result (λ bundle. moved bundle ≡ moved_parts (grant_of V.kind_of view.old) parts) }
-        ensures taken { OnOk result (grant_of V.kind_of view.new ≡ after_parts (grant_of V.kind_of view.old) parts) }
+        ensures shown { IfOk result (λ bundle. shows bundle ≡ parts_shown V.kind_of view.old parts) }
+        ensures moved { IfOk result (λ bundle. moved bundle ≡ parts_moved V.kind_of view.old parts) }
+        ensures taken { OnOk result (LacksParts V.kind_of view.old parts view.new) }
         ensures unchanged { OnErr result (grant_of V.kind_of view.new ≡ grant_of V.kind_of view.old) }
-        ensures table { table_of view.new ≡ table_of view.old }
+        ensures table { table_name view.new ≡ table_name view.old }
         ensures loan { IsSameLoan view.old view.new };
 
     /// Gives back what was taken, with the values as they are now. It takes no memory.
     fn give_back(self, view: &mut View<'s, '_, V>)
         requires out { AreOut (is_out view.old) (ids_of (moved self)) }
-        ensures returned { grant_of V.kind_of view.new ≡ given_back (grant_of V.kind_of view.old) (moved self) }
-        ensures table { table_of view.new ≡ table_of view.old }
+        ensures returned { HasBack V.kind_of view.old (moved self) view.new }
+        ensures table { table_name view.new ≡ table_name view.old }
         ensures loan { IsSameLoan view.old view.new };
 
     /// The ids that are read.
@@ -92,13 +92,13 @@ impl<'s, 'a, V: ResourceValue> View<'s, 'a, V> {
     pub fn system_data<D: SystemData<'s, V>>(&mut self) -> Result<D, DataError>
         ensures refused { IfErr result (IsRefused (grant_of V.kind_of self.old) D.parts) }
         ensures passed { OnOk result (bundle_refusal (grant_of V.kind_of self.old) D.parts ≡ None) }
-        ensures shown { IfOk result (λ bundle. D.shows bundle ≡ shown_parts (grant_of V.kind_of self.old) D.parts) }
-        ensures moved { IfOk result (λ bundle. D.moved bundle ≡ moved_parts (grant_of V.kind_of self.old) D.parts) }
-        ensures taken { OnOk result (grant_of V.kind_of self.new ≡ after_parts (grant_of V.kind_of self.old) D.parts) }
+        ensures shown { IfOk result (λ bundle. D.shows bundle ≡ parts_shown V.kind_of self.old D.parts) }
+        ensures moved { IfOk result (λ bundle. D.moved bundle ≡ parts_moved V.kind_of self.old D.parts) }
+        ensures taken { OnOk result (LacksParts V.kind_of self.old D.parts self.new) }
         ensures out { IfOk result (λ bundle. AreOut (is_out self.new) (ids_of (D.moved bundle))) }
         ensures undone { IfOk result (λ bundle. given_back (grant_of V.kind_of self.new) (D.moved bundle) ≡ grant_of V.kind_of self.old) }
         ensures unchanged { OnErr result (grant_of V.kind_of self.new ≡ grant_of V.kind_of self.old) }
-        ensures table { table_of self.new ≡ table_of self.old }
+        ensures table { table_name self.new ≡ table_name self.old }
         ensures loan { IsSameLoan self.old self.new }
     {
         D::fetch(self)
@@ -108,9 +108,9 @@ impl<'s, 'a, V: ResourceValue> View<'s, 'a, V> {
     /// takes no memory, and cannot fail.
     pub fn give_back<D: SystemData<'s, V>>(&mut self, bundle: D)
         requires out { AreOut (is_out self.old) (ids_of (D.moved bundle)) }
-        ensures returned { grant_of V.kind_of self.new ≡ given_back (grant_of V.kind_of self.old) (D.moved bundle) }
+        ensures returned { HasBack V.kind_of self.old (D.moved bundle) self.new }
         ensures nothing_out { ((id : ResourceId) → is_out self.old id ≡ among (ids_of (D.moved bundle)) id) → (id : ResourceId) → is_out self.new id ≡ false }
-        ensures table { table_of self.new ≡ table_of self.old }
+        ensures table { table_name self.new ≡ table_name self.old }
         ensures loan { IsSameLoan self.old self.new }
     {
         bundle.give_back(self)

@@ -1,9 +1,9 @@
 //! Bundles whose parts may follow from lists that are given when the program runs.
 ghost use Rattle.std.specs.Prelude.{◌≡◌, List, Option, IfOk, IfErr, OnOk, OnErr, None};
-ghost use Rattle.shred_world.specs.Bundles.{Part, IsRefused, bundle_refusal, shown_parts, moved_parts, after_parts, ids_of, AreOut, Setup};
-ghost use Rattle.shred_world.specs.Grants.{Moved, grant_of, given_back};
-ghost use Rattle.shred_world.specs.Views.{is_out, table_of, IsSameLoan};
-ghost use Rattle.shred_world.specs.Worlds.{world_held};
+ghost use Rattle.shred_world.specs.Bundles.{Part, IsRefused, bundle_refusal, ids_of, AreOut, Setup, parts_shown, parts_moved, LacksParts, HasBack};
+ghost use Rattle.shred_world.specs.Grants.{Moved, grant_of};
+ghost use Rattle.shred_world.specs.Views.{is_out, table_name, IsSameLoan};
+ghost use Rattle.shred_world.specs.Between.{LeavesWorld};
 
 use crate::world::bundle::SystemData;
 use crate::world::view::{DataError, View};
@@ -25,25 +25,25 @@ pub trait DynamicSystemData<'s, V: ResourceValue> {
 
     /// Sets the world up for the bundle.
     fn setup(accessor: &Self::Accessor, world: &mut World<V>) -> Result<(), WorldError>
-        ensures { sets_up accessor.now (world_held V.kind_of world.old) result (world_held V.kind_of world.new) };
+        ensures { LeavesWorld V.kind_of (sets_up accessor.now) world.old result world.new };
 
     /// Takes the parts, one after the other, up to the first that is refused; then the view is as before.
     fn fetch(accessor: &Self::Accessor, view: &mut View<'s, '_, V>) -> Result<Self, DataError>
         ensures refused { IfErr result (IsRefused (grant_of V.kind_of view.old) (parts accessor.now)) }
         ensures passed { OnOk result (bundle_refusal (grant_of V.kind_of view.old) (parts accessor.now) ≡ None) }
-        ensures shown { IfOk result (λ bundle. shows bundle ≡ shown_parts (grant_of V.kind_of view.old) (parts accessor.now)) }
-        ensures moved { IfOk result (λ bundle. moved bundle ≡ moved_parts (grant_of V.kind_of view.old) (parts accessor.now)) }
-        ensures taken { OnOk result (grant_of V.kind_of view.new ≡ after_parts (grant_of V.kind_of view.old) (parts accessor.now)) }
+        ensures shown { IfOk result (λ bundle. shows bundle ≡ parts_shown V.kind_of view.old (parts accessor.now)) }
+        ensures moved { IfOk result (λ bundle. moved bundle ≡ parts_moved V.kind_of view.old (parts accessor.now)) }
+        ensures taken { OnOk result (LacksParts V.kind_of view.old (parts accessor.now) view.new) }
         ensures out { IfOk result (λ bundle. AreOut (is_out view.new) (ids_of (moved bundle))) }
         ensures unchanged { OnErr result (grant_of V.kind_of view.new ≡ grant_of V.kind_of view.old) }
-        ensures table { table_of view.new ≡ table_of view.old }
+        ensures table { table_name view.new ≡ table_name view.old }
         ensures loan { IsSameLoan view.old view.new };
 
     /// Gives back what was taken, with the values as they are now. It takes no memory.
     fn give_back(self, view: &mut View<'s, '_, V>)
         requires out { AreOut (is_out view.old) (ids_of (moved self)) }
-        ensures returned { grant_of V.kind_of view.new ≡ given_back (grant_of V.kind_of view.old) (moved self) }
-        ensures table { table_of view.new ≡ table_of view.old }
+        ensures returned { HasBack V.kind_of view.old (moved self) view.new }
+        ensures table { table_name view.new ≡ table_name view.old }
         ensures loan { IsSameLoan view.old view.new };
 }
 

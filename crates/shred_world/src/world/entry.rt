@@ -1,6 +1,8 @@
 //! The place of one resource in a world, which may be filled.
 ghost use Rattle.std.specs.Prelude.{◌≡◌, None, IfOk, IfErr};
 ghost use Rattle.std.specs.Borrow.{sem};
+ghost use Rattle.shred_world.specs.Refusals.{IsWithoutRoom};
+ghost use Rattle.shred_world.specs.Entries.{entry_held};
 
 use crate::world::fetch::FetchMut;
 use crate::world::{World, WorldError};
@@ -37,8 +39,8 @@ impl<'a, V: ResourceValue, R: Resource<V>> Entry<'a, V, R> {
     where
         V: Drop,
         R: Drop,
-        ensures shown { IfOk result (λ r. IsKeptOrMade R.wrapped (world_held V.kind_of (entry_world self.entry) (id_of R.KIND 0)) (λ made. made ≡ resource) r.now) }
-        ensures out_of_memory { IfErr result (λ e. (e ≡ WorldError.OutOfMemory) × (world_held V.kind_of (entry_world self.entry) (id_of R.KIND 0) ≡ None)) }
+        ensures shown { IfOk result (λ r. IsKeptOrMade R.wrapped (entry_held V.kind_of R.KIND self.entry) (λ made. made ≡ resource) r.now) }
+        ensures out_of_memory { IfErr result (IsWithoutRoom (entry_held V.kind_of R.KIND self.entry)) }
         ensures* written { sem 𝓛 (LendsEntry V.row R.row V.kind_of R.wrapped self.entry (id_of R.KIND 0) result) }
     {
         self.or_insert_with(move || resource)
@@ -51,8 +53,8 @@ impl<'a, V: ResourceValue, R: Resource<V>> Entry<'a, V, R> {
         V: Drop,
         F: Drop,
         requires callable { world_held V.kind_of (entry_world self) (id_of R.KIND 0) ≡ None → F.pre make }
-        ensures shown { IfOk result (λ r. IsKeptOrMade R.wrapped (world_held V.kind_of (entry_world self.entry) (id_of R.KIND 0)) (F.post make) r.now) }
-        ensures out_of_memory { IfErr result (λ e. (e ≡ WorldError.OutOfMemory) × (world_held V.kind_of (entry_world self.entry) (id_of R.KIND 0) ≡ None)) }
+        ensures shown { IfOk result (λ r. IsKeptOrMade R.wrapped (entry_held V.kind_of R.KIND self.entry) (F.post make) r.now) }
+        ensures out_of_memory { IfErr result (IsWithoutRoom (entry_held V.kind_of R.KIND self.entry)) }
         ensures* written { sem 𝓛 (LendsEntry V.row R.row V.kind_of R.wrapped self.entry (id_of R.KIND 0) result) }
     {
         let Entry { world, resource: _ } = self;

@@ -1,14 +1,12 @@
 //! Bundles of worlds and views: their setup, and calls with them.
-ghost use Rattle.std.specs.Prelude.{◌≡◌, List, Option, Ok};
-ghost use Rattle.shred_world.specs.Executed.{IsCalled, IsHeldAfter, IsExecuted, MayCall, KeepsIds};
+ghost use Rattle.std.specs.Prelude.{◌≡◌, Ok};
+ghost use Rattle.shred_world.specs.Executed.{MayCall, KeepsIds, MayCallAfter, KeepsIdsAfter, IsCalledOver, IsCalledOnTable, IsExecutedOver, MayCallOnTable};
 ghost use Rattle.shred_world.specs.Grants.{grant_of, map_grant};
-ghost use Rattle.shred_world.specs.KeptViews.{KeepsView};
-ghost use Rattle.shred_world.specs.OwnViews.{IsLent};
+ghost use Rattle.shred_world.specs.KeptViews.{KeepsViewIfLent};
 ghost use Rattle.shred_table.specs.Shown.{IsSameSlots};
 ghost use Rattle.shred_table.specs.Slots.{held};
-ghost use Rattle.shred_world.specs.Views.{table_of, IsSameLoan};
+ghost use Rattle.shred_world.specs.Views.{table_name, IsSameLoan};
 ghost use Rattle.shred_world.specs.Worlds.{world_held};
-ghost use Rattle.shred_table.specs.declared.id.ResourceId.{ResourceId};
 
 use crate::world::bundle::SystemData;
 use crate::world::view::{DataError, View};
@@ -36,9 +34,9 @@ impl<V: ResourceValue> World<V> {
     where
         V: Drop + 's,
         F: Drop,
-        requires callable { (middle : ResourceId → Option V) → D.sets_up (world_held V.kind_of self.old) (Ok tt) middle → MayCall F.FnOnce run D.shows D.moved (map_grant middle) D.parts }
-        requires kept { (middle : ResourceId → Option V) → D.sets_up (world_held V.kind_of self.old) (Ok tt) middle → KeepsIds F.FnOnce run D.shows D.moved (map_grant middle) D.parts }
-        ensures { IsExecuted D.sets_up F.FnOnce run D.shows D.moved D.parts (world_held V.kind_of self.old) result (world_held V.kind_of self.new) }
+        requires callable { MayCallAfter V.kind_of F.FnOnce run D.SystemData self.old }
+        requires kept { KeepsIdsAfter V.kind_of F.FnOnce run D.SystemData self.old }
+        ensures { IsExecutedOver V.kind_of F.FnOnce run D.SystemData self.old result self.new }
     {
         if let Err(error) = self.setup::<D>() {
             return Err(DataError::from(error));
@@ -55,9 +53,9 @@ fn call_with<'s, V: ResourceValue + 's, D: SystemData<'s, V>, A, F: FnOnce(&mut 
 ) -> Result<A, DataError>
 where
     F: Drop,
-    requires callable { MayCall F.FnOnce run D.shows D.moved (map_grant (held V.kind_of own.old)) D.parts }
+    requires callable { MayCallOnTable V.kind_of F.FnOnce run D.SystemData own.old }
     requires kept { KeepsIds F.FnOnce run D.shows D.moved (map_grant (held V.kind_of own.old)) D.parts }
-    ensures called { IsHeldAfter F.FnOnce run D.shows D.moved D.parts (held V.kind_of own.old) result (held V.kind_of own.new) }
+    ensures called { IsCalledOnTable V.kind_of F.FnOnce run D.SystemData own.old result own.new }
     ensures slots { IsSameSlots own.old own.new }
 {
     let mut view = View::whole(own);
@@ -76,9 +74,9 @@ impl<'s, 'a, V: ResourceValue + 's> View<'s, 'a, V> {
         F: Drop,
         requires callable { MayCall F.FnOnce run D.shows D.moved (grant_of V.kind_of self.old) D.parts }
         requires kept { KeepsIds F.FnOnce run D.shows D.moved (grant_of V.kind_of self.old) D.parts }
-        ensures called { IsCalled F.FnOnce run D.shows D.moved D.parts (grant_of V.kind_of self.old) result (grant_of V.kind_of self.new) }
-        ensures of_a_system { (reads : List ResourceId) → (writes : List ResourceId) → IsLent self.old reads writes → KeepsView V.kind_of self.old self.new }
-        ensures table { table_of self.new ≡ table_of self.old }
+        ensures called { IsCalledOver V.kind_of F.FnOnce run D.SystemData self.old result self.new }
+        ensures of_a_system { KeepsViewIfLent V.kind_of self.old self.new }
+        ensures table { table_name self.new ≡ table_name self.old }
         ensures loan { IsSameLoan self.old self.new }
     {
         let mut bundle = match self.system_data::<D>() {

@@ -2,13 +2,13 @@
 ghost use Rattle.std.specs.Prelude.{◌≡◌, ◌||◌, IsTrue, IsSome, None, cond, OnOk, OnErr, IfOk};
 ghost use Rattle.std.specs.Option.{option_map, option_copied};
 ghost use Rattle.shred_table.specs.declared.id.ResourceId.{ResourceId};
-ghost use Rattle.shred_world.specs.Bundles.{after_moved};
+ghost use Rattle.shred_world.specs.Bundles.{LacksMoved};
 ghost use Rattle.shred_world.specs.Grants.{grant_of, with_back};
-ghost use Rattle.shred_world.specs.Handing.{handed, moved_out, moved_value};
+ghost use Rattle.shred_world.specs.Handing.{moved_out, moved_value, shared_value, ShowsHanded, HasMovedOut};
 ghost use Rattle.shred_table.specs.Id.{id_kind, same_id};
-ghost use Rattle.shred_table.specs.Parting.{emptied};
-ghost use Rattle.shred_table.specs.Slots.{slot_at, with_at, held};
-ghost use Rattle.shred_world.specs.Views.{view_held, is_out, is_own, noted, table_in, table_of, HasSameLists, IsSameLoan};
+ghost use Rattle.shred_table.specs.Slots.{slot_at, held};
+ghost use Rattle.shred_world.specs.Views.{view_held, is_out, is_own, noted, table_in, table_name, HasSameLists, IsSameLoan};
+ghost use Rattle.shred_table.specs.Changes.{Empties};
 
 use crate::world::view::View;
 use shred_table::accessor::OutOfMemory;
@@ -30,8 +30,8 @@ impl<'s, 'a, V: ResourceValue> View<'s, 'a, V> {
         requires kind { R.KIND ≡ id_kind id }
         requires held { IsSome (held V.kind_of (table_in self.old) id) }
         ensures taken { option_map R.wrapped result ≡ held V.kind_of (table_in self.old) id }
-        ensures own { (q : ResourceId) → slot_at (table_in self.new) q ≡ with_at (slot_at (table_in self.old)) id (emptied (slot_at (table_in self.old) id)) q }
-        ensures name { table_of self.new ≡ table_of self.old }
+        ensures own { Empties slot_at (table_in self.old) id (table_in self.new) }
+        ensures name { table_name self.new ≡ table_name self.old }
         ensures lists { HasSameLists self.old self.new }
         ensures noted { (q : ResourceId) → noted self.new q ≡ noted self.old q }
     {
@@ -54,7 +54,7 @@ impl<'s, 'a, V: ResourceValue> View<'s, 'a, V> {
         V: Drop,
         requires kind { R.KIND ≡ id_kind id }
         ensures taken { IfOk result (λ found. option_map R.wrapped found ≡ moved_value V.kind_of self.old id) }
-        ensures after { OnOk result (grant_of V.kind_of self.new ≡ after_moved (grant_of V.kind_of self.old) id (moved_value V.kind_of self.old id)) }
+        ensures after { OnOk result (LacksMoved V.kind_of self.old id self.new) }
         ensures unchanged { OnErr result (grant_of V.kind_of self.new ≡ grant_of V.kind_of self.old) }
         ensures no_room { OnErr result (IsSome (moved_value V.kind_of self.old id)) }
         ensures loan { IsSameLoan self.old self.new }
@@ -99,7 +99,7 @@ impl<'s, 'a, V: ResourceValue> View<'s, 'a, V> {
     // The resource that is lent shared under an id of its kind.
     fn lend_shared<R: Resource<V>>(&self, id: ResourceId) -> Option<Handed<'s, R>>
         requires kind { R.KIND ≡ id_kind id }
-        ensures shown { option_map (λ h. R.wrapped (handed h)) result ≡ cond (is_own self.now id) None (view_held V.kind_of self.now id) }
+        ensures shown { ShowsHanded R.wrapped (shared_value V.kind_of self.now id) result }
         ensures not_moved { moved_out result ≡ None }
     {
         match R::view(self.shared(id)?) {
@@ -117,9 +117,9 @@ impl<'s, 'a, V: ResourceValue> View<'s, 'a, V> {
     where
         V: Drop,
         requires kind { R.KIND ≡ id_kind id }
-        ensures shown { IfOk result (λ found. option_map (λ h. R.wrapped (handed h)) found ≡ view_held V.kind_of self.old id) }
-        ensures moved { IfOk result (λ found. option_map R.wrapped (moved_out found) ≡ moved_value V.kind_of self.old id) }
-        ensures after { OnOk result (grant_of V.kind_of self.new ≡ after_moved (grant_of V.kind_of self.old) id (moved_value V.kind_of self.old id)) }
+        ensures shown { IfOk result (ShowsHanded R.wrapped (view_held V.kind_of self.old id)) }
+        ensures moved { IfOk result (HasMovedOut R.wrapped (moved_value V.kind_of self.old id)) }
+        ensures after { OnOk result (LacksMoved V.kind_of self.old id self.new) }
         ensures unchanged { OnErr result (grant_of V.kind_of self.new ≡ grant_of V.kind_of self.old) }
         ensures no_room { OnErr result (IsSome (moved_value V.kind_of self.old id)) }
         ensures loan { IsSameLoan self.old self.new }

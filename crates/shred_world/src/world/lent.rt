@@ -9,6 +9,7 @@ ghost use Rattle.shred_table.specs.Shown.{IsSameSlots};
 ghost use Rattle.shred_table.specs.Slots.{held};
 ghost use Rattle.shred_world.specs.Worlds.{world_held};
 ghost use Rattle.shred_world.specs.contracts.world.World.{the_row as world_row};
+ghost use Rattle.shred_world.specs.LentBundles.{IsTakenOn, IsLeftOf, HasAllOut, returned_held};
 
 use crate::world::World;
 use crate::world::bundle::SystemData;
@@ -58,7 +59,7 @@ impl<V: ResourceValue, D> Lent<'_, V, D> {
         D: SystemData<'s, V>,
         V: Drop + 's,
         requires { AreAllOut (lent_grant V.kind_of self).out (ids_of (D.moved (lent_bundle self))) }
-        ensures { world_held V.kind_of self.exit.0.now ≡ (given_back (lent_grant V.kind_of self.entry) (D.moved (lent_bundle self.entry))).held }
+        ensures { world_held V.kind_of self.exit.0.now ≡ returned_held V.kind_of D.moved self.entry }
     {
         let Lent { world, bundle } = self;
         world.local.settle();
@@ -75,9 +76,9 @@ impl<V: ResourceValue> World<V> {
     where
         V: Drop + 's,
         ensures refused { IfErr result (IsRefused (map_grant (world_held V.kind_of self.old)) D.parts) }
-        ensures taken { IfOk result (λ lent. IsTaken D.shows D.moved (map_grant (world_held V.kind_of self.old)) D.parts (lent_bundle lent)) }
-        ensures left { IfOk result (λ lent. lent_grant V.kind_of lent ≡ after_parts (map_grant (world_held V.kind_of self.old)) D.parts) }
-        ensures out { IfOk result (λ lent. AreAllOut (lent_grant V.kind_of lent).out (ids_of (D.moved (lent_bundle lent)))) }
+        ensures taken { IfOk result (IsTakenOn V.kind_of D.shows D.moved D.parts self.old) }
+        ensures left { IfOk result (IsLeftOf V.kind_of D.parts self.old) }
+        ensures out { IfOk result (HasAllOut V.kind_of D.moved) }
         ensures name { IfOk result (λ lent. (lender lent).ghost_name ≡ self.entry.ghost_name) }
         ensures* unchanged { sem 𝓛 (RestsIfErr (world_row V.row) self.entry (λ lent. (lender lent).ghost_name) result (EndsSame V.kind_of self.old)) }
     {

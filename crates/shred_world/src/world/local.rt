@@ -1,5 +1,5 @@
 //! What a world holds, lent to be read and written while the ids stay.
-ghost use Rattle.std.specs.Prelude.{◌≡◌, ◌≢◌, ◌||◌, ◌&&◌, ℕ, false, IsTrue, IfSome, None, Some, Err, OnOk, OnErr, IfOk, IfErr, is_some};
+ghost use Rattle.std.specs.Prelude.{◌≡◌, ◌≢◌, ◌||◌, ◌&&◌, false, IsTrue, IfSome, None, Some, Err, OnOk, OnErr, IfOk, IfErr, is_some};
 ghost use Rattle.std.specs.Borrow.{sem, RestsIfErr};
 ghost use Rattle.std.specs.Option.{option_map, option_copied, option_copied_mut};
 ghost use Rattle.shred_table.specs.declared.id.ResourceId.{ResourceId};
@@ -31,6 +31,7 @@ pub struct LocalWorld<V> {
 impl<V> LocalWorld<V> {
     ghost use Rattle.shred_world.specs.Worlds.{local_slot, twin_of_local};
     ghost use Rattle.shred_world.specs.Lent.{LendsLocalTwin};
+    ghost use Rattle.shred_table.specs.Changes.{Stays};
 
     // Holds nothing.
     pub(crate) fn empty(alloc: Global) -> Self
@@ -50,7 +51,7 @@ impl<V> LocalWorld<V> {
         ensures table { (q : ResourceId) → slot_at (twin_of_local self.new).table q ≡ local_slot self.old q }
         ensures same { (q : ResourceId) → local_slot self.new q ≡ local_slot self.old q }
         ensures settled { IsSettled (twin_of_local self.new) }
-        ensures noted { (q : ResourceId) → noted_in (twin_of_local self.new).table q ≡ noted_in (twin_of_local self.old).table q }
+        ensures noted { Stays noted_in (twin_of_local self.old).table (twin_of_local self.new).table }
     {
         if !self.settled {
             self.twin.settle();
@@ -94,15 +95,17 @@ impl<V> LocalWorld<V> {
 }
 
 impl<V: ResourceValue> LocalWorld<V> {
-    ghost use Rattle.shred_world.specs.Worlds.{local_held};
-    ghost use Rattle.shred_table.specs.Counts.{IsCountOf, IsWithinDigits};
-    ghost use Rattle.shred_table.specs.InOrder.{comes_first};
+    ghost use Rattle.shred_world.specs.Worlds.{local_held, local_first};
     ghost use Rattle.shred_table.specs.Id.{id_of, id_kind};
-    ghost use Rattle.shred_table.specs.Slots.{with_at, among};
+    ghost use Rattle.shred_table.specs.Slots.{among};
     ghost use Rattle.shred_world.specs.Views.{view_held};
     ghost use Rattle.shred_world.specs.Lending.{IsOverLocal};
-    ghost use Rattle.shred_world.specs.Lent.{LendsLocalWorld, LendsLocalGot, LendsLocalGotOk, LendsLocalValue};
+    ghost use Rattle.shred_world.specs.Lent.{LendsLocalWorld, LendsLocalGot, LendsLocalGotOk, LendsLocalValue, HoldsSame};
     ghost use Rattle.shred_world.specs.OwnViews.{IsLent};
+    ghost use Rattle.shred_world.specs.Fetched.{IsFetched, IsFoundIn, IsLentFrom};
+    ghost use Rattle.shred_table.specs.Changes.{Stays, Puts};
+    ghost use Rattle.shred_table.specs.Counts.{IsCountBefore, IsWithinDigitsOf};
+    ghost use Rattle.shred_world.specs.Refusals.{IsWrongKind, IsMissingFrom, IsNotReplaced, misplaced, mistaken};
 
     /// The allocator that the world was made with.
     pub fn allocator(&self) -> Global {
@@ -130,8 +133,8 @@ impl<V: ResourceValue> LocalWorld<V> {
     // How many held ids come before this one, where it is held.
     pub(crate) fn slot_of(&self, id: ResourceId, steps: &mut Steps) -> Option<usize>
         ensures held { is_some result ≡ is_some (local_held V.kind_of self.now id) }
-        ensures slot { IfSome result (IsCountOf (λ q. is_some (local_held V.kind_of self.now q) && comes_first q id)) }
-        ensures steps { (count : ℕ) × IsCountOf (λ q. is_some (local_held V.kind_of self.now q)) count × IsWithinDigits count steps.old.count steps.new.count }
+        ensures slot { IfSome result (IsCountBefore (local_held V.kind_of self.now) id) }
+        ensures steps { IsWithinDigitsOf (local_held V.kind_of self.now) steps.old.count steps.new.count }
     {
         self.twin.slot_of(self.settled, id, steps)
     }
@@ -146,10 +149,10 @@ impl<V: ResourceValue> LocalWorld<V> {
     /// Puts the value in the place of the one that is held under the id, as `World::replace_raw` does.
     pub fn replace_raw(&mut self, id: ResourceId, value: V) -> Result<V, ReplaceError<V>>
         ensures ok { IfOk result (λ old. (V.kind_of value ≡ id_kind id) × (local_held V.kind_of self.old id ≡ Some old)) }
-        ensures replaced { OnOk result ((q : ResourceId) → local_held V.kind_of self.new q ≡ with_at (local_held V.kind_of self.old) id (Some value) q) }
-        ensures err { OnErr result ((q : ResourceId) → local_held V.kind_of self.new q ≡ local_held V.kind_of self.old q) }
-        ensures wrong_kind { (V.kind_of value ≢ id_kind id) → result ≡ Err (ReplaceError.WrongKind (V.kind_of value) (id_kind id) value) }
-        ensures missing { (V.kind_of value ≡ id_kind id) → IfErr result (λ e. (e ≡ ReplaceError.Missing id value) × (local_held V.kind_of self.old id ≡ None)) }
+        ensures replaced { OnOk result (Puts (local_held V.kind_of) self.old id (Some value) self.new) }
+        ensures err { OnErr result (Stays (local_held V.kind_of) self.old self.new) }
+        ensures wrong_kind { (V.kind_of value ≢ id_kind id) → result ≡ Err (misplaced V.kind_of id value) }
+        ensures missing { (V.kind_of value ≡ id_kind id) → IfErr result (IsNotReplaced (local_held V.kind_of self.old) id value) }
     {
         let asked = value.kind();
         if asked != id.kind() {
@@ -170,8 +173,8 @@ impl<V: ResourceValue> LocalWorld<V> {
 
     /// The resource that is held. `Missing` where none is.
     pub fn fetch<R: Resource<V>>(&self) -> Result<Fetch<'_, R>, WorldError>
-        ensures shown { IfOk result (λ f. local_held V.kind_of self.now (id_of R.KIND 0) ≡ Some (R.wrapped (fetched f))) }
-        ensures missing { IfErr result (λ e. (e ≡ WorldError.Missing (id_of R.KIND 0)) × (local_held V.kind_of self.now (id_of R.KIND 0) ≡ None)) }
+        ensures shown { IfOk result (IsFetched (local_held V.kind_of self.now) R.wrapped (id_of R.KIND 0)) }
+        ensures missing { IfErr result (IsMissingFrom (local_held V.kind_of self.now) (id_of R.KIND 0)) }
     {
         match self.try_fetch() {
             Some(fetch) => Ok(fetch),
@@ -181,7 +184,7 @@ impl<V: ResourceValue> LocalWorld<V> {
 
     /// The resource that is held, if one is.
     pub fn try_fetch<R: Resource<V>>(&self) -> Option<Fetch<'_, R>>
-        ensures { option_map (λ f. R.wrapped (fetched f)) result ≡ local_held V.kind_of self.now (id_of R.KIND 0) }
+        ensures { option_map (λ f. R.wrapped (fetched f)) result ≡ local_first V.kind_of R.KIND self.now }
     {
         match self.try_fetch_by_id(ResourceId::new::<V, R>()) {
             Ok(found) => found,
@@ -194,8 +197,8 @@ impl<V: ResourceValue> LocalWorld<V> {
         &self,
         id: ResourceId,
     ) -> Result<Option<Fetch<'_, R>>, WorldError>
-        ensures ok { IfOk result (λ found. (R.KIND ≡ id_kind id) × (option_map (λ f. R.wrapped (fetched f)) found ≡ local_held V.kind_of self.now id)) }
-        ensures wrong_kind { IfErr result (λ e. (R.KIND ≢ id_kind id) × (e ≡ WorldError.WrongKind R.KIND (id_kind id))) }
+        ensures ok { IfOk result (IsFoundIn (local_held V.kind_of self.now) R.KIND (λ f. R.wrapped (fetched f)) id) }
+        ensures wrong_kind { IfErr result (IsWrongKind R.KIND id) }
     {
         test_kind::<V, R>(id)?;
         let Some(value) = self.get(id) else {
@@ -226,7 +229,7 @@ impl<V: ResourceValue> LocalWorld<V> {
 
     /// The resource that is held, if one is, to write.
     pub fn get_mut<R: Resource<V>>(&mut self) -> Option<&mut R>
-        ensures shown { option_map (λ r. R.wrapped r.now) result ≡ local_held V.kind_of self.old (id_of R.KIND 0) }
+        ensures shown { option_map (λ r. R.wrapped r.now) result ≡ local_first V.kind_of R.KIND self.old }
         ensures* written { sem 𝓛 (LendsLocalGot V.row R.row V.kind_of R.wrapped self.entry (id_of R.KIND 0) result) }
     {
         self.resource_mut(ResourceId::new::<V, R>())
@@ -234,7 +237,7 @@ impl<V: ResourceValue> LocalWorld<V> {
 
     /// The resource that is held, if one is, to write.
     pub fn try_fetch_mut<R: Resource<V>>(&mut self) -> Option<FetchMut<'_, R>>
-        ensures shown { option_map (λ r. R.wrapped r.now) result ≡ local_held V.kind_of self.old (id_of R.KIND 0) }
+        ensures shown { option_map (λ r. R.wrapped r.now) result ≡ local_first V.kind_of R.KIND self.old }
         ensures* written { sem 𝓛 (LendsLocalGot V.row R.row V.kind_of R.wrapped self.entry (id_of R.KIND 0) result) }
     {
         self.get_mut::<R>()
@@ -242,8 +245,8 @@ impl<V: ResourceValue> LocalWorld<V> {
 
     /// The resource that is held, to write. `Missing` where none is.
     pub fn fetch_mut<R: Resource<V>>(&mut self) -> Result<FetchMut<'_, R>, WorldError>
-        ensures shown { IfOk result (λ r. local_held V.kind_of self.old (id_of R.KIND 0) ≡ Some (R.wrapped r.now)) }
-        ensures missing { IfErr result (λ e. (e ≡ WorldError.Missing (id_of R.KIND 0)) × (local_held V.kind_of self.old (id_of R.KIND 0) ≡ None)) }
+        ensures shown { IfOk result (λ r. local_first V.kind_of R.KIND self.old ≡ Some (R.wrapped r.now)) }
+        ensures missing { IfErr result (IsMissingFrom (local_held V.kind_of self.old) (id_of R.KIND 0)) }
         ensures* written { sem 𝓛 (LendsLocalGotOk V.row R.row V.kind_of R.wrapped self.entry (id_of R.KIND 0) result) }
     {
         let Some(resource) = self.get_mut::<R>() else {
@@ -258,9 +261,9 @@ impl<V: ResourceValue> LocalWorld<V> {
         &mut self,
         id: ResourceId,
     ) -> Result<FetchMut<'_, R>, WorldError>
-        ensures shown { IfOk result (λ r. (R.KIND ≡ id_kind id) × (local_held V.kind_of self.old id ≡ Some (R.wrapped r.now))) }
-        ensures wrong_kind { (R.KIND ≢ id_kind id) → result ≡ Err (WorldError.WrongKind R.KIND (id_kind id)) }
-        ensures missing { (R.KIND ≡ id_kind id) → IfErr result (λ e. (e ≡ WorldError.Missing id) × (local_held V.kind_of self.old id ≡ None)) }
+        ensures shown { IfOk result (IsLentFrom (local_held V.kind_of self.old) R.KIND R.wrapped id) }
+        ensures wrong_kind { (R.KIND ≢ id_kind id) → result ≡ Err (mistaken R.KIND id) }
+        ensures missing { (R.KIND ≡ id_kind id) → IfErr result (IsMissingFrom (local_held V.kind_of self.old) id) }
         ensures* written { sem 𝓛 (LendsLocalGotOk V.row R.row V.kind_of R.wrapped self.entry id result) }
     {
         test_kind::<V, R>(id)?;
@@ -278,7 +281,7 @@ impl<V: ResourceValue> LocalWorld<V> {
     ) -> View<'b, 'b, V>
     where
         V: Drop,
-        ensures shown { (id : ResourceId) → view_held V.kind_of result id ≡ local_held V.kind_of self.old id }
+        ensures shown { HoldsSame (local_held V.kind_of self.old) (view_held V.kind_of result) }
         ensures lent { IsLent result reads.now writes.now }
         ensures over { IsOverLocal self.old writes.now result }
         ensures* back { sem 𝓛 (LendsLocalWorld V.row self.entry result) }

@@ -1,12 +1,12 @@
 //! Bundles that are taken on a local world, and go back to it.
 ghost use Rattle.std.specs.Prelude.{◌≡◌, IfOk, IfErr};
 ghost use Rattle.std.specs.Borrow.{sem, RestsIfErr};
-ghost use Rattle.shred_world.specs.Bundles.{AreAllOut, IsRefused, after_parts, ids_of};
-ghost use Rattle.shred_world.specs.Executed.{IsTaken};
-ghost use Rattle.shred_world.specs.Grants.{map_grant, given_back};
+ghost use Rattle.shred_world.specs.Bundles.{AreAllOut, IsRefused, ids_of};
+ghost use Rattle.shred_world.specs.Grants.{map_grant};
 ghost use Rattle.shred_world.specs.Lent.{EndsLocalSame};
 ghost use Rattle.shred_world.specs.Worlds.{local_held};
 ghost use Rattle.shred_world.specs.contracts.world.local.LocalWorld.{the_row as local_row};
+ghost use Rattle.shred_world.specs.LentBundles.{IsTakenOnLocal, IsLeftOfLocal, HasAllOutLocal, returned_local};
 
 use crate::world::bundle::SystemData;
 use crate::world::lent::{put_into, take_of};
@@ -55,7 +55,7 @@ impl<V: ResourceValue, D> LocalLent<'_, V, D> {
         D: SystemData<'s, V>,
         V: Drop + 's,
         requires { AreAllOut (local_grant V.kind_of self).out (ids_of (D.moved (local_bundle self))) }
-        ensures { local_held V.kind_of self.exit.0.now ≡ (given_back (local_grant V.kind_of self.entry) (D.moved (local_bundle self.entry))).held }
+        ensures { local_held V.kind_of self.exit.0.now ≡ returned_local V.kind_of D.moved self.entry }
     {
         let LocalLent { world, bundle } = self;
         world.settle();
@@ -73,9 +73,9 @@ impl<V: ResourceValue> LocalWorld<V> {
     where
         V: Drop + 's,
         ensures refused { IfErr result (IsRefused (map_grant (local_held V.kind_of self.old)) D.parts) }
-        ensures taken { IfOk result (λ lent. IsTaken D.shows D.moved (map_grant (local_held V.kind_of self.old)) D.parts (local_bundle lent)) }
-        ensures left { IfOk result (λ lent. local_grant V.kind_of lent ≡ after_parts (map_grant (local_held V.kind_of self.old)) D.parts) }
-        ensures out { IfOk result (λ lent. AreAllOut (local_grant V.kind_of lent).out (ids_of (D.moved (local_bundle lent)))) }
+        ensures taken { IfOk result (IsTakenOnLocal V.kind_of D.shows D.moved D.parts self.old) }
+        ensures left { IfOk result (IsLeftOfLocal V.kind_of D.parts self.old) }
+        ensures out { IfOk result (HasAllOutLocal V.kind_of D.moved) }
         ensures name { IfOk result (λ lent. (local_lender lent).ghost_name ≡ self.entry.ghost_name) }
         ensures* unchanged { sem 𝓛 (RestsIfErr (local_row V.row) self.entry (λ lent. (local_lender lent).ghost_name) result (EndsLocalSame V.kind_of self.old)) }
     {

@@ -1,10 +1,15 @@
 //! The world: a finite map from ids to values of their id's kind.
-ghost use Rattle.std.specs.Prelude.{◌≡◌, ◌≢◌, ◌↔◌, ◌⊎◌, ◌||◌, ◌&&◌, ⊤, ℕ, false, None, Some, Err, OnOk, OnErr, IfOk, IfErr, IfSome, is_some};
+ghost use Rattle.std.specs.Prelude.{◌≡◌, ◌≢◌, ◌↔◌, ◌⊎◌, ◌||◌, ◌&&◌, ⊤, false, None, Some, Err, OnOk, OnErr, IfOk, IfErr, IfSome, is_some};
 ghost use Rattle.std.specs.Borrow.{sem};
 ghost use Rattle.std.specs.Option.{option_map};
 ghost use Rattle.shred_table.specs.declared.id.ResourceId.{ResourceId};
-ghost use Rattle.shred_world.specs.Fetched.{fetched};
+ghost use Rattle.shred_world.specs.Fetched.{fetched, IsFetched, IsFoundIn, IsLentFrom};
 ghost use Rattle.shred_table.specs.Id.{id_kind};
+ghost use Rattle.shred_table.specs.Changes.{Stays, Puts, Removes};
+ghost use Rattle.shred_table.specs.Counts.{IsCountBefore, IsWithinDigitsOf};
+ghost use Rattle.shred_world.specs.Refusals.{IsWrongKind, IsMissingFrom, IsWithoutRoom, IsNotReplaced, misplaced, mistaken};
+ghost use Rattle.shred_world.specs.Worlds.{FillsWorld, world_first};
+ghost use Rattle.shred_world.specs.Lent.{HoldsSame};
 
 use crate::world::entry::Entry;
 use crate::world::fetch::{Fetch, FetchMut};
@@ -82,7 +87,7 @@ pub type Resources<V> = World<V>;
 // Refuses an id of another kind than the resource's.
 pub(crate) fn test_kind<V: ResourceValue, R: Resource<V>>(id: ResourceId) -> Result<(), WorldError>
     ensures ok { OnOk result (R.KIND ≡ id_kind id) }
-    ensures wrong_kind { IfErr result (λ e. (R.KIND ≢ id_kind id) × (e ≡ WorldError.WrongKind R.KIND (id_kind id))) }
+    ensures wrong_kind { IfErr result (IsWrongKind R.KIND id) }
 {
     if R::KIND == id.kind() {
         Ok(())
@@ -108,11 +113,9 @@ impl<V> World<V> {
 }
 
 impl<V: ResourceValue> World<V> {
-    ghost use Rattle.shred_world.specs.Worlds.{world_held, IsFilled};
-    ghost use Rattle.shred_table.specs.Counts.{IsCountOf, IsWithinDigits};
+    ghost use Rattle.shred_world.specs.Worlds.{world_held};
     ghost use Rattle.shred_table.specs.Id.{id_of, id_kind};
-    ghost use Rattle.shred_table.specs.InOrder.{comes_first};
-    ghost use Rattle.shred_table.specs.Slots.{with_at, without_at, among};
+    ghost use Rattle.shred_table.specs.Slots.{among};
     ghost use Rattle.shred_world.specs.Entries.{lent_world, entry_world};
     ghost use Rattle.shred_world.specs.Views.{view_held};
     ghost use Rattle.shred_world.specs.Lending.{IsOverWorld};
@@ -147,8 +150,8 @@ impl<V: ResourceValue> World<V> {
     /// each id is also looked for in the hand, to tell whether it is held, which is not counted.
     pub fn slot_of(&self, id: ResourceId, steps: &mut Steps) -> Option<usize>
         ensures held { is_some result ≡ is_some (world_held V.kind_of self.now id) }
-        ensures slot { IfSome result (IsCountOf (λ q. is_some (world_held V.kind_of self.now q) && comes_first q id)) }
-        ensures steps { (count : ℕ) × IsCountOf (λ q. is_some (world_held V.kind_of self.now q)) count × IsWithinDigits count steps.old.count steps.new.count }
+        ensures slot { IfSome result (IsCountBefore (world_held V.kind_of self.now) id) }
+        ensures steps { IsWithinDigitsOf (world_held V.kind_of self.now) steps.old.count steps.new.count }
     {
         self.local.slot_of(id, steps)
     }
@@ -166,9 +169,9 @@ impl<V: ResourceValue> World<V> {
     where
         V: Drop,
         R: Drop,
-        ensures ok { OnOk result ((q : ResourceId) → world_held V.kind_of self.new q ≡ with_at (world_held V.kind_of self.old) (id_of R.KIND 0) (Some (R.wrapped resource)) q) }
-        ensures err { OnErr result ((q : ResourceId) → world_held V.kind_of self.new q ≡ world_held V.kind_of self.old q) }
-        ensures out_of_memory { IfErr result (λ e. (e ≡ WorldError.OutOfMemory) × (world_held V.kind_of self.old (id_of R.KIND 0) ≡ None)) }
+        ensures ok { OnOk result (Puts (world_held V.kind_of) self.old (id_of R.KIND 0) (Some (R.wrapped resource)) self.new) }
+        ensures err { OnErr result (Stays (world_held V.kind_of) self.old self.new) }
+        ensures out_of_memory { IfErr result (IsWithoutRoom (world_first V.kind_of R.KIND self.old)) }
     {
         self.insert_by_id(ResourceId::new::<V, R>(), resource)
     }
@@ -183,10 +186,10 @@ impl<V: ResourceValue> World<V> {
     where
         V: Drop,
         R: Drop,
-        ensures ok { OnOk result ((R.KIND ≡ id_kind id) × ((q : ResourceId) → world_held V.kind_of self.new q ≡ with_at (world_held V.kind_of self.old) id (Some (R.wrapped resource)) q)) }
-        ensures err { OnErr result ((q : ResourceId) → world_held V.kind_of self.new q ≡ world_held V.kind_of self.old q) }
-        ensures wrong_kind { (R.KIND ≢ id_kind id) ↔ (result ≡ Err (WorldError.WrongKind R.KIND (id_kind id))) }
-        ensures out_of_memory { IfErr result (λ e. (R.KIND ≡ id_kind id) → (e ≡ WorldError.OutOfMemory) × (world_held V.kind_of self.old id ≡ None)) }
+        ensures ok { OnOk result ((R.KIND ≡ id_kind id) × (Puts (world_held V.kind_of) self.old id (Some (R.wrapped resource)) self.new)) }
+        ensures err { OnErr result (Stays (world_held V.kind_of) self.old self.new) }
+        ensures wrong_kind { (R.KIND ≢ id_kind id) ↔ (result ≡ Err (mistaken R.KIND id)) }
+        ensures out_of_memory { IfErr result (λ e. (R.KIND ≡ id_kind id) → IsWithoutRoom (world_held V.kind_of self.old id) e) }
     {
         test_kind::<V, R>(id)?;
         self.local.twin.put(id, resource.wrap())?;
@@ -205,9 +208,9 @@ impl<V: ResourceValue> World<V> {
         F: Drop,
         requires kind { R.KIND ≡ id_kind id }
         requires callable { world_held V.kind_of self.old id ≡ None → F.pre make }
-        ensures ok { OnOk result (IsFilled R.wrapped (F.post make) id (world_held V.kind_of self.old) (world_held V.kind_of self.new)) }
-        ensures err { OnErr result ((q : ResourceId) → world_held V.kind_of self.new q ≡ world_held V.kind_of self.old q) }
-        ensures out_of_memory { IfErr result (λ e. (e ≡ WorldError.OutOfMemory) × (world_held V.kind_of self.old id ≡ None)) }
+        ensures ok { OnOk result (FillsWorld V.kind_of R.wrapped (F.post make) id self.old self.new) }
+        ensures err { OnErr result (Stays (world_held V.kind_of) self.old self.new) }
+        ensures out_of_memory { IfErr result (IsWithoutRoom (world_held V.kind_of self.old id)) }
     {
         if self.has_value_raw(id) {
             return Ok(());
@@ -222,7 +225,7 @@ impl<V: ResourceValue> World<V> {
     where
         V: Drop,
         ensures removed { option_map R.wrapped result ≡ world_held V.kind_of self.old (id_of R.KIND 0) }
-        ensures after { (q : ResourceId) → world_held V.kind_of self.new q ≡ without_at (world_held V.kind_of self.old) (id_of R.KIND 0) q }
+        ensures after { Removes (world_held V.kind_of) self.old (id_of R.KIND 0) self.new }
     {
         self.take(ResourceId::new::<V, R>())
     }
@@ -232,10 +235,10 @@ impl<V: ResourceValue> World<V> {
     pub fn remove_by_id<R: Resource<V>>(&mut self, id: ResourceId) -> Result<Option<R>, WorldError>
     where
         V: Drop,
-        ensures ok { IfOk result (λ removed. (R.KIND ≡ id_kind id) × (option_map R.wrapped removed ≡ world_held V.kind_of self.old id)) }
-        ensures after { OnOk result ((q : ResourceId) → world_held V.kind_of self.new q ≡ without_at (world_held V.kind_of self.old) id q) }
-        ensures err { OnErr result ((q : ResourceId) → world_held V.kind_of self.new q ≡ world_held V.kind_of self.old q) }
-        ensures wrong_kind { IfErr result (λ e. (R.KIND ≢ id_kind id) × (e ≡ WorldError.WrongKind R.KIND (id_kind id))) }
+        ensures ok { IfOk result (IsFoundIn (world_held V.kind_of self.old) R.KIND R.wrapped id) }
+        ensures after { OnOk result (Removes (world_held V.kind_of) self.old id self.new) }
+        ensures err { OnErr result (Stays (world_held V.kind_of) self.old self.new) }
+        ensures wrong_kind { IfErr result (IsWrongKind R.KIND id) }
     {
         test_kind::<V, R>(id)?;
         Ok(self.take(id))
@@ -247,7 +250,7 @@ impl<V: ResourceValue> World<V> {
         V: Drop,
         requires kind { R.KIND ≡ id_kind id }
         ensures removed { option_map R.wrapped result ≡ world_held V.kind_of self.old id }
-        ensures after { (q : ResourceId) → world_held V.kind_of self.new q ≡ without_at (world_held V.kind_of self.old) id q }
+        ensures after { Removes (world_held V.kind_of) self.old id self.new }
     {
         let Some(slot) = self.local.twin.remove(id) else {
             return None;
@@ -259,18 +262,18 @@ impl<V: ResourceValue> World<V> {
     /// the value is not of the id's kind, tested first; `Missing` where nothing is held. A refusal hands the value back.
     pub fn replace_raw(&mut self, id: ResourceId, value: V) -> Result<V, ReplaceError<V>>
         ensures ok { IfOk result (λ old. (V.kind_of value ≡ id_kind id) × (world_held V.kind_of self.old id ≡ Some old)) }
-        ensures replaced { OnOk result ((q : ResourceId) → world_held V.kind_of self.new q ≡ with_at (world_held V.kind_of self.old) id (Some value) q) }
-        ensures err { OnErr result ((q : ResourceId) → world_held V.kind_of self.new q ≡ world_held V.kind_of self.old q) }
-        ensures wrong_kind { (V.kind_of value ≢ id_kind id) → result ≡ Err (ReplaceError.WrongKind (V.kind_of value) (id_kind id) value) }
-        ensures missing { (V.kind_of value ≡ id_kind id) → IfErr result (λ e. (e ≡ ReplaceError.Missing id value) × (world_held V.kind_of self.old id ≡ None)) }
+        ensures replaced { OnOk result (Puts (world_held V.kind_of) self.old id (Some value) self.new) }
+        ensures err { OnErr result (Stays (world_held V.kind_of) self.old self.new) }
+        ensures wrong_kind { (V.kind_of value ≢ id_kind id) → result ≡ Err (misplaced V.kind_of id value) }
+        ensures missing { (V.kind_of value ≡ id_kind id) → IfErr result (IsNotReplaced (world_held V.kind_of self.old) id value) }
     {
         self.local.replace_raw(id, value)
     }
 
     /// The resource that is held. `Missing` where none is.
     pub fn fetch<R: Resource<V>>(&self) -> Result<Fetch<'_, R>, WorldError>
-        ensures shown { IfOk result (λ f. world_held V.kind_of self.now (id_of R.KIND 0) ≡ Some (R.wrapped (fetched f))) }
-        ensures missing { IfErr result (λ e. (e ≡ WorldError.Missing (id_of R.KIND 0)) × (world_held V.kind_of self.now (id_of R.KIND 0) ≡ None)) }
+        ensures shown { IfOk result (IsFetched (world_held V.kind_of self.now) R.wrapped (id_of R.KIND 0)) }
+        ensures missing { IfErr result (IsMissingFrom (world_held V.kind_of self.now) (id_of R.KIND 0)) }
     {
         match self.try_fetch() {
             Some(fetch) => Ok(fetch),
@@ -280,7 +283,7 @@ impl<V: ResourceValue> World<V> {
 
     /// The resource that is held, if one is.
     pub fn try_fetch<R: Resource<V>>(&self) -> Option<Fetch<'_, R>>
-        ensures { option_map (λ f. R.wrapped (fetched f)) result ≡ world_held V.kind_of self.now (id_of R.KIND 0) }
+        ensures { option_map (λ f. R.wrapped (fetched f)) result ≡ world_first V.kind_of R.KIND self.now }
     {
         match self.try_fetch_by_id(ResourceId::new::<V, R>()) {
             Ok(found) => found,
@@ -293,8 +296,8 @@ impl<V: ResourceValue> World<V> {
         &self,
         id: ResourceId,
     ) -> Result<Option<Fetch<'_, R>>, WorldError>
-        ensures ok { IfOk result (λ found. (R.KIND ≡ id_kind id) × (option_map (λ f. R.wrapped (fetched f)) found ≡ world_held V.kind_of self.now id)) }
-        ensures wrong_kind { IfErr result (λ e. (R.KIND ≢ id_kind id) × (e ≡ WorldError.WrongKind R.KIND (id_kind id))) }
+        ensures ok { IfOk result (IsFoundIn (world_held V.kind_of self.now) R.KIND (λ f. R.wrapped (fetched f)) id) }
+        ensures wrong_kind { IfErr result (IsWrongKind R.KIND id) }
     {
         self.local.try_fetch_by_id(id)
     }
@@ -318,7 +321,7 @@ impl<V: ResourceValue> World<V> {
 
     /// The resource that is held, if one is, to write.
     pub fn get_mut<R: Resource<V>>(&mut self) -> Option<&mut R>
-        ensures shown { option_map (λ r. R.wrapped r.now) result ≡ world_held V.kind_of self.old (id_of R.KIND 0) }
+        ensures shown { option_map (λ r. R.wrapped r.now) result ≡ world_first V.kind_of R.KIND self.old }
         ensures* written { sem 𝓛 (LendsGot V.row R.row V.kind_of R.wrapped self.entry (id_of R.KIND 0) result) }
     {
         self.resource_mut(ResourceId::new::<V, R>())
@@ -326,7 +329,7 @@ impl<V: ResourceValue> World<V> {
 
     /// The resource that is held, if one is, to write.
     pub fn try_fetch_mut<R: Resource<V>>(&mut self) -> Option<FetchMut<'_, R>>
-        ensures shown { option_map (λ r. R.wrapped r.now) result ≡ world_held V.kind_of self.old (id_of R.KIND 0) }
+        ensures shown { option_map (λ r. R.wrapped r.now) result ≡ world_first V.kind_of R.KIND self.old }
         ensures* written { sem 𝓛 (LendsGot V.row R.row V.kind_of R.wrapped self.entry (id_of R.KIND 0) result) }
     {
         self.get_mut::<R>()
@@ -334,8 +337,8 @@ impl<V: ResourceValue> World<V> {
 
     /// The resource that is held, to write. `Missing` where none is.
     pub fn fetch_mut<R: Resource<V>>(&mut self) -> Result<FetchMut<'_, R>, WorldError>
-        ensures shown { IfOk result (λ r. world_held V.kind_of self.old (id_of R.KIND 0) ≡ Some (R.wrapped r.now)) }
-        ensures missing { IfErr result (λ e. (e ≡ WorldError.Missing (id_of R.KIND 0)) × (world_held V.kind_of self.old (id_of R.KIND 0) ≡ None)) }
+        ensures shown { IfOk result (λ r. world_first V.kind_of R.KIND self.old ≡ Some (R.wrapped r.now)) }
+        ensures missing { IfErr result (IsMissingFrom (world_held V.kind_of self.old) (id_of R.KIND 0)) }
         ensures* written { sem 𝓛 (LendsGotOk V.row R.row V.kind_of R.wrapped self.entry (id_of R.KIND 0) result) }
     {
         let Some(resource) = self.get_mut::<R>() else {
@@ -350,9 +353,9 @@ impl<V: ResourceValue> World<V> {
         &mut self,
         id: ResourceId,
     ) -> Result<FetchMut<'_, R>, WorldError>
-        ensures shown { IfOk result (λ r. (R.KIND ≡ id_kind id) × (world_held V.kind_of self.old id ≡ Some (R.wrapped r.now))) }
-        ensures wrong_kind { (R.KIND ≢ id_kind id) → result ≡ Err (WorldError.WrongKind R.KIND (id_kind id)) }
-        ensures missing { (R.KIND ≡ id_kind id) → IfErr result (λ e. (e ≡ WorldError.Missing id) × (world_held V.kind_of self.old id ≡ None)) }
+        ensures shown { IfOk result (IsLentFrom (world_held V.kind_of self.old) R.KIND R.wrapped id) }
+        ensures wrong_kind { (R.KIND ≢ id_kind id) → result ≡ Err (mistaken R.KIND id) }
+        ensures missing { (R.KIND ≡ id_kind id) → IfErr result (IsMissingFrom (world_held V.kind_of self.old) id) }
         ensures* written { sem 𝓛 (LendsGotOk V.row R.row V.kind_of R.wrapped self.entry id result) }
     {
         test_kind::<V, R>(id)?;
@@ -370,7 +373,7 @@ impl<V: ResourceValue> World<V> {
     ) -> View<'b, 'b, V>
     where
         V: Drop,
-        ensures shown { (id : ResourceId) → view_held V.kind_of result id ≡ world_held V.kind_of self.old id }
+        ensures shown { HoldsSame (world_held V.kind_of self.old) (view_held V.kind_of result) }
         ensures lent { IsLent result reads.now writes.now }
         ensures over { IsOverWorld self.old writes.now result }
         ensures* back { sem 𝓛 (LendsWorld V.row self.entry result) }

@@ -1,14 +1,14 @@
 //! Parting a view into views that may be used beside each other.
-ghost use Rattle.std.specs.Prelude.{◌≡◌, ◌<◌, ◌&&◌, IsTrue, false, cond, is_some, IfOk, OnOk, OnErr, length};
-ghost use Rattle.std.specs.List.{All, AllZip};
+ghost use Rattle.std.specs.Prelude.{◌≡◌, ◌<◌, ◌&&◌, false, cond, is_some, IfOk, OnOk, OnErr, length};
+ghost use Rattle.std.specs.List.{AllZip};
 ghost use Rattle.shred_table.specs.declared.id.ResourceId.{ResourceId};
-ghost use Rattle.shred_world.specs.Beside.{pairs_of, lender_of, pairs_behind, pair_behind, lent_behind, shelf_behind};
+ghost use Rattle.shred_world.specs.Beside.{pairs_of, lender_of, pairs_behind, pair_behind, lent_behind, shelf_behind, reads_behind, writes_behind};
 ghost use Rattle.shred_world.specs.OwnViews.{IsLent};
-ghost use Rattle.shred_world.specs.Parted.{has_place, IsJoinedWith, IsParted, IsViewOfPair, MayBeJoined, ShowsSame};
+ghost use Rattle.shred_world.specs.Parted.{has_place, IsJoinedWith, IsParted, IsViewOfPair, MayBeJoined, ShowsSame, AllWithin};
 ghost use Rattle.shred_table.specs.Parting.{emptied};
 ghost use Rattle.shred_table.specs.Parts.{DoNotConflict, reads_of, writes_of, written_by, HasNothingOut, HasRoom, HoldsWritten, Fits, IsHandOf, IsJoined};
 ghost use Rattle.shred_table.specs.Slots.{slot_at, noted_in, among};
-ghost use Rattle.shred_world.specs.Views.{may_read, may_write, is_out, is_own, table_of, view_slot, IsSameLoan};
+ghost use Rattle.shred_world.specs.Views.{may_read, may_write, is_out, is_own, table_name, view_slot, IsSameLoan};
 
 use crate::world::parted::Parts;
 use crate::world::tuples::joined;
@@ -60,8 +60,8 @@ impl<'p, 's, V> Behind<'p, 's, V> {
         requires hand { IsHandOf (lent_behind self.now) (pair_behind self.now number) hand.old }
         ensures name { result.own.ghost_name ≡ hand.entry.ghost_name }
         ensures over { IsViewOfPair (pair_behind self.now number) hand.old (shelf_behind self.now) result }
-        ensures lent { IsLent result (reads_of (pair_behind self.now number)) (writes_of (pair_behind self.now number)) }
-        ensures own { (id : ResourceId) → is_own result id ≡ among (writes_of (pair_behind self.now number)) id }
+        ensures lent { IsLent result (reads_behind self.now number) (writes_behind self.now number) }
+        ensures own { (id : ResourceId) → is_own result id ≡ among (writes_behind self.now number) id }
     {
         let pair = &self.pairs[number];
         View::over(pair.0, pair.1, &self.shelf, hand)
@@ -77,8 +77,8 @@ impl<'s, 'a, V: ResourceValue + Drop> View<'s, 'a, V> {
         pairs: &'p [(&'p [ResourceId], &'p [ResourceId])],
     ) -> Result<Parts<'p, 'a, V>, OutOfMemory>
         requires nothing_out { (id : ResourceId) → is_out self.old id ≡ false }
-        requires reads_within { All (λ p. (id : ResourceId) → IsTrue (among (reads_of p) id) → IsTrue (may_read self.old id)) pairs.now }
-        requires writes_within { All (λ p. (id : ResourceId) → IsTrue (among (writes_of p) id) → IsTrue (may_write self.old id)) pairs.now }
+        requires reads_within { AllWithin reads_of (may_read self.old) pairs.now }
+        requires writes_within { AllWithin writes_of (may_write self.old) pairs.now }
         requires apart { DoNotConflict pairs.now }
         ensures loan { IsSameLoan self.old self.new }
         ensures parted { IfOk result (λ parts. IsParted self.old pairs.now parts self.new) }
@@ -108,7 +108,7 @@ impl<'s, 'a, V: ResourceValue + Drop> View<'s, 'a, V> {
 impl<'p, 'a, V: ResourceValue + Drop> Parts<'p, 'a, V> {
     /// What lies behind the hands, for views of the parts. The lender is the view that was parted.
     pub fn behind<'b>(&self, lender: &'b View<V>) -> Behind<'p, 'b, V>
-        requires { table_of lender.now ≡ lender_of self.now }
+        requires { table_name lender.now ≡ lender_of self.now }
         ensures pairs { pairs_behind result ≡ pairs_of self.now }
         ensures shelf { (q : ResourceId) → lent_behind result q ≡ view_slot lender.now q }
     {

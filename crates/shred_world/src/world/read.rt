@@ -1,7 +1,6 @@
 //! Resources that are taken of a view to be read.
 ghost use Rattle.std.specs.Prelude.{◌≡◌, [], ◌∷◌, Some, None, true, false};
-ghost use Rattle.shred_world.specs.Bundles.{ids_of, AreOut};
-ghost use Rattle.shred_world.specs.Grants.{grant_of, given_back};
+ghost use Rattle.shred_world.specs.Bundles.{ids_of, AreOut, HasBack};
 ghost use Rattle.shred_table.specs.Id.{id_of};
 ghost use Rattle.shred_world.specs.Views.{is_out, IsSameLoan};
 ghost use Rattle.shred_world.specs.BundleParts.{read_value, moved_of_read, moved_to_read};
@@ -59,7 +58,7 @@ impl<'s, T, F> Read<'s, T, F> {
     where
         T: Resource<V>,
         requires out { AreOut (is_out view.old) (ids_of (moved_to_read T.wrapped (id_of T.KIND 0) self)) }
-        ensures returned { grant_of V.kind_of view.new ≡ given_back (grant_of V.kind_of view.old) (moved_to_read T.wrapped (id_of T.KIND 0) self.entry) }
+        ensures returned { HasBack V.kind_of view.old (moved_to_read T.wrapped (id_of T.KIND 0) self.entry) view.new }
         ensures loan { IsSameLoan view.old view.new }
     {
         let Read {

@@ -1,5 +1,5 @@
 //! Views: what a system is lent of a world.
-ghost use Rattle.std.specs.Prelude.{◌≡◌, ◌==◌, ◌&&◌, ◌||◌, Bool, None, Some, IfOk, IsTrue, true, false, cond, is_some, length, [], ◌∷◌};
+ghost use Rattle.std.specs.Prelude.{◌≡◌, ◌==◌, ◌&&◌, ◌||◌, Bool, None, Some, IfOk, true, false, is_some, [], ◌∷◌};
 ghost use Rattle.std.specs.Borrow.{sem};
 ghost use Rattle.shred_table.specs.declared.id.ResourceId.{ResourceId};
 ghost use Rattle.shred_world.specs.Lending.{IsNarrowed};
@@ -9,7 +9,7 @@ ghost use Rattle.std.specs.Option.{option_copied, option_map};
 ghost use Rattle.std.specs.Result.{result_err};
 ghost use Rattle.shred_world.specs.Grants.{grant_of, map_grant, table_grant};
 ghost use Rattle.shred_table.specs.Slots.{among, slots_of, slot_at, held};
-ghost use Rattle.shred_world.specs.Views.{shelf_slot, base_slot, behind_slot, lent_slot, lent_to, none_behind, view_slot, view_held, is_alone, is_whole, is_own, may_read, may_write, is_out, refusal};
+ghost use Rattle.shred_world.specs.Views.{shelf_slot, base_slot, lent_slot, lent_to, view_slot, view_held, is_alone, is_whole, is_own, may_read, may_write, is_out, refusal, view_refusal, ShowsBefore, ShowsBeforeAll, AreWithin};
 ghost use Rattle.shred_table.specs.Id.{id_kind};
 ghost use Rattle.shred_table.specs.Slots.{is_vacant};
 
@@ -63,7 +63,7 @@ impl<'s, V> Shelf<'s, V> {
     /// A table before the first of the tables behind it, where there is one; then the ids of the list, and no others, are
     /// looked for in the table.
     pub fn before(table: &'s Table<V>, owned: &'s [ResourceId], behind: &'s [Shelf<'s, V>]) -> Self
-        ensures { (q : ResourceId) → shelf_slot result q ≡ cond ((length behind.now == 0) || among owned.now q) (slot_at table.now q) (lent_slot behind.now q) }
+        ensures { ShowsBefore table.now owned.now behind.now result }
     {
         match behind.first() {
             Some(rest) => Shelf::Before(table, owned, rest),
@@ -78,7 +78,7 @@ impl<'s, V> Shelf<'s, V> {
         base: &'s [Table<V>],
         behind: &'s [Shelf<'s, V>],
     ) -> Self
-        ensures { (q : ResourceId) → shelf_slot result q ≡ cond (none_behind base.now behind.now || among owned.now q) (slot_at table.now q) (behind_slot base.now behind.now q) }
+        ensures { ShowsBeforeAll table.now owned.now base.now behind.now result }
     {
         match behind.first() {
             Some(rest) => Shelf::Before(table, owned, rest),
@@ -307,7 +307,7 @@ impl<'s, 'a, V: ResourceValue> View<'s, 'a, V> {
     /// The resource that is held under an id which is declared to be read or written. The first that fits of `WrongKind`,
     /// `Undeclared`, `Taken`, `Missing`.
     pub fn read<R: Resource<V>>(&self, id: ResourceId) -> Result<&R, DataError>
-        ensures refused { result_err result ≡ refusal R.KIND id (may_read self.now id) (is_out self.now id) (is_some (view_held V.kind_of self.now id)) }
+        ensures refused { result_err result ≡ view_refusal V.kind_of may_read self.now R.KIND id }
         ensures shown { IfOk result (λ r. view_held V.kind_of self.now id ≡ Some (R.wrapped r.now)) }
     {
         let place = self.place(id);
@@ -324,7 +324,7 @@ impl<'s, 'a, V: ResourceValue> View<'s, 'a, V> {
     /// of `read`, with `Undeclared` where the id is not declared to be written.
     #[inline(always)]
     pub fn write<R: Resource<V>>(&mut self, id: ResourceId) -> Result<&mut R, DataError>
-        ensures refused { result_err result ≡ refusal R.KIND id (may_write self.old id) (is_out self.old id) (is_some (view_held V.kind_of self.old id)) }
+        ensures refused { result_err result ≡ view_refusal V.kind_of may_write self.old R.KIND id }
         ensures shown { IfOk result (λ r. view_held V.kind_of self.old id ≡ Some (R.wrapped r.now)) }
         ensures* written { sem 𝓛 (LendsWritten V.row R.row V.kind_of R.wrapped self.entry id result) }
     {
@@ -347,8 +347,8 @@ impl<'s, 'a, V: ResourceValue> View<'s, 'a, V> {
         writes: &'b [ResourceId],
     ) -> View<'b, 'b, V>
         requires nothing_out { (id : ResourceId) → is_out self.old id ≡ false }
-        requires reads_within { (id : ResourceId) → IsTrue (among reads.now id) → IsTrue (may_read self.old id) }
-        requires writes_within { (id : ResourceId) → IsTrue (among writes.now id) → IsTrue (may_write self.old id) }
+        requires reads_within { AreWithin reads.now (may_read self.old) }
+        requires writes_within { AreWithin writes.now (may_write self.old) }
         ensures view { IsViewOf V.kind_of reads.now writes.now (view_held V.kind_of self.old) result }
         ensures over { IsNarrowed self.old writes.now result }
         ensures* back { sem 𝓛 (LendsNarrow V.row self.entry result) }

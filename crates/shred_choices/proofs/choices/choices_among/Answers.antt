@@ -2,7 +2,7 @@ use Rattle.std.proofs.Common.{◌≡◌, ◌+◌, ◌-◌, arith, length, length
 use Rattle.std.proofs.lemmas.List.{drop_all, take_all}
 use Rattle.shred_choices.proofs.Picking.{picks-next}
 use Rattle.shred_choices.specs.declared.choices.Choice.{Choice}
-use Rattle.shred_choices.specs.Choices.{IsChoice, Picks, pairs_of, pairs_with}
+use Rattle.shred_choices.specs.Choices.{IsChoice, Picks, later_pairs, pairs_with}
 use Rattle.shred_choices.proofs.choices.choices_among.Goals as goal
 
 pub loop-place-preserved : goal.loop-place-preserved
@@ -15,12 +15,12 @@ loop-place-preserved c = λ behind picks.
     let with-rest = subst (λ (rest : List ℕ). Picks (IsChoice entries) (pairs_with (get_or plan c.loop-place.place 0) rest) more) rest c.in_ok-more.ensures in
     let on = c.loop-place.invariant (more ++ behind) (picks-next (IsChoice entries) plan c.loop-place.place more behind c.loop-place-test.true with-rest picks) in
     let is : before ++ (more ++ behind) ≡ c.append.new.self.items ++ behind = sym (append_assoc before more behind) ∙ ap (λ choices. choices ++ behind) (sym c.in_ok-append.ensures.items) in
-    subst (λ (choices : List Choice). Picks (IsChoice entries) (pairs_of plan) choices) is on
+    subst (λ (choices : List Choice). Picks (IsChoice entries) (later_pairs plan) choices) is on
 
 pub returns : goal.returns
 returns c =
     let entries = c.args.entries.now in
     let plan = c.args.plan.now in
     let none : drop c.loop-place.place plan ≡ [] = drop_all c.loop-place.place plan c.loop-place-test.false in
-    let whole = c.loop-place.invariant [] (subst (λ (places : List ℕ). Picks (IsChoice entries) (pairs_of places) []) (sym none) refl) in
-    subst (λ (choices : List Choice). Picks (IsChoice entries) (pairs_of plan) choices) (append-nil c.loop-place.choices.items) whole
+    let whole = c.loop-place.invariant [] (subst (λ (places : List ℕ). Picks (IsChoice entries) (later_pairs places) []) (sym none) refl) in
+    subst (λ (choices : List Choice). Picks (IsChoice entries) (later_pairs plan) choices) (append-nil c.loop-place.choices.items) whole

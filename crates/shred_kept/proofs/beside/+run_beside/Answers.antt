@@ -1,7 +1,7 @@
 use Rattle.std.proofs.Common.{length, sym, subst, subst₂, ap, ◌∙◌, arith}
 use Rattle.std.proofs.Math.ListN.{length-append}
 use Rattle.std.specs.Arc.{arc_value}
-use Rattle.shred_run.specs.Depths.{lists_of, relations_of}
+use Rattle.shred_run.specs.Depths.{lists_of, steps_of}
 use Rattle.shred_run.specs.Lanes.{GroupWent, IsReady}
 use Rattle.shred_run.specs.Rules.{RuleOwns, RuleStep}
 use Rattle.shred_table.specs.declared.table.Table.{Table}
@@ -13,33 +13,33 @@ use Rattle.shred_kept.proofs.beside.+run_beside.Goals as goal
 
 pub run_here-requires : goal.run_here-requires
 run_here-requires g t c =
-    let declared = lists_of g.S.System.reads g.S.System.writes g.C.BatchController.reads g.C.BatchController.writes in
+    let declared = lists_of g.S.System g.C.BatchController in
     subst (λ (t : Table g.row.V.Denot). AreReadyOver (RuleOwns declared c.args.at) t c.args.groups.now.items) (sym c.deref.ensures) c.requires
 
 pub run_here-requires-in_default-lane_of : goal.run_here-requires-in_default-lane_of
 run_here-requires-in_default-lane_of g t c =
-    let declared = lists_of g.S.System.reads g.S.System.writes g.C.BatchController.reads g.C.BatchController.writes in
+    let declared = lists_of g.S.System g.C.BatchController in
     subst (λ (t : Table g.row.V.Denot). AreReadyOver (RuleOwns declared c.args.at) t c.lane_of.new.groups.items) (sym c.deref-in_default-lane_of.ensures)
     (subst (λ groups. AreReadyOver (RuleOwns declared c.args.at) (arc_value c.args.behind.now) groups) (sym (ap (λ groups. groups.items) c.in_default-lane_of.ensures.none)) c.requires)
 
 pub send-requires-clause-ready : goal.send-requires-clause-ready
 send-requires-clause-ready g t c =
-    let declared = lists_of g.S.System.reads g.S.System.writes g.C.BatchController.reads g.C.BatchController.writes in
+    let declared = lists_of g.S.System g.C.BatchController in
     let lane = c.in-Some-lane_of.lane in
     let theirs = All-back (IsReady (RuleOwns declared c.args.at) (lent_by (arc_value c.args.behind.now))) c.lane_of.new.groups.items lane.groups.items (subst (AreReadyOver (RuleOwns declared c.args.at) (arc_value c.args.behind.now)) c.in-Some-lane_of.ensures.parts c.requires) in
     subst₂ (λ at (t : Table g.row.V.Denot). AreReadyOver (RuleOwns declared at) t lane.groups.items) (sym c.in-Some-lane_of.ensures.at) (sym c.in-Some-lane_of.ensures.behind) theirs
 
 pub run_beside-mine-requires : goal.run_beside-mine-requires
 run_beside-mine-requires g t c κs within =
-    let declared = lists_of g.S.System.reads g.S.System.writes g.C.BatchController.reads g.C.BatchController.writes in
+    let declared = lists_of g.S.System g.C.BatchController in
     let down = c.decreases in
     (omega (arith, down), bounded_beside within (All-front (IsReady (RuleOwns declared c.args.at) (lent_by (arc_value c.args.behind.now))) c.lane_of.new.groups.items c.in-Some-lane_of.lane.groups.items (subst (AreReadyOver (RuleOwns declared c.args.at) (arc_value c.args.behind.now)) c.in-Some-lane_of.ensures.parts c.requires)))
 
 pub put_back-requires : goal.put_back-requires
 put_back-requires g t c =
     let kind = g.V.ResourceValue.kind_of in
-    let declared = lists_of g.S.System.reads g.S.System.writes g.C.BatchController.reads g.C.BatchController.writes in
-    let related = relations_of declared g.S.System.step g.C.BatchController.begins g.C.BatchController.asks in
+    let declared = lists_of g.S.System g.C.BatchController in
+    let related = steps_of g.S.System g.C.BatchController in
     let lane = c.in-Some-lane_of.lane in
     let front = c.lane_of.new.groups.items in
     let mine = AllWent-length (GroupWent kind (RuleStep kind related c.args.at) (RuleOwns declared c.args.at) (lent_by (arc_value c.args.behind.now))) front c.run_beside-mine.result c.run_beside-mine.new.groups.items c.run_beside-mine.ensures.ran in
@@ -55,8 +55,8 @@ put_back-requires g t c =
 pub returns-clause-ran : goal.returns-clause-ran
 returns-clause-ran g t c =
     let kind = g.V.ResourceValue.kind_of in
-    let declared = lists_of g.S.System.reads g.S.System.writes g.C.BatchController.reads g.C.BatchController.writes in
-    let related = relations_of declared g.S.System.step g.C.BatchController.begins g.C.BatchController.asks in
+    let declared = lists_of g.S.System g.C.BatchController in
+    let related = steps_of g.S.System g.C.BatchController in
     let lane = c.in-Some-lane_of.lane in
     let Went = GroupWent kind (RuleStep kind related c.args.at) (RuleOwns declared c.args.at) (lent_by (arc_value c.args.behind.now)) in
     let ran = c.collect-back.ensures.ran lane c.send.ensures in

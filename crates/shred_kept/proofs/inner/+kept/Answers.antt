@@ -1,7 +1,7 @@
 use Rattle.std.proofs.Common.{◌≡◌, ◌≤◌, ◌+◌, ◌-◌, Ok, List, length, refl, sym, ◌∙◌, ap, subst, arith, rules, Err, ◌∷◌, []}
 use Rattle.std.proofs.Math.ListN.{set}
 use Rattle.std.proofs.lemmas.List.{with_items_is}
-use Rattle.shred_run.specs.Depths.{Owns, WorkStep, lists_of, relations_of}
+use Rattle.shred_run.specs.Depths.{Owns, WorkStep, lists_of, steps_of}
 use Rattle.shred_run.specs.Entries.{entry_answer}
 use Rattle.shred_run.specs.Rules.{bound_of}
 use Rattle.shred_run.specs.TurnsOver.{TookTurnOver}
@@ -70,16 +70,16 @@ run_in_place-returns-in-Err g t c =
     one-took c.args.group.now _ entry c.run_work.new.work was (ap (λ entries. set entries 0 (record entry { work = c.run_work.new.work })) was) c.args.own.now c.run_work.result c.run_work.new.own (rw (c.as_slice.ensures.value, c.as_slice-2.ensures.value) at c.run_work.ensures.stepped) (Err (System c.index_mut-entry.result.now.id c.in-Err.fault)) (ap (entry_answer entry.id.0) (sym c.in-Err.is)) c.requires.own_lists c.requires.room refl refl refl
 
 pub run_work-overflow_sub-depth : goal.run_work-overflow_sub-depth
-run_work-overflow_sub-depth g t c = batch-deep (lists_of g.S.System.reads g.S.System.writes g.C.BatchController.reads g.C.BatchController.writes) c.args.at c.args.reads.now c.args.writes.now c.in-Batch.is c.depth_by-depth.ensures c.requires.own_lists
+run_work-overflow_sub-depth g t c = batch-deep (lists_of g.S.System g.C.BatchController) c.args.at c.args.reads.now c.args.writes.now c.in-Batch.is c.depth_by-depth.ensures c.requires.own_lists
 
 pub run_work-run_batch-requires : goal.run_work-run_batch-requires
 run_work-run_batch-requires g t c κs within =
     let below : c.depth_by-depth.result ≤ bound_of c.args.at = rule-below c.args.at c.args.work.now c.depth_by-depth.result c.depth_by-depth.ensures (omega arith) in
-    let deep : 1 ≤ c.depth_by-depth.result = batch-deep (lists_of g.S.System.reads g.S.System.writes g.C.BatchController.reads g.C.BatchController.writes) c.args.at c.args.reads.now c.args.writes.now c.in-Batch.is c.depth_by-depth.ensures c.requires.own_lists in
-    ((let fall = c.decreases in omega (arith, deep, below, fall)), bounded_beside within (c.requires.before, batch-within (lists_of g.S.System.reads g.S.System.writes g.C.BatchController.reads g.C.BatchController.writes) c.args.at c.args.reads.now c.args.writes.now c.in-Batch.is c.depth_by-depth.ensures c.requires.own_lists))
+    let deep : 1 ≤ c.depth_by-depth.result = batch-deep (lists_of g.S.System g.C.BatchController) c.args.at c.args.reads.now c.args.writes.now c.in-Batch.is c.depth_by-depth.ensures c.requires.own_lists in
+    ((let fall = c.decreases in omega (arith, deep, below, fall)), bounded_beside within (c.requires.before, batch-within (lists_of g.S.System g.C.BatchController) c.args.at c.args.reads.now c.args.writes.now c.in-Batch.is c.depth_by-depth.ensures c.requires.own_lists))
 
 pub run_work-returns : goal.run_work-returns
-run_work-returns g t c = record { stepped = ran-batch (lists_of g.S.System.reads g.S.System.writes g.C.BatchController.reads g.C.BatchController.writes) c.args.at c.args.reads.now c.args.writes.now (relations_of (lists_of g.S.System.reads g.S.System.writes g.C.BatchController.reads g.C.BatchController.writes) g.S.System.step g.C.BatchController.begins g.C.BatchController.asks) c.in-Batch.is c.depth_by-depth.ensures c.requires.own_lists (ap (λ level. level.batch) (out-roll-Nested _ _ _ _)) c.run_batch.ensures }
+run_work-returns g t c = record { stepped = ran-batch (lists_of g.S.System g.C.BatchController) c.args.at c.args.reads.now c.args.writes.now (steps_of g.S.System g.C.BatchController) c.in-Batch.is c.depth_by-depth.ensures c.requires.own_lists (ap (λ level. level.batch) (out-roll-Nested _ _ _ _)) c.run_batch.ensures }
 
 pub turn-turn_groups-requires : goal.turn-turn_groups-requires
 turn-turn_groups-requires g t c κs within =
@@ -88,9 +88,9 @@ turn-turn_groups-requires g t c κs within =
 pub turn-returns : goal.turn-returns
 turn-returns g t c =
     let kind = g.V.ResourceValue.kind_of in
-    let declared = lists_of g.S.System.reads g.S.System.writes g.C.BatchController.reads g.C.BatchController.writes in
+    let declared = lists_of g.S.System g.C.BatchController in
     let own = Owns declared c.args.less in
-    let step = WorkStep kind (relations_of declared g.S.System.step g.C.BatchController.begins g.C.BatchController.asks) c.args.less in
+    let step = WorkStep kind (steps_of g.S.System g.C.BatchController) c.args.less in
     subst (λ (shelf : List (Shelf g.row.V.Denot)). TookTurnOver kind own step (lent_slot shelf) c.args.tier.now.groups.items c.args.own.now c.turn_groups.result c.turn_groups.new.groups.items c.turn_groups.new.own) (sym c.requires.bare) c.turn_groups.ensures
 
 pub turn_groups-returns-then-is_lone_batch : goal.turn_groups-returns-then-is_lone_batch

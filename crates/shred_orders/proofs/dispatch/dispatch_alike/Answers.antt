@@ -1,4 +1,4 @@
-use Rattle.shred_run.specs.Depths.{lists_of, relations_of}
+use Rattle.shred_run.specs.Depths.{lists_of, steps_of}
 use Rattle.shred.specs.FullRuns.{whole_over}
 use Rattle.shred_orders.proofs.OfKinds.{world-of-kinds}
 use Rattle.shred_orders.proofs.OneEnd.{full-run-alike, full-run-alike-done}
@@ -9,8 +9,8 @@ use Rattle.shred_orders.proofs.dispatch.dispatch_alike.Goals as goal
 pub returns : goal.returns
 returns g c =
     let kind = g.V.ResourceValue.kind_of in
-    let related = relations_of (lists_of g.S.System.reads g.S.System.writes g.C.BatchController.reads g.C.BatchController.writes) g.S.System.step g.C.BatchController.begins g.C.BatchController.asks in
-    let declared = lists_of g.S.System.reads g.S.System.writes g.C.BatchController.reads g.C.BatchController.writes in
+    let related = steps_of g.S.System g.C.BatchController in
+    let declared = lists_of g.S.System g.C.BatchController in
     let ran = c.dispatch-one.ensures.dispatched in
     let too = c.dispatch-two.ensures.dispatched in
     let before = whole_over kind c.args.first.now c.args.world.now in

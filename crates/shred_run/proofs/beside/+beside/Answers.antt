@@ -1,7 +1,7 @@
 use Rattle.std.proofs.Common.{◌≡◌, ℕ, ◌≤◌, ◌==◌, ◌+◌, ◌-◌, Ok, List, length, refl, sym, ◌∙◌, ap, subst, subst₂, get_or, arith, rules, All, None, true, Err, ◌∷◌, []}
 use Rattle.shred_run.proofs.Runs.Handed.{handed}
 use Rattle.shred_run.proofs.Circle.Tiers.{tiers-end, tiers-fault, tiers-next, tiers-start, groups-back, groups-ready, groups-took, out-slots}
-use Rattle.shred_run.specs.Depths.{Owns, WorkStep, lists_of, relations_of}
+use Rattle.shred_run.specs.Depths.{Owns, WorkStep, lists_of, steps_of}
 use Rattle.shred_run.specs.declared.work.Nested.TheViews.{out-roll-Nested}
 use Rattle.shred_run.proofs.Called.{AllWent-called}
 use Rattle.shred_run.proofs.Circle.Entries.{entries-more, entries-start, entry-slots, group-done, group-faulted}
@@ -78,8 +78,8 @@ pub turn-returns : goal.turn-returns
 turn-returns g t c =
     let same : length c.turn_groups.new.groups ≡ c.args.tier.now.groups.len = search rules in
     let kind = g.V.ResourceValue.kind_of in
-    let own = Owns (lists_of g.S.System.reads g.S.System.writes g.C.BatchController.reads g.C.BatchController.writes) c.args.less in
-    let step = WorkStep kind (relations_of (lists_of g.S.System.reads g.S.System.writes g.C.BatchController.reads g.C.BatchController.writes) g.S.System.step g.C.BatchController.begins g.C.BatchController.asks) c.args.less in
+    let own = Owns (lists_of g.S.System g.C.BatchController) c.args.less in
+    let step = WorkStep kind (steps_of g.S.System g.C.BatchController) c.args.less in
     subst₂ (λ old new. TookTurnOver kind own step (lent_slot c.args.loan.now.shelf.now) old c.args.own.now c.turn_groups.result new c.turn_groups.new.own) c.as_mut_slice-groups.ensures.value (sym (with_items_is c.args.tier.now.groups c.turn_groups.new.groups same)) c.turn_groups.ensures
 
 pub turn_groups-move_groups_out-requires : goal.turn_groups-move_groups_out-requires
@@ -118,10 +118,10 @@ run_in_place-returns-in-Err g t c =
 
 pub run_groups-returns : goal.run_groups-returns
 run_groups-returns g t c =
-    AllWent-called _ _ (GroupWent g.V.ResourceValue.kind_of (RuleStep g.V.ResourceValue.kind_of (relations_of (lists_of g.S.System.reads g.S.System.writes g.C.BatchController.reads g.C.BatchController.writes) g.S.System.step g.C.BatchController.begins g.C.BatchController.asks) c.args.at) (RuleOwns (lists_of g.S.System.reads g.S.System.writes g.C.BatchController.reads g.C.BatchController.writes) c.args.at) (lent_slot c.args.shelf.now)) (λ lane after a went. went) c.args.groups.now c.run_lanes.result c.run_lanes.new.lanes c.run_lanes.ensures
+    AllWent-called _ _ (GroupWent g.V.ResourceValue.kind_of (RuleStep g.V.ResourceValue.kind_of (steps_of g.S.System g.C.BatchController) c.args.at) (RuleOwns (lists_of g.S.System g.C.BatchController) c.args.at) (lent_slot c.args.shelf.now)) (λ lane after a went. went) c.args.groups.now c.run_lanes.result c.run_lanes.new.lanes c.run_lanes.ensures
 
 pub run_groups-run_lanes-requires-after_bounds : goal.run_groups-run_lanes-requires-after_bounds
-run_groups-run_lanes-requires-after_bounds g t c κs within = λ k d below lane at. ((let down = c.decreases in omega (arith, down)), ((λ a m. m), ((λ a m. m), ((λ a m. m), ((λ a m. m), ((λ a m. m), ((λ a m. m), ((λ a m. m), (omega arith, ((search rules, search rules, subst (IsReady (RuleOwns (lists_of g.S.System.reads g.S.System.writes g.C.BatchController.reads g.C.BatchController.writes) c.args.at) (lent_slot c.args.shelf.now)) (sym at) (c.requires.ready k d below)), (search rules, search rules, search rules, search rules, search rules, search rules, search rules, search rules)))))))))))
+run_groups-run_lanes-requires-after_bounds g t c κs within = λ k d below lane at. ((let down = c.decreases in omega (arith, down)), ((λ a m. m), ((λ a m. m), ((λ a m. m), ((λ a m. m), ((λ a m. m), ((λ a m. m), ((λ a m. m), (omega arith, ((search rules, search rules, subst (IsReady (RuleOwns (lists_of g.S.System g.C.BatchController) c.args.at) (lent_slot c.args.shelf.now)) (sym at) (c.requires.ready k d below)), (search rules, search rules, search rules, search rules, search rules, search rules, search rules, search rules)))))))))))
 
 pub run_group-loop-entry-init : goal.run_group-loop-entry-init
 run_group-loop-entry-init g t c =
@@ -160,20 +160,20 @@ pub run_entry-returns-then-single-clause-stepped : goal.run_entry-returns-then-s
 run_entry-returns-then-single-clause-stepped g t c = rw (c.as_slice.ensures.value, c.as_slice-then-single.ensures.value) at c.run_work.ensures.stepped
 
 pub run_work-call_over-requires-clause-own_lists : goal.run_work-call_over-requires-clause-own_lists
-run_work-call_over-requires-clause-own_lists g t c = system-lists (lists_of g.S.System.reads g.S.System.writes g.C.BatchController.reads g.C.BatchController.writes) c.args.reads.now c.args.writes.now (rule_depth c.args.at c.args.work.now) c.args.work.now c.in-System.system c.in-System.is c.requires.own_lists
+run_work-call_over-requires-clause-own_lists g t c = system-lists (lists_of g.S.System g.C.BatchController) c.args.reads.now c.args.writes.now (rule_depth c.args.at c.args.work.now) c.args.work.now c.in-System.system c.in-System.is c.requires.own_lists
 
 pub run_work-overflow_sub-depth : goal.run_work-overflow_sub-depth
-run_work-overflow_sub-depth g t c = batch-deep (lists_of g.S.System.reads g.S.System.writes g.C.BatchController.reads g.C.BatchController.writes) c.args.at c.args.reads.now c.args.writes.now c.in-Batch.is c.depth_by-depth.ensures c.requires.own_lists
+run_work-overflow_sub-depth g t c = batch-deep (lists_of g.S.System g.C.BatchController) c.args.at c.args.reads.now c.args.writes.now c.in-Batch.is c.depth_by-depth.ensures c.requires.own_lists
 
 pub run_work-run_batch-requires : goal.run_work-run_batch-requires
 run_work-run_batch-requires g t c κs within =
     let below : c.depth_by-depth.result ≤ bound_of c.args.at = rule-below c.args.at c.args.work.now c.depth_by-depth.result c.depth_by-depth.ensures (omega arith) in
-    let deep : 1 ≤ c.depth_by-depth.result = batch-deep (lists_of g.S.System.reads g.S.System.writes g.C.BatchController.reads g.C.BatchController.writes) c.args.at c.args.reads.now c.args.writes.now c.in-Batch.is c.depth_by-depth.ensures c.requires.own_lists in
-    ((let fall = c.decreases in omega (arith, deep, below, fall)), bounded_beside within (search rules, (search rules, (search rules, (search rules, (search rules, (search rules, (search rules, (search rules, (c.requires.before, batch-within (lists_of g.S.System.reads g.S.System.writes g.C.BatchController.reads g.C.BatchController.writes) c.args.at c.args.reads.now c.args.writes.now c.in-Batch.is c.depth_by-depth.ensures c.requires.own_lists))))))))))
+    let deep : 1 ≤ c.depth_by-depth.result = batch-deep (lists_of g.S.System g.C.BatchController) c.args.at c.args.reads.now c.args.writes.now c.in-Batch.is c.depth_by-depth.ensures c.requires.own_lists in
+    ((let fall = c.decreases in omega (arith, deep, below, fall)), bounded_beside within (search rules, (search rules, (search rules, (search rules, (search rules, (search rules, (search rules, (search rules, (c.requires.before, batch-within (lists_of g.S.System g.C.BatchController) c.args.at c.args.reads.now c.args.writes.now c.in-Batch.is c.depth_by-depth.ensures c.requires.own_lists))))))))))
 
 pub run_work-returns-in-System : goal.run_work-returns-in-System
 run_work-returns-in-System g t c =
-    record { stepped = ran-system (lists_of g.S.System.reads g.S.System.writes g.C.BatchController.reads g.C.BatchController.writes) c.args.at c.args.reads.now c.args.writes.now (relations_of (lists_of g.S.System.reads g.S.System.writes g.C.BatchController.reads g.C.BatchController.writes) g.S.System.step g.C.BatchController.begins g.C.BatchController.asks) c.in-System.is c.call_over.ensures }
+    record { stepped = ran-system (lists_of g.S.System g.C.BatchController) c.args.at c.args.reads.now c.args.writes.now (steps_of g.S.System g.C.BatchController) c.in-System.is c.call_over.ensures }
 
 pub run_work-returns-in-Batch : goal.run_work-returns-in-Batch
-run_work-returns-in-Batch g t c = record { stepped = ran-batch (lists_of g.S.System.reads g.S.System.writes g.C.BatchController.reads g.C.BatchController.writes) c.args.at c.args.reads.now c.args.writes.now (relations_of (lists_of g.S.System.reads g.S.System.writes g.C.BatchController.reads g.C.BatchController.writes) g.S.System.step g.C.BatchController.begins g.C.BatchController.asks) c.in-Batch.is c.depth_by-depth.ensures c.requires.own_lists (ap (λ level. level.batch) (out-roll-Nested _ _ _ _)) c.run_batch.ensures }
+run_work-returns-in-Batch g t c = record { stepped = ran-batch (lists_of g.S.System g.C.BatchController) c.args.at c.args.reads.now c.args.writes.now (steps_of g.S.System g.C.BatchController) c.in-Batch.is c.depth_by-depth.ensures c.requires.own_lists (ap (λ level. level.batch) (out-roll-Nested _ _ _ _)) c.run_batch.ensures }

@@ -1,7 +1,7 @@
 use Rattle.std.proofs.Common.{◌+◌, ◌*◌, ◌-◌}
 use Rattle.shred_run.specs.Rules.{RuleOwns, RuleStep, bound_of}
 use Rattle.shred_run.specs.Controls.{keeping}
-use Rattle.shred_run.specs.Depths.{Owns, WorkStep, lists_of, relations_of}
+use Rattle.shred_run.specs.Depths.{Owns, WorkStep, lists_of, steps_of}
 use Rattle.shred_world.specs.Views.{lent_slot}
 use Rattle.shred_run.proofs.Circle.Entries.{EntriesRan}
 use Rattle.shred_run.proofs.Circle.Rounds.{RoundsRan}
@@ -45,10 +45,10 @@ abbrev pub decreases-run_batch : goal.decreases-run_batch
 decreases-run_batch g l = 32 * l.less + 17
 
 abbrev pub invariant-rounds-loop-round : goal.invariant-rounds-loop-round
-invariant-rounds-loop-round g l = RoundsRan g.V.ResourceValue.kind_of (Owns (lists_of g.S.System.reads g.S.System.writes g.C.BatchController.reads g.C.BatchController.writes) l.less) (WorkStep g.V.ResourceValue.kind_of (relations_of (lists_of g.S.System.reads g.S.System.writes g.C.BatchController.reads g.C.BatchController.writes) g.S.System.step g.C.BatchController.begins g.C.BatchController.asks) l.less) l.loan g.C.BatchController.reads g.C.BatchController.writes (keeping g.C.BatchController.reads g.C.BatchController.writes g.C.BatchController.asks) l.most l.initial.control l.initial.tiers l.initial.own (l.most - l.round) l.control l.tiers l.own
+invariant-rounds-loop-round g l = RoundsRan g.V.ResourceValue.kind_of (Owns (lists_of g.S.System g.C.BatchController) l.less) (WorkStep g.V.ResourceValue.kind_of (steps_of g.S.System g.C.BatchController) l.less) l.loan g.C.BatchController.reads g.C.BatchController.writes (keeping g.C.BatchController.reads g.C.BatchController.writes g.C.BatchController.asks) l.most l.initial.control l.initial.tiers l.initial.own (l.most - l.round) l.control l.tiers l.own
 
 abbrev pub invariant-run_tiers-loop-tier : goal.invariant-run_tiers-loop-tier
-invariant-run_tiers-loop-tier g l = TiersRan g.V.ResourceValue.kind_of (Owns (lists_of g.S.System.reads g.S.System.writes g.C.BatchController.reads g.C.BatchController.writes) l.less) (WorkStep g.V.ResourceValue.kind_of (relations_of (lists_of g.S.System.reads g.S.System.writes g.C.BatchController.reads g.C.BatchController.writes) g.S.System.step g.C.BatchController.begins g.C.BatchController.asks) l.less) l.loan l.initial.tiers l.initial.own l.tier-index l.tiers l.own
+invariant-run_tiers-loop-tier g l = TiersRan g.V.ResourceValue.kind_of (Owns (lists_of g.S.System g.C.BatchController) l.less) (WorkStep g.V.ResourceValue.kind_of (steps_of g.S.System g.C.BatchController) l.less) l.loan l.initial.tiers l.initial.own l.tier-index l.tiers l.own
 
 abbrev pub invariant-run_group-loop-entry : goal.invariant-run_group-loop-entry
-invariant-run_group-loop-entry g l = EntriesRan g.V.ResourceValue.kind_of (RuleOwns (lists_of g.S.System.reads g.S.System.writes g.C.BatchController.reads g.C.BatchController.writes) l.at) (RuleStep g.V.ResourceValue.kind_of (relations_of (lists_of g.S.System.reads g.S.System.writes g.C.BatchController.reads g.C.BatchController.writes) g.S.System.step g.C.BatchController.begins g.C.BatchController.asks) l.at) (lent_slot l.shelf) l.single l.initial.entries l.initial.hand l.entry-index l.entries l.hand
+invariant-run_group-loop-entry g l = EntriesRan g.V.ResourceValue.kind_of (RuleOwns (lists_of g.S.System g.C.BatchController) l.at) (RuleStep g.V.ResourceValue.kind_of (steps_of g.S.System g.C.BatchController) l.at) (lent_slot l.shelf) l.single l.initial.entries l.initial.hand l.entry-index l.entries l.hand

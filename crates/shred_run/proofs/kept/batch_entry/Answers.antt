@@ -25,7 +25,7 @@ returns-clause-own_lists g c =
     let next : c.in-Some.depth ≡ c.deepest.result + 1 = search rules in
     let deep : c.in-Some.depth ≡ suc c.deepest.result = omega (arith, next) in
     record {
-      lists = batch-owned (lists_of g.S.System.reads g.S.System.writes g.C.BatchController.reads g.C.BatchController.writes) c.in_ok-reads.reads.items c.in_ok-reads.writes.items c.deepest.result
+      lists = batch-owned (lists_of g.S.System g.C.BatchController) c.in_ok-reads.reads.items c.in_ok-reads.writes.items c.deepest.result
           (roll-Nested g.row.V.Denot g.row.S.Denot g.row.C.Denot (record { batch = record { control = c.in_ok-control.control; tiers = c.args.tiers; depth = c.in-Some.depth } }))
           (record { control = c.in_ok-control.control; tiers = c.args.tiers; depth = c.in-Some.depth }) (ap (λ level. level.batch) (out-roll-Nested _ _ _ _)) deep c.in_ok-control.ensures.own c.deepest.ensures.noted c.requires reads writes;
       hand = c.in_ok-reads.ensures.hand;

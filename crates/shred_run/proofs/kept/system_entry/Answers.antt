@@ -25,7 +25,7 @@ returns-clause-own_lists g c =
     let ids : c.as_slice.result.now ≡ c.in_ok-writes.writes.items = search rules in
     record {
       hand = subst (λ (ids : List ResourceId). IsEmptyHand ids c.in_ok-hand.hand) ids c.in_ok-hand.ensures;
-      lists = system-owns g.row.V.Denot (lists_of g.S.System.reads g.S.System.writes g.C.BatchController.reads g.C.BatchController.writes) c.args.system sorted.new.ids.items c.in_ok-writes.writes.items (own_lists-of_same (g.S.System.reads c.args.system) (g.S.System.writes c.args.system) sorted.new.ids.items c.in_ok-writes.writes.items
+      lists = system-owns g.row.V.Denot (lists_of g.S.System g.C.BatchController) c.args.system sorted.new.ids.items c.in_ok-writes.writes.items (own_lists-of_same (g.S.System.reads c.args.system) (g.S.System.writes c.args.system) sorted.new.ids.items c.in_ok-writes.writes.items
           (rw given at sorted.ensures.same)
           (c.in_ok-writes.ensures ∙ c.in_ok-accessor.ensures.writes));
     }

@@ -35,8 +35,8 @@ abbrev pub invariant-set_up_tiers-loop-tier : goal.invariant-set_up_tiers-loop-t
 invariant-set_up_tiers-loop-tier g l = record {
   plan : tiers_plan l.tiers ≡ tiers_plan l.initial.tiers;
   ids : map tier_numbers l.tiers ≡ map tier_numbers l.initial.tiers;
-  groups : All (HasOwnGroups (Owns (lists_of g.S.System.reads g.S.System.writes g.C.BatchController.reads g.C.BatchController.writes) l.less)) l.tiers;
-  turns : TurnsSoFar (λ place. TierSetup (WorkSetup (setups_of (lists_of g.S.System.reads g.S.System.writes g.C.BatchController.reads g.C.BatchController.writes) g.S.System.sets_up g.C.BatchController.sets_up) l.less)) l.tier-index l.initial.tiers (world_held g.V.ResourceValue.kind_of l.initial.world) l.tiers (world_held g.V.ResourceValue.kind_of l.world);
+  groups : All (HasOwnGroups (Owns (lists_of g.S.System g.C.BatchController) l.less)) l.tiers;
+  turns : TurnsSoFar (λ place. TierSetup (WorkSetup (setups_of g.S.System g.C.BatchController) l.less)) l.tier-index l.initial.tiers (world_held g.V.ResourceValue.kind_of l.initial.world) l.tiers (world_held g.V.ResourceValue.kind_of l.world);
 }
 
 abbrev pub decreases-set_up_entry : goal.decreases-set_up_entry
@@ -46,14 +46,14 @@ abbrev pub invariant-set_up_groups-loop-group : goal.invariant-set_up_groups-loo
 invariant-set_up_groups-loop-group g l = record {
   plan : map group_plan l.groups ≡ map group_plan l.initial.groups;
   ids : map group_numbers l.groups ≡ map group_numbers l.initial.groups;
-  owns : All (IsGroupOf (RuleOwns (lists_of g.S.System.reads g.S.System.writes g.C.BatchController.reads g.C.BatchController.writes) l.at)) l.groups;
+  owns : All (IsGroupOf (RuleOwns (lists_of g.S.System g.C.BatchController) l.at)) l.groups;
   room : All KeepsRoom l.groups;
-  turns : TurnsSoFar (λ place. GroupSetup (RuleSetup (setups_of (lists_of g.S.System.reads g.S.System.writes g.C.BatchController.reads g.C.BatchController.writes) g.S.System.sets_up g.C.BatchController.sets_up) l.at)) l.group-index l.initial.groups (world_held g.V.ResourceValue.kind_of l.initial.world) l.groups (world_held g.V.ResourceValue.kind_of l.world);
+  turns : TurnsSoFar (λ place. GroupSetup (RuleSetup (setups_of g.S.System g.C.BatchController) l.at)) l.group-index l.initial.groups (world_held g.V.ResourceValue.kind_of l.initial.world) l.groups (world_held g.V.ResourceValue.kind_of l.world);
 }
 
 abbrev pub invariant-set_up_entries-loop-entry : goal.invariant-set_up_entries-loop-entry
 invariant-set_up_entries-loop-entry g l = record {
   plan : map entry_plan l.entries ≡ map entry_plan l.initial.entries;
-  owns : All (IsEntryOf (RuleOwns (lists_of g.S.System.reads g.S.System.writes g.C.BatchController.reads g.C.BatchController.writes) l.at)) l.entries;
-  turns : TurnsSoFar (λ place. EntrySetup (RuleSetup (setups_of (lists_of g.S.System.reads g.S.System.writes g.C.BatchController.reads g.C.BatchController.writes) g.S.System.sets_up g.C.BatchController.sets_up) l.at)) l.entry-index l.initial.entries (world_held g.V.ResourceValue.kind_of l.initial.world) l.entries (world_held g.V.ResourceValue.kind_of l.world);
+  owns : All (IsEntryOf (RuleOwns (lists_of g.S.System g.C.BatchController) l.at)) l.entries;
+  turns : TurnsSoFar (λ place. EntrySetup (RuleSetup (setups_of g.S.System g.C.BatchController) l.at)) l.entry-index l.initial.entries (world_held g.V.ResourceValue.kind_of l.initial.world) l.entries (world_held g.V.ResourceValue.kind_of l.world);
 }

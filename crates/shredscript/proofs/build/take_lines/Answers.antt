@@ -1,7 +1,7 @@
 use Rattle.std.proofs.Common.{[], ◌≡◌, ◌∙◌, ap, append-nil, arith, inr, length, map, refl, rules, subst, sym}
 use Rattle.std.proofs.lemmas.List.{map-append, nil_from_length}
 use Rattle.std.specs.Vec.Iter.{into_iter_items}
-use Rattle.shredscript.specs.Building.{state_of, values_of}
+use Rattle.shredscript.specs.Building.{building_of, values_of}
 use Rattle.shredscript.specs.Lines.{AreBuiltBy}
 use Rattle.shredscript.specs.Notes.{begun}
 use Rattle.shredscript.proofs.Lines.{built-none, built-more, done-more, noted-more}
@@ -21,7 +21,7 @@ loop-line-preserved g c =
     let now = c.loop-line.invariant in
     let taken = c.in_default.ensures.taken in
     record {
-      made = built-more c.loop-line.yielded c.in-Some.line (state_of N c.loop-line.building) (state_of N c.take_line.new.building) now.made taken.0;
+      made = built-more c.loop-line.yielded c.in-Some.line (building_of N c.loop-line.building) (building_of N c.take_line.new.building) now.made taken.0;
       noted = noted-more N c.loop-line.yielded c.in-Some.line (record { current = c.args.empty; pending = [] }) (values_of c.loop-line.building) (values_of c.take_line.new.building) now.noted taken;
       rest = done-more c.loop-line.yielded _ _ c.args.lines.items c.in-Some.line c.in-Some.ensures.steps.0 now.rest;
       long = let was = now.long in let gone = c.in-Some.ensures.steps.1 in let short = ap length c.in-Some.ensures.steps.0 in omega arith;
@@ -35,8 +35,8 @@ returns-in-Some-pop-clause-not_built g c =
     let done : at.yielded ≡ c.args.lines.items = sym (append-nil at.yielded) ∙ rw empty at at.invariant.rest in
     let rest = c.pop.new.self.items in
     inr (record {
-      building = state_of N at.building;
-      made = subst (λ lines. AreBuiltBy lines (state_of N at.building)) done at.invariant.made;
+      building = building_of N at.building;
+      made = subst (λ lines. AreBuiltBy lines (building_of N at.building)) done at.invariant.made;
       outer = map (begun N) rest;
       batch = c.in-Some-pop.batch;
       around = N.comes_to c.in-Some-pop.field-0-1;

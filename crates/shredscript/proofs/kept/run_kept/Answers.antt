@@ -1,5 +1,5 @@
 use Rattle.std.proofs.Common.{◌≡◌, ℕ, List, [], map, IsTrue, subst, sym, ◌∙◌, ap}
-use Rattle.shredscript_text.specs.Declares.{has_place, places_written}
+use Rattle.shredscript_text.specs.Declares.{is_among, places_written}
 use Rattle.shredscript.specs.Overlaid.{kept_place, overlaid}
 use Rattle.shredscript.specs.Steps.{steps_left, steps_outcome}
 use Rattle.shredscript.proofs.Declares.{each-step, every-place}
@@ -9,17 +9,17 @@ use Rattle.shredscript.proofs.kept.run_kept.Goals as goal
 pub run_steps-outcome-requires-clause-writes : goal.run_steps-outcome-requires-clause-writes
 run_steps-outcome-requires-clause-writes g c =
     let places : map kept_place c.keep.new.self.written.items ≡ places_written [] c.args.steps.now = c.in_ok-keep.ensures.places ∙ c.requires.written in
-    each-step (λ (place : ℕ). IsTrue (has_place (map kept_place c.keep.new.self.written.items) place)) c.args.steps.now (λ place has. subst (λ (places : List ℕ). IsTrue (has_place places place)) (sym places) has)
+    each-step (λ (place : ℕ). IsTrue (is_among (map kept_place c.keep.new.self.written.items) place)) c.args.steps.now (λ place has. subst (λ (places : List ℕ). IsTrue (is_among places place)) (sym places) has)
 
 pub write_kept-requires-clause-allowed : goal.write_kept-requires-clause-allowed
 write_kept-requires-clause-allowed g c =
     let kept : map kept_place c.as_slice.result.now ≡ places_written [] c.args.steps.now = ap (map kept_place) c.as_slice.ensures.value ∙ c.run_steps-outcome.ensures.keeps.2 ∙ c.in_ok-keep.ensures.places ∙ c.requires.written in
-    λ place has. every-place (g.N.Numbers.allows c.args.numbers.now) c.args.steps.now c.requires.writes place (subst (λ (places : List ℕ). IsTrue (has_place places place)) kept has)
+    λ place has. every-place (g.N.Numbers.allows c.args.numbers.now) c.args.steps.now c.requires.writes place (subst (λ (places : List ℕ). IsTrue (is_among places place)) kept has)
 
 pub write_kept-requires-clause-held : goal.write_kept-requires-clause-held
 write_kept-requires-clause-held g c =
     let kept : map kept_place c.as_slice.result.now ≡ map kept_place c.keep.new.self.written.items = ap (map kept_place) c.as_slice.ensures.value ∙ c.run_steps-outcome.ensures.keeps.2 in
-    λ place has. held-places (g.N.Numbers.seen c.args.numbers.now) c.keep.new.self.written.items c.in_ok-keep.ensures.written place (subst (λ (places : List ℕ). IsTrue (has_place places place)) kept has)
+    λ place has. held-places (g.N.Numbers.seen c.args.numbers.now) c.keep.new.self.written.items c.in_ok-keep.ensures.written place (subst (λ (places : List ℕ). IsTrue (is_among places place)) kept has)
 
 pub returns-clause-outcome : goal.returns-clause-outcome
 returns-clause-outcome g c =

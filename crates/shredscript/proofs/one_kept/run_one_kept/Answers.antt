@@ -2,7 +2,7 @@ use Rattle.std.proofs.Common.{◌≡◌, ℕ, List, [], ◌∷◌, Some, IsSome,
 use Rattle.std.proofs.lemmas.Int.{to_z-of_z}
 use Rattle.shred_table.specs.Slots.{with_at}
 use Rattle.shredscript_text.specs.Change.{change_left}
-use Rattle.shredscript_text.specs.Declares.{has_place}
+use Rattle.shredscript_text.specs.Declares.{is_among}
 use Rattle.shredscript_text.specs.Place.{id_at, number_at}
 use Rattle.shredscript_text.proofs.Changed.{changed-set, put-same}
 use Rattle.shredscript.specs.declared.kept.KeptNumber.{KeptNumber}
@@ -14,13 +14,13 @@ use Rattle.shredscript.proofs.one_kept.run_one_kept.Goals as goal
 
 pub run_steps-outcome-requires-clause-writes : goal.run_steps-outcome-requires-clause-writes
 run_steps-outcome-requires-clause-writes g c =
-    each-step (λ (other : ℕ). c.args.place ≡ other) c.args.steps.now (λ other has. only-place c.args.place other (subst (λ (places : List ℕ). IsTrue (has_place places other)) c.requires.written has))
+    each-step (λ (other : ℕ). c.args.place ≡ other) c.args.steps.now (λ other has. only-place c.args.place other (subst (λ (places : List ℕ). IsTrue (is_among places other)) c.requires.written has))
 
 pub change-requires-clause-allowed : goal.change-requires-clause-allowed
 change-requires-clause-allowed g c =
     let kept = c.run_steps-outcome.new.numbers.kept in
     let one : KeptNumber = record kept { place = c.args.place } in
-    every-place (g.N.Numbers.allows c.args.numbers.now) c.args.steps.now c.requires.writes c.args.place (subst (λ (places : List ℕ). IsTrue (has_place places c.args.place)) (sym c.requires.written) (has-first (one ∷ []) [] one refl))
+    every-place (g.N.Numbers.allows c.args.numbers.now) c.args.steps.now c.requires.writes c.args.place (subst (λ (places : List ℕ). IsTrue (is_among places c.args.place)) (sym c.requires.written) (has-first (one ∷ []) [] one refl))
 
 pub returns-clause-left : goal.returns-clause-left
 returns-clause-left g c =

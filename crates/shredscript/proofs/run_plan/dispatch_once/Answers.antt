@@ -5,7 +5,7 @@ use Rattle.shred_stage.specs.Situations.{dispatch_answer}
 use Rattle.shred_world.specs.Worlds.{world_held}
 use Rattle.shred.specs.Dispatchers.{dispatcher_over}
 use Rattle.shredscript.specs.Runs.{script_related}
-use Rattle.shredscript_text.specs.Value.{kind_of}
+use Rattle.shredscript_text.specs.Value.{value_kind}
 use Rattle.shredscript.proofs.run_plan.dispatch_once.Goals as goal
 
 pub returns-in-Ok : goal.returns-in-Ok
@@ -14,9 +14,9 @@ returns-in-Ok g c =
     let states = fun_ext later.states in
     record {
       of_plan = Ok tt;
-      middle = world_held kind_of c.dispatch_seq.new.world;
-      dispatched = subst (λ after. Dispatched kind_of script_related dispatch_answer (dispatcher_over kind_of c.args.dispatcher.now c.args.world.now) (Ok tt) after)
-          (λ i. record { plan = sym later.plan i; works = sym states i; values = world_held kind_of c.dispatch_seq.new.world }) c.in-Ok.ensures.dispatched;
+      middle = world_held value_kind c.dispatch_seq.new.world;
+      dispatched = subst (λ after. Dispatched value_kind script_related dispatch_answer (dispatcher_over value_kind c.args.dispatcher.now c.args.world.now) (Ok tt) after)
+          (λ i. record { plan = sym later.plan i; works = sym states i; values = world_held value_kind c.dispatch_seq.new.world }) c.in-Ok.ensures.dispatched;
       locals = rw c.in-Ok.ensures.locals at later.run;
       workers = later.workers ∙ c.in-Ok.ensures.workers;
     }
@@ -24,7 +24,7 @@ returns-in-Ok g c =
 pub returns-in-Err : goal.returns-in-Err
 returns-in-Err g c = record {
   of_plan = Err c.in-Err.error;
-  middle = world_held kind_of c.dispatch_seq.new.world;
+  middle = world_held value_kind c.dispatch_seq.new.world;
   dispatched = c.in-Err.ensures.dispatched;
   locals = (c.in-Err.ensures.locals, refl, refl);
   workers = c.in-Err.ensures.workers;

@@ -4,8 +4,8 @@ use Rattle.indexmap.specs.IndexMap.{values}
 use Rattle.shred.specs.Builders.{built, builder_pairs}
 use Rattle.shred.specs.FullRuns.{whole_over}
 use Rattle.shred.proofs.Names.KnownNames.{names-known}
-use Rattle.shredscript_text.specs.Report.{first_held}
-use Rattle.shredscript_text.specs.Value.{kind_of}
+use Rattle.shredscript_text.specs.Report.{numbers_held}
+use Rattle.shredscript_text.specs.Value.{value_kind}
 use Rattle.shredscript.specs.PlanTexts.{IsPlanPart}
 use Rattle.shredscript.proofs.Runs.{not-run, program-of}
 use Rattle.shredscript.proofs.run_plan.prepare.Goals as goal
@@ -28,7 +28,7 @@ returns-clause-ready c =
         known = names-known builder.names builder.distinct_names;
         planned = subst (λ (text : List ℕ). IsPlanPart c.args.script.prints_plan (builder_pairs builder) (built builder).plan text) (sym c.reserve.ensures.items) of_plan.text;
       };
-      program = program-of (built builder) (first_held (values c.args.script.resources)) (whole_over kind_of c.in_ok-dispatcher.dispatcher c.in_ok-world.world) of_plan.plan of_plan.states (fun_ext c.in_ok-world.ensures.held) of_plan.locals of_plan.workers;
+      program = program-of (built builder) (numbers_held (values c.args.script.resources)) (whole_over value_kind c.in_ok-dispatcher.dispatcher c.in_ok-world.world) of_plan.plan of_plan.states (fun_ext c.in_ok-world.ensures.held) of_plan.locals of_plan.workers;
       resources = refl;
       manner = refl;
     }

@@ -5,7 +5,7 @@ use Rattle.shred.specs.FullRuns.{whole_over}
 use Rattle.shred_stage.specs.Sinks.{AppendsBeginning}
 use Rattle.shred_world.specs.Worlds.{world_held}
 use Rattle.shredscript_text.specs.Report.{report, resource_names}
-use Rattle.shredscript_text.specs.Value.{kind_of}
+use Rattle.shredscript_text.specs.Value.{value_kind}
 use Rattle.shredscript.proofs.Printed.{begun-behind}
 use Rattle.shredscript.proofs.Runs.{run-of}
 use Rattle.shredscript.proofs.run_plan.run_plan.Goals as goal
@@ -22,10 +22,10 @@ returns-in-Ok g c =
     let ready = c.in_ok-ready.ready in
     let old = g.O.Write.contents c.args.out.now in
     let middle = g.O.Write.contents c.print_plan.new.out in
-    let rest = report (resource_names ready.resources) (world_held kind_of c.set_up_and_dispatch.new.world) c.of-outcome.result in
+    let rest = report (resource_names ready.resources) (world_held value_kind c.set_up_and_dispatch.new.world) c.of-outcome.result in
     let first = subst (λ (text : List ℕ). Appends old middle text) c.as_slice.ensures.value c.in_default.ensures.whole in (
       ready.text.items ++ rest,
-      run-of c.args.script ready c.in_ok-ready.ensures.ready c.set_up_and_dispatch.result (whole_over kind_of c.set_up_and_dispatch.new.dispatcher c.set_up_and_dispatch.new.world) c.of-outcome.result c.set_up_and_dispatch.ensures c.of-outcome.ensures,
+      run-of c.args.script ready c.in_ok-ready.ensures.ready c.set_up_and_dispatch.result (whole_over value_kind c.set_up_and_dispatch.new.dispatcher c.set_up_and_dispatch.new.world) c.of-outcome.result c.set_up_and_dispatch.ensures c.of-outcome.ensures,
       Appends-trans old middle (g.O.Write.contents c.print_report.new.out) ready.text.items rest first c.in-Ok.ensures.whole,
     )
 
@@ -34,9 +34,9 @@ returns g c =
     let ready = c.in_ok-ready.ready in
     let old = g.O.Write.contents c.args.out.now in
     let middle = g.O.Write.contents c.print_plan.new.out in
-    let rest = report (resource_names ready.resources) (world_held kind_of c.set_up_and_dispatch.new.world) c.of-outcome.result in
+    let rest = report (resource_names ready.resources) (world_held value_kind c.set_up_and_dispatch.new.world) c.of-outcome.result in
     let first = subst (λ (text : List ℕ). Appends old middle text) c.as_slice.ensures.value c.in_default.ensures.whole in (
       ready.text.items ++ rest,
-      inr (c.of-outcome.result, run-of c.args.script ready c.in_ok-ready.ensures.ready c.set_up_and_dispatch.result (whole_over kind_of c.set_up_and_dispatch.new.dispatcher c.set_up_and_dispatch.new.world) c.of-outcome.result c.set_up_and_dispatch.ensures c.of-outcome.ensures),
+      inr (c.of-outcome.result, run-of c.args.script ready c.in_ok-ready.ensures.ready c.set_up_and_dispatch.result (whole_over value_kind c.set_up_and_dispatch.new.dispatcher c.set_up_and_dispatch.new.world) c.of-outcome.result c.set_up_and_dispatch.ensures c.of-outcome.ensures),
       begun-behind old middle (g.O.Write.contents c.print_report.new.out) ready.text.items rest first c.in-Err-print_report.ensures.beginning,
     )

@@ -1,10 +1,10 @@
 use Rattle.shred.specs.FullRuns.{whole_over}
-use Rattle.shredscript_text.specs.Value.{kind_of}
+use Rattle.shredscript_text.specs.Value.{value_kind}
 use Rattle.shredscript.proofs.SetUp.{is-set-up}
 use Rattle.shredscript.proofs.run_plan.set_up_and_dispatch.Goals as goal
 
 pub returns-in-Ok : goal.returns-in-Ok
-returns-in-Ok g c = (whole_over kind_of c.setup.new.self c.setup.new.world, (is-set-up _ _ _ c.setup.ensures).1, c.dispatch_each.ensures)
+returns-in-Ok g c = (whole_over value_kind c.setup.new.self c.setup.new.world, (is-set-up _ _ _ c.setup.ensures).1, c.dispatch_each.ensures)
 
 pub returns-in-Err : goal.returns-in-Err
 returns-in-Err g c =

@@ -3,13 +3,13 @@ use Rattle.std.proofs.KnownBytes.{Appends-trans}
 use Rattle.shred_world.specs.Worlds.{world_held}
 use Rattle.shredscript_text.specs.Place.{number_at}
 use Rattle.shredscript_text.specs.Report.{resource_names, value_line, value_lines}
-use Rattle.shredscript_text.specs.Value.{kind_of}
+use Rattle.shredscript_text.specs.Value.{value_kind}
 use Rattle.shredscript_text.proofs.Reported.{value_lines-more}
 use Rattle.shredscript_text.proofs.report.write_report.Goals as goal
 
 pub loop-place-preserved : goal.loop-place-preserved
 loop-place-preserved g c =
-    let held = world_held kind_of c.args.world.now in
+    let held = world_held value_kind c.args.world.now in
     let line = value_line c.in-Some.name.now.now (number_at held c.in-Some.place) in
     let turn = c.in-Some.ensures.steps in
     let so_far = c.loop-place.invariant in

@@ -1,6 +1,6 @@
 use Rattle.std.proofs.Common.{◌≡◌, ℤ, ◌==◌, Bool, true, false, Option, None, cond, refl, ◌∙◌}
 use Rattle.shred_world.specs.Worlds.{world_held}
-use Rattle.shredstore.specs.Tables.{kind_of, values_in}
+use Rattle.shredstore.specs.Tables.{table_kind, values_in}
 use Rattle.shredstore.proofs.RemadeTables.{remade-held, remade-values, removed-more}
 use Rattle.shredstore.proofs.tables.remove_everywhere.Goals as goal
 
@@ -8,9 +8,9 @@ pub loop-table-preserved : goal.loop-table-preserved
 loop-table-preserved c =
     let entity = c.args.entity in
     let from = c.loop-table.table in
-    let first = world_held kind_of c.args.world.now in
-    let before = world_held kind_of c.loop-table.world in
-    let after = world_held kind_of c.remove_in.new.world in
+    let first = world_held table_kind c.args.world.now in
+    let before = world_held table_kind c.loop-table.world in
+    let after = world_held table_kind c.remove_in.new.world in
     record {
       values = λ other table. removed-more entity other from table (values_in first other) (values_in before other) (values_in after other) (c.loop-table.invariant.values other)
           (remade-values (λ e old. cond (entity == e) None old) from before after (λ e nothing. none (entity == e) None refl) c.remove_in.ensures other table);

@@ -1,11 +1,11 @@
 use Rattle.std.proofs.Common.{◌≡◌, ◌==◌, ◌&&◌, ℕ, None, cond, nat_lt, is_some}
 use Rattle.shred_table.specs.declared.id.ResourceId.{ResourceId}
 use Rattle.shred_world.specs.Worlds.{world_held}
-use Rattle.shredstore.specs.Tables.{kind_of, values_in}
+use Rattle.shredstore.specs.Tables.{table_kind, values_in}
 use Rattle.shredstore.proofs.tables.remove_everywhere.Given as goal
 
 abbrev pub invariant-loop-table : goal.invariant-loop-table
 invariant-loop-table l = record {
-  values : (other table : ℕ) → values_in (world_held kind_of l.world) other table ≡ cond (nat_lt table l.table && l.entity == other) None (values_in (world_held kind_of l.initial.world) other table);
-  held : (id : ResourceId) → is_some (world_held kind_of l.world id) ≡ is_some (world_held kind_of l.initial.world id);
+  values : (other table : ℕ) → values_in (world_held table_kind l.world) other table ≡ cond (nat_lt table l.table && l.entity == other) None (values_in (world_held table_kind l.initial.world) other table);
+  held : (id : ResourceId) → is_some (world_held table_kind l.world id) ≡ is_some (world_held table_kind l.initial.world id);
 }

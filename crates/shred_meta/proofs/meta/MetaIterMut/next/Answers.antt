@@ -6,7 +6,7 @@ use Rattle.shred_table.specs.declared.id.ResourceId.{ResourceId}
 use Rattle.shred_table.specs.Id.{id_of, id_kind}
 use Rattle.shred_table.specs.Slots.{of_kind, with_at}
 use Rattle.shred_world.specs.Worlds.{world_held}
-use Rattle.shred_meta.specs.Walks.{first_held}
+use Rattle.shred_meta.specs.Walks.{first_held_kind}
 use Rattle.shred_meta.proofs.Firsts.{first-shown, first-is_held, IfNone-not, OnSome-map, IfSome-at}
 use Rattle.shred_meta.proofs.meta.MetaIterMut.next.Goals as goal
 
@@ -29,7 +29,7 @@ returns g c =
             (λ f. (
               told.left,
               told.world.1,
-              IfSome-at _ (first_held held s.kinds.now) k told.first
+              IfSome-at _ (first_held_kind held s.kinds.now) k told.first
                   (λ q. f q ∙ ap (λ h. with_at h id (of_kind kind id (Some w)) q) same_world ∙ ap (λ (i : ResourceId). with_at held i (of_kind kind i (Some w)) q) at_id),
             ))
             (c.value_of_mut.follows.holds w)),

@@ -25,5 +25,5 @@ loop-stage-preserved g c =
       long = let was = at.invariant.long in let gone = c.in-Some.ensures.steps.1 in let short = ap length steps in omega arith;
       plan = ap tiers_plan pushed ∙ map-append tier_plan at.tiers.items (tier ∷ []) ∙ ap (λ plan. plan ++ tier_plan tier ∷ []) at.invariant.plan ∙ ap (λ one. plan_of at.yielded ++ one ∷ []) c.into_tier.ensures.plan ∙ sym (map-append stage_plan at.yielded (c.in-Some.stage ∷ []));
       states = λ path. ap (λ tiers. tiers_states tiers path) pushed ∙ listed-pushed tier_states stage_states at.tiers.items at.yielded long at.invariant.states tier c.in-Some.stage c.into_tier.ensures.states path;
-      own = subst (All (IsTierOf (OwnsItself (lists_of g.S.System.reads g.S.System.writes g.C.BatchController.reads g.C.BatchController.writes)))) (sym pushed) (All-push (IsTierOf (OwnsItself (lists_of g.S.System.reads g.S.System.writes g.C.BatchController.reads g.C.BatchController.writes))) at.tiers.items tier at.invariant.own c.into_tier.ensures.own);
+      own = subst (All (IsTierOf (OwnsItself (lists_of g.S.System g.C.BatchController)))) (sym pushed) (All-push (IsTierOf (OwnsItself (lists_of g.S.System g.C.BatchController))) at.tiers.items tier at.invariant.own c.into_tier.ensures.own);
     }

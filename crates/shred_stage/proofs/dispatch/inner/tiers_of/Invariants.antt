@@ -17,5 +17,5 @@ invariant-loop-stage g l = record {
   long : into_iter_len l.stage-iterator ≡ length (into_iter_items l.stage-iterator);
   plan : tiers_plan l.tiers.items ≡ plan_of l.yielded;
   states : (path : Agent) → tiers_states l.tiers.items path ≡ plan_states l.yielded path;
-  own : All (IsTierOf (OwnsItself (lists_of g.S.System.reads g.S.System.writes g.C.BatchController.reads g.C.BatchController.writes))) l.tiers.items;
+  own : All (IsTierOf (OwnsItself (lists_of g.S.System g.C.BatchController))) l.tiers.items;
 }

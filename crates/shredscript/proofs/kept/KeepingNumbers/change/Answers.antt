@@ -2,7 +2,7 @@ use Rattle.std.proofs.Common.{◌≡◌, ◌∙◌, pos, refl, ap, sym, List, tr
 use Rattle.std.proofs.lemmas.Int.{to_z-of_z}
 use Rattle.std.proofs.Math.ListN.{length-set, set}
 use Rattle.std.proofs.lemmas.List.{take_at}
-use Rattle.shredscript_text.specs.Declares.{has_place}
+use Rattle.shredscript_text.specs.Declares.{is_among}
 use Rattle.shredscript_text.proofs.Changed.{change_left-put}
 use Rattle.shredscript.specs.declared.kept.KeptNumber.{KeptNumber}
 use Rattle.shredscript.specs.Overlaid.{IsKeptAt, kept_place, overlaid}
@@ -11,7 +11,7 @@ use Rattle.shredscript.proofs.kept.KeepingNumbers.change.Goals as goal
 
 pub unreachable-requires : goal.unreachable-requires
 unreachable-requires g c =
-    let none : has_place (map kept_place c.args.self.now.written.items) c.args.place ≡ false = ap (λ (kept : List KeptNumber). has_place (map kept_place kept) c.args.place) (sym c.as_slice.ensures.value) ∙ c.in_default.ensures.none in
+    let none : is_among (map kept_place c.args.self.now.written.items) c.args.place ≡ false = ap (λ (kept : List KeptNumber). is_among (map kept_place kept) c.args.place) (sym c.as_slice.ensures.value) ∙ c.in_default.ensures.none in
     let there : true ≡ false = sym c.requires.allowed ∙ none in
     absurd (cc)
 

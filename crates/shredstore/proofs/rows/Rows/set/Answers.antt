@@ -3,7 +3,7 @@ use Rattle.std.specs.List.{insert}
 use Rattle.std.specs.Prelude.{slice_set}
 use Rattle.std.proofs.lemmas.Int.{ints}
 use Rattle.std.proofs.lemmas.List.{get_or_default}
-use Rattle.shredstore.specs.Rows.{IsAscending, IsAt, IsChangedAt, IsGapFor, Pairs, value_at}
+use Rattle.shredstore.specs.Rows.{IsAscending, IsAt, IsChangedAt, IsRowGap, Pairs, value_at}
 use Rattle.shredstore.proofs.Place.{ascending_insert, ascending_set, changed_insert, changed_set, value_in_gap, value_there}
 use Rattle.shredstore.proofs.rows.Rows.set.Goals as goal
 
@@ -36,7 +36,7 @@ returns-in-Ok-clause-set c =
 pub invariant_of-self-in-Err : goal.invariant_of-self-in-Err
 invariant_of-self-in-Err c =
     let rows = c.self.inside.pairs.items in
-    let gap = subst (λ (l : Pairs). IsGapFor l c.args.entity c.in-Err.place) (sym c.self.view_is) c.in-Err.ensures.absent in
+    let gap = subst (λ (l : Pairs). IsRowGap l c.args.entity c.in-Err.place) (sym c.self.view_is) c.in-Err.ensures.absent in
     subst IsAscending (sym c.in_ok-insert-in-Err.ensures.items) (ascending_insert rows c.args.entity c.in-Err.place gap _ c.self.invariant)
 
 pub returns-in_ok-insert-in-Err-clause-had : goal.returns-in_ok-insert-in-Err-clause-had
@@ -45,7 +45,7 @@ returns-in_ok-insert-in-Err-clause-had c = sym (value_in_gap c.args.self.now c.a
 pub returns-in_ok-insert-in-Err-clause-set : goal.returns-in_ok-insert-in-Err-clause-set
 returns-in_ok-insert-in-Err-clause-set c =
     let rows = c.self.inside.pairs.items in
-    let gap = subst (λ (l : Pairs). IsGapFor l c.args.entity c.in-Err.place) (sym c.self.view_is) c.in-Err.ensures.absent in
+    let gap = subst (λ (l : Pairs). IsRowGap l c.args.entity c.in-Err.place) (sym c.self.view_is) c.in-Err.ensures.absent in
     let fits : FitsSigned w64 c.args.value = search rules in
     let value : to_z w64 (of_z w64 c.args.value) ≡ c.args.value = omega (arith, ints, fits) in
     subst (λ (l : Pairs). IsChangedAt l c.insert.new.self.items c.args.entity (Some c.args.value)) c.self.view_is

@@ -1,5 +1,5 @@
 use Rattle.std.proofs.Common.{sym, ap, refl}
-use Rattle.shred_run.specs.Depths.{lists_of, relations_of}
+use Rattle.shred_run.specs.Depths.{steps_of}
 use Rattle.shred_run.specs.WorkSetups.{setups_of}
 use Rattle.shred.specs.AsyncRuns.{PlanRan, SetUpOver}
 use Rattle.shred.specs.AsyncDispatchers.{over, state_at, state_of}
@@ -12,7 +12,7 @@ returns-in-Home g c =
     let self = c.join.new.self in
     let home = c.in-Home.home in
     let left = c.set_up_both.new in
-    sets-up-home (PlanRan kind (relations_of (lists_of g.S.System.reads g.S.System.writes g.C.BatchController.reads g.C.BatchController.writes) g.S.System.step g.C.BatchController.begins g.C.BatchController.asks)) (SetUpOver (setups_of (lists_of g.S.System.reads g.S.System.writes g.C.BatchController.reads g.C.BatchController.writes) g.S.System.sets_up g.C.BatchController.sets_up) g.L.RunNow.sets_up)
+    sets-up-home (PlanRan kind (steps_of g.S.System g.C.BatchController)) (SetUpOver (setups_of g.S.System g.C.BatchController) g.L.RunNow.sets_up)
     (state_of kind c.args.self.now) (state_of kind self) c.join.ensures
     (over kind home.plan self.thread_local self.workers home.world) (over kind left.plan left.thread_local self.workers left.world) home.untold home.untold c.set_up_both.result c.as_told.result
     (ap (state_at kind self.thread_local self.workers) (sym c.in-Home.is)) (c.set_up_both.ensures self.workers) c.as_told.ensures refl

@@ -1,6 +1,6 @@
 use Rattle.std.proofs.Common.{Err, MutBor, refl, sym, subst}
 use Rattle.shred_table.proofs.Tables.Slots.{OnSome-here}
-use Rattle.shred_run.specs.Depths.{lists_of, relations_of}
+use Rattle.shred_run.specs.Depths.{steps_of}
 use Rattle.shred_world.specs.Worlds.{world_held}
 use Rattle.shred_world.specs.declared.world.World.{World}
 use Rattle.shred.specs.AsyncRuns.{PlanRan}
@@ -23,7 +23,7 @@ pub returns-in-None : goal.returns-in-None
 returns-in-None g c =
     let kind = g.V.ResourceValue.kind_of in
     let self = c.join.new.self in
-    let Run = PlanRan kind (relations_of (lists_of g.S.System.reads g.S.System.writes g.C.BatchController.reads g.C.BatchController.writes) g.S.System.step g.C.BatchController.begins g.C.BatchController.asks) in
+    let Run = PlanRan kind (steps_of g.S.System g.C.BatchController) in
     let shows = shows-none kind self.thread_local self.workers g.row.E.Denot self.place (joined-back Run (state_of kind c.args.self.now) (state_of kind self) c.join.ensures) c.in-None.ensures.shown in (
       (refl, (λ w ok. absurd (cc)), subst (λ p. JoinsAndShows {F = g.row.E.Denot} (λ (lent : MutBor (World g.row.V.Denot)). world_held kind lent.now) Run (state_of kind c.args.self.now) (Err Lost) (state_at kind self.thread_local self.workers p)) (sym c.home_world.follows.holds-at-none) (c.join.ensures, shows)),
       record { shown = (state_of kind self, (c.join.ensures, shows)); after = tt },

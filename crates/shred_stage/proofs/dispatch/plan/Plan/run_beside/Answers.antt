@@ -11,14 +11,14 @@ loop-place-init g c = stages-start _ _ _ _ _
 pub returns-in-Err : goal.returns-in-Err
 returns-in-Err g c =
     let long = sym (length-map c.loop-place.self.stages.items stage_plan) ∙ ap length c.loop-place.invariant.plan ∙ length-map c.args.self.now.stages.items stage_plan in
-    stages-fault c.loop-place.invariant dispatch-tells (lists_of g.S.System.reads g.S.System.writes g.C.BatchController.reads g.C.BatchController.writes) (λ stage. stage.own_lists) (λ stage. stage.apart) c.index_mut.result.now c.turn_beside.new.self (omega arith) c.index_mut.ensures.value c.in-Err.ensures c.at_stage.result c.at_stage.ensures
+    stages-fault c.loop-place.invariant dispatch-tells (lists_of g.S.System g.C.BatchController) (λ stage. stage.own_lists) (λ stage. stage.apart) c.index_mut.result.now c.turn_beside.new.self (omega arith) c.index_mut.ensures.value c.in-Err.ensures c.at_stage.result c.at_stage.ensures
 
 pub loop-place-preserved : goal.loop-place-preserved
 loop-place-preserved g c =
     let long = sym (length-map c.loop-place.self.stages.items stage_plan) ∙ ap length c.loop-place.invariant.plan ∙ length-map c.args.self.now.stages.items stage_plan in
-    stages-more c.loop-place.invariant dispatch-tells (lists_of g.S.System.reads g.S.System.writes g.C.BatchController.reads g.C.BatchController.writes) (λ stage. stage.own_lists) (λ stage. stage.apart) c.index_mut.result.now c.turn_beside.new.self (omega arith) c.index_mut.ensures.value c.in_default.ensures refl
+    stages-more c.loop-place.invariant dispatch-tells (lists_of g.S.System g.C.BatchController) (λ stage. stage.own_lists) (λ stage. stage.apart) c.index_mut.result.now c.turn_beside.new.self (omega arith) c.index_mut.ensures.value c.in_default.ensures refl
 
 pub returns : goal.returns
 returns g c =
     let long = sym (length-map c.loop-place.self.stages.items stage_plan) ∙ ap length c.loop-place.invariant.plan ∙ length-map c.args.self.now.stages.items stage_plan in
-    stages-end c.loop-place.invariant dispatch-tells (lists_of g.S.System.reads g.S.System.writes g.C.BatchController.reads g.C.BatchController.writes) (λ stage. stage.own_lists) (λ stage. stage.apart) (omega arith)
+    stages-end c.loop-place.invariant dispatch-tells (lists_of g.S.System g.C.BatchController) (λ stage. stage.own_lists) (λ stage. stage.apart) (omega arith)

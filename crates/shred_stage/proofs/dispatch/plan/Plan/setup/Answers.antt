@@ -3,7 +3,6 @@ use Rattle.std.proofs.Math.Seq.{map-set_same}
 use Rattle.std.proofs.lemmas.List.{length-map}
 use Rattle.shred_model.proofs.Joined.InTurn.{Turns-start, Turns-more, Turns-fault, Turns-end}
 use Rattle.shred_world.specs.Worlds.{world_held}
-use Rattle.shred_run.specs.Depths.{lists_of}
 use Rattle.shred_run.specs.WorkSetups.{setups_of}
 use Rattle.shred_stage.specs.Setups.{StageSetupAt}
 use Rattle.shred_stage.specs.StagePlan.{stage_plan}
@@ -11,11 +10,11 @@ use Rattle.shred_stage.proofs.Runs.InTurn.{plan-set_up}
 use Rattle.shred_stage.proofs.dispatch.plan.Plan.setup.Goals as goal
 
 pub loop-place-init : goal.loop-place-init
-loop-place-init g c = record { plan = refl; turns = Turns-start (StageSetupAt (setups_of (lists_of g.S.System.reads g.S.System.writes g.C.BatchController.reads g.C.BatchController.writes) g.S.System.sets_up g.C.BatchController.sets_up)) _ _ }
+loop-place-init g c = record { plan = refl; turns = Turns-start (StageSetupAt (setups_of g.S.System g.C.BatchController)) _ _ }
 
 pub loop-place-preserved : goal.loop-place-preserved
 loop-place-preserved g c =
-    let One = StageSetupAt (setups_of (lists_of g.S.System.reads g.S.System.writes g.C.BatchController.reads g.C.BatchController.writes) g.S.System.sets_up g.C.BatchController.sets_up) in
+    let One = StageSetupAt (setups_of g.S.System g.C.BatchController) in
     let held = world_held g.V.ResourceValue.kind_of in
     let new = c.setup.new.self in
     let is = c.index_mut.ensures.value in
@@ -27,7 +26,7 @@ loop-place-preserved g c =
 
 pub returns-in-Err : goal.returns-in-Err
 returns-in-Err g c =
-    let setups = (setups_of (lists_of g.S.System.reads g.S.System.writes g.C.BatchController.reads g.C.BatchController.writes) g.S.System.sets_up g.C.BatchController.sets_up) in
+    let setups = (setups_of g.S.System g.C.BatchController) in
     let held = world_held g.V.ResourceValue.kind_of in
     let new = c.setup.new.self in
     let is = c.index_mut.ensures.value in
@@ -39,6 +38,6 @@ returns-in-Err g c =
 
 pub returns : goal.returns
 returns g c =
-    let setups = (setups_of (lists_of g.S.System.reads g.S.System.writes g.C.BatchController.reads g.C.BatchController.writes) g.S.System.sets_up g.C.BatchController.sets_up) in
+    let setups = (setups_of g.S.System g.C.BatchController) in
     let long = sym (length-map c.loop-place.self.stages.items stage_plan) ∙ ap length c.loop-place.invariant.plan ∙ length-map c.args.self.now.stages.items stage_plan in
     plan-set_up setups _ _ _ _ _ (Turns-end (StageSetupAt setups) c.loop-place.invariant.turns (omega arith)) c.loop-place.invariant.plan

@@ -3,12 +3,11 @@ use Rattle.shred_model.proofs.Joined.InTurn.{TurnsSoFar}
 use Rattle.shred_world.specs.Worlds.{world_held}
 use Rattle.shred_stage.specs.StagePlan.{stage_plan}
 use Rattle.shred_stage.specs.Setups.{StageSetupAt}
-use Rattle.shred_run.specs.Depths.{lists_of}
 use Rattle.shred_run.specs.WorkSetups.{setups_of}
 use Rattle.shred_stage.proofs.dispatch.plan.Plan.setup.Given as goal
 
 abbrev pub invariant-loop-place : goal.invariant-loop-place
 invariant-loop-place g l = record {
   plan : map stage_plan l.self.stages.items ≡ map stage_plan l.initial.self.stages.items;
-  turns : TurnsSoFar (StageSetupAt (setups_of (lists_of g.S.System.reads g.S.System.writes g.C.BatchController.reads g.C.BatchController.writes) g.S.System.sets_up g.C.BatchController.sets_up)) l.place l.initial.self.stages.items (world_held g.V.ResourceValue.kind_of l.initial.world) l.self.stages.items (world_held g.V.ResourceValue.kind_of l.world);
+  turns : TurnsSoFar (StageSetupAt (setups_of g.S.System g.C.BatchController)) l.place l.initial.self.stages.items (world_held g.V.ResourceValue.kind_of l.initial.world) l.self.stages.items (world_held g.V.ResourceValue.kind_of l.world);
 }

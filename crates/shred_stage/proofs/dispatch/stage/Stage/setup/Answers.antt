@@ -13,7 +13,7 @@ invariant_of-self g c =
     let same : length c.set_up_groups.new.groups ≡ old.groups.len = search rules in
     let set = rw c.as_mut_slice.ensures.value at c.set_up_groups.ensures in
     rw (with_items_is old.groups c.set_up_groups.new.groups same)
-    (stays (OwnsItself (lists_of g.S.System.reads g.S.System.writes g.C.BatchController.reads g.C.BatchController.writes)) c.set_up_groups.new.groups old.groups.items set.plan set.ids set.room set.own_lists
+    (stays (OwnsItself (lists_of g.S.System g.C.BatchController)) c.set_up_groups.new.groups old.groups.items set.plan set.ids set.room set.own_lists
     (record { some_group = old.some_group; small_groups = old.small_groups; apart = old.apart; keep_ids = old.keep_ids; keep_room = old.keep_room; own_lists = old.own_lists }))
 
 pub returns-clause-set_up : goal.returns-clause-set_up
@@ -21,5 +21,5 @@ returns-clause-set_up g c =
     let old = c.args.self.now in
     let same : length c.set_up_groups.new.groups ≡ old.groups.len = search rules in
     let set = rw c.as_mut_slice.ensures.value at c.set_up_groups.ensures in
-    stage-set_up (setups_of (lists_of g.S.System.reads g.S.System.writes g.C.BatchController.reads g.C.BatchController.writes) g.S.System.sets_up g.C.BatchController.sets_up) old _ _ _ c.set_up_groups.result
+    stage-set_up (setups_of g.S.System g.C.BatchController) old _ _ _ c.set_up_groups.result
     (rw (with_items_is old.groups c.set_up_groups.new.groups same) set.turns) (rw (with_items_is old.groups c.set_up_groups.new.groups same) set.plan)

@@ -1,7 +1,7 @@
 use Rattle.std.proofs.lemmas.Result.{on_err_weaker}
 use Rattle.std.proofs.Common.{arith, refl}
 use Rattle.std.proofs.lemmas.List.{length-map}
-use Rattle.shred_run.specs.PlanOf.{access_of, entry_plan, numbers_of}
+use Rattle.shred_run.specs.PlanOf.{entry_access, entry_plan, numbers_of}
 use Rattle.shred_stage.specs.SearchStart.{IsPlacedBy}
 use Rattle.shred_stage.specs.StagePlan.{stage_plan, plan_of}
 use Rattle.shred_stage.proofs.Planner.Addition.{after-conflicts}
@@ -16,7 +16,7 @@ returns-clause-inserted g c =
     let stages = c.args.self.now.stages.items in
     let placed_stages = c.place.new.self.stages.items in
     let begins = c.search_start-start.ensures in
-    let behind = start-from_barrier c.args.self.now.rule (plan_of stages) c.args.self.now.barrier (access_of c.args.entry) c.search_start-start.result begins in
+    let behind = start-from_barrier c.args.self.now.rule (plan_of stages) c.args.self.now.barrier (entry_access c.args.entry) c.search_start-start.result begins in
     OnOk-both c.place.result
     (λ placed is.
     let added = added_with stages placed_stages c.args.entry c.args.entry.work refl is in

@@ -3,7 +3,7 @@ use Rattle.std.proofs.lemmas.List.{length-map}
 use Rattle.std.proofs.lemmas.Result.{on_ok_weaker}
 use Rattle.shred_run.specs.PlanOf.{entry_plan, numbers_of}
 use Rattle.shred_stage.specs.BuilderPlan.{planned}
-use Rattle.shred_stage.specs.EntriesAt.{stage_entries}
+use Rattle.shred_stage.specs.EntriesAt.{stage_entry_at}
 use Rattle.shred_stage.specs.Placement.{in_new_stage}
 use Rattle.shred_stage.specs.StagePlan.{plan_of, stage_plan}
 use Rattle.shred_stage.specs.declared.dispatch.stage.Spot.TheVariants.{NewGroup, EndOf}
@@ -38,8 +38,8 @@ returns-in-Some-default-NewGroup g c =
           (placed_in_new_group (planned c.args.self.now) (plan_of (set stages arm.stage c.push_group.new.self)) c.args.self.now.barrier c.args.start (numbers_of c.args.dependencies.now) (entry_plan c.args.entry) arm.stage found)
           (rw here (plan_when_done c.push_group.result stages arm.stage c.push_group.new.self _ c.push_group.ensures.ok));
       err = plan_when_refused c.push_group.result stages arm.stage c.push_group.new.self (rw here c.push_group.ensures.err);
-      added = new_when_done stage_entries c.push_group.result stages arm.stage c.index_mut.result.now c.push_group.new.self c.args.entry within c.index_mut.ensures.value c.push_group.ensures.added;
-      unchanged = same_when_refused stage_entries c.push_group.result stages arm.stage c.index_mut.result.now c.push_group.new.self c.index_mut.ensures.value c.push_group.ensures.unchanged;
+      added = new_when_done stage_entry_at c.push_group.result stages arm.stage c.index_mut.result.now c.push_group.new.self c.args.entry within c.index_mut.ensures.value c.push_group.ensures.added;
+      unchanged = same_when_refused stage_entry_at c.push_group.result stages arm.stage c.index_mut.result.now c.push_group.new.self c.index_mut.ensures.value c.push_group.ensures.unchanged;
       barrier = refl;
       rule = refl;
     }
@@ -83,8 +83,8 @@ returns-in-Some-default-EndOf g c =
           (placed_at_end (planned c.args.self.now) (plan_of (set stages arm.stage c.push_entry.new.self)) c.args.self.now.barrier c.args.start (numbers_of c.args.dependencies.now) (entry_plan c.args.entry) arm.stage arm.group found)
           (rw here (plan_when_done c.push_entry.result stages arm.stage c.push_entry.new.self _ c.push_entry.ensures.ok));
       err = plan_when_refused c.push_entry.result stages arm.stage c.push_entry.new.self (rw here c.push_entry.ensures.err);
-      added = new_when_done stage_entries c.push_entry.result stages arm.stage c.index_mut-in-Some-default-EndOf.result.now c.push_entry.new.self c.args.entry within c.index_mut-in-Some-default-EndOf.ensures.value c.push_entry.ensures.added;
-      unchanged = same_when_refused stage_entries c.push_entry.result stages arm.stage c.index_mut-in-Some-default-EndOf.result.now c.push_entry.new.self c.index_mut-in-Some-default-EndOf.ensures.value c.push_entry.ensures.unchanged;
+      added = new_when_done stage_entry_at c.push_entry.result stages arm.stage c.index_mut-in-Some-default-EndOf.result.now c.push_entry.new.self c.args.entry within c.index_mut-in-Some-default-EndOf.ensures.value c.push_entry.ensures.added;
+      unchanged = same_when_refused stage_entry_at c.push_entry.result stages arm.stage c.index_mut-in-Some-default-EndOf.result.now c.push_entry.new.self c.index_mut-in-Some-default-EndOf.ensures.value c.push_entry.ensures.unchanged;
       barrier = refl;
       rule = refl;
     }

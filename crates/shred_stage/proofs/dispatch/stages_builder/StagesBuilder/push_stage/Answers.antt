@@ -1,7 +1,7 @@
 use Rattle.std.proofs.Common.{◌∷◌, ◌++◌, [], ◌∙◌, ap, arith}
 use Rattle.std.proofs.lemmas.List.{map_push}
 use Rattle.std.proofs.lemmas.Result.{on_ok_weaker}
-use Rattle.shred_stage.specs.EntriesAt.{stage_entries}
+use Rattle.shred_stage.specs.EntriesAt.{stage_entry_at}
 use Rattle.shred_stage.specs.StagePlan.{stage_plan, plan_of}
 use Rattle.shred_stage.proofs.Planner.EntriesAt.{new_after_push}
 use Rattle.shred_stage.proofs.Planner.StageKeeps.{few_stages, longer_after_push}
@@ -20,4 +20,4 @@ returns-in-Ok-clause-ok g c =
 
 pub returns-in-Ok-clause-added : goal.returns-in-Ok-clause-added
 returns-in-Ok-clause-added g c =
-    on_ok_weaker c.push_or_drop.result (λ is. new_after_push stage_entries c.args.self.now.stages.items c.in-Ok.stage c.push_or_drop.new.items.items c.args.entry is c.in-Ok.ensures.added) c.push_or_drop.ensures.ok
+    on_ok_weaker c.push_or_drop.result (λ is. new_after_push stage_entry_at c.args.self.now.stages.items c.in-Ok.stage c.push_or_drop.new.items.items c.args.entry is c.in-Ok.ensures.added) c.push_or_drop.ensures.ok

@@ -1,0 +1,30 @@
+-- What dispatchers do over worlds, of which the systems and controllers tell how.
+use Rattle.std.specs.Prelude.{ℕ}
+use Rattle.shred_model.specs.Runs.{Answer}
+use Rattle.shred_table.specs.declared.resource.ResourceValue as values
+use Rattle.shred_world.specs.declared.world.World.{World}
+use Rattle.shred_world.specs.Worked.{Held}
+use Rattle.shred_world.specs.Worlds.{world_held}
+use Rattle.shred_run.specs.Steps.{Outcome, Step}
+use Rattle.shred_run.specs.WorkSetups.{setups_of}
+use Rattle.shred_run.specs.declared.controller.BatchController as controllers
+use Rattle.shred_run.specs.declared.system.System as systems
+use Rattle.shred_stage.specs.declared.dispatch.dispatch_error.DispatchError.{DispatchError}
+use Rattle.shred_stage.specs.declared.dispatch.plan.Plan.{Plan}
+use Rattle.shred.specs.declared.dispatch.dispatcher.Dispatcher.{Dispatcher}
+use Rattle.shred.specs.declared.thread_local.ThreadLocal.{ThreadLocal}
+use Rattle.shred.specs.FullRuns.{whole_of, whole_over}
+use Rattle.shred.specs.Setups.{IsDisposedOf, IsSetUp}
+
+module _ {V S C L E A B : Type 0} {vd : values.Ghosts V} {sd : systems.Ghosts S V E A} {ad : _} {cd : controllers.Ghosts C V E B} {bd : _} where
+  -- the dispatcher was set up over the world, its thread-local systems by their own relation
+  abbrev pub DispatcherSetUp : Step V L E → Dispatcher V S C L E A E B vd sd ad cd bd → World V → Answer (DispatchError E) → Dispatcher V S C L E A E B vd sd ad cd bd → World V → Type 0
+  DispatcherSetUp local old before answer new after = IsSetUp (setups_of sd cd) local (whole_over vd.kind_of old before) answer (whole_over vd.kind_of new after)
+
+  -- the dispatcher was disposed of over the world, its thread-local systems by their own relation
+  abbrev pub DispatcherDisposed : (L → Held V → Outcome E → Held V → Type 0) → Dispatcher V S C L E A E B vd sd ad cd bd → World V → Answer (DispatchError E) → World V → Type 0
+  DispatcherDisposed local old before answer after = IsDisposedOf sd.disposes local (whole_over vd.kind_of old before) answer (world_held vd.kind_of after)
+
+  -- the plan was set up over the world, and then the thread-local systems, whatever the number of threads
+  abbrev pub BothSetUp : Step V L E → Plan V S C E A E B vd sd ad cd bd → ThreadLocal L → World V → Answer (DispatchError E) → Plan V S C E A E B vd sd ad cd bd → ThreadLocal L → World V → Type 0
+  BothSetUp local plan locals before answer left others after = (workers : ℕ) → IsSetUp (setups_of sd cd) local (whole_of plan locals workers (world_held vd.kind_of before)) answer (whole_of left others workers (world_held vd.kind_of after))

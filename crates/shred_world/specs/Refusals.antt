@@ -1,0 +1,33 @@
+-- How worlds refuse.
+use Rattle.std.specs.Prelude.{◌≡◌, ◌≢◌, Option, None}
+use Rattle.shred_table.specs.declared.id.Kind.{Kind}
+use Rattle.shred_table.specs.declared.id.ResourceId.{ResourceId}
+use Rattle.shred_table.specs.Id.{id_kind}
+use Rattle.shred_world.specs.declared.world.ReplaceError.{ReplaceError}
+use Rattle.shred_world.specs.declared.world.ReplaceError.TheVariants as replace
+use Rattle.shred_world.specs.declared.world.WorldError.{WorldError}
+use Rattle.shred_world.specs.declared.world.WorldError.TheVariants as world
+
+-- the error that tells the kind that was asked for, and the id's
+abbrev pub mistaken : Kind → ResourceId → WorldError
+mistaken asked id = world.WrongKind asked (id_kind id)
+
+-- the id is not of the kind that was asked for, and the error tells both kinds
+abbrev pub IsWrongKind : Kind → ResourceId → WorldError → Type 0
+IsWrongKind asked id e = (asked ≢ id_kind id) × (e ≡ world.WrongKind asked (id_kind id))
+
+-- nothing is held under the id, and the error tells it
+abbrev pub IsMissingFrom : {V : Type 0} → (ResourceId → Option V) → ResourceId → WorldError → Type 0
+IsMissingFrom held id e = (e ≡ world.Missing id) × (held id ≡ None)
+
+-- memory is wanting for what is not held yet
+abbrev pub IsWithoutRoom : {V : Type 0} → Option V → WorldError → Type 0
+IsWithoutRoom found e = (e ≡ world.OutOfMemory) × (found ≡ None)
+
+-- nothing is held under the id, and the error tells it and gives the value back
+abbrev pub IsNotReplaced : {V : Type 0} → (ResourceId → Option V) → ResourceId → V → ReplaceError V → Type 0
+IsNotReplaced held id value e = (e ≡ replace.Missing id value) × (held id ≡ None)
+
+-- the error that tells the kinds of the value and of the id, and gives the value back
+abbrev pub misplaced : {V : Type 0} → (V → Kind) → ResourceId → V → ReplaceError V
+misplaced kind id value = replace.WrongKind (kind value) (id_kind id) value

@@ -18,6 +18,8 @@ pub mod FullRuns
 pub mod KeptDispatchers
 pub mod LocalRuns
 pub mod Made
+pub mod Typed
+pub mod Rounds
 pub mod Setups
 pub mod OverWorlds
 pub mod SystemNames

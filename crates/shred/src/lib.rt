@@ -6,7 +6,7 @@
 //! other on threads, and then the thread-local systems. What it leaves is `FullyDispatched`, of `specs/FullRuns.antt`.
 //! A `ParSeq` runs a tree of systems, an `AsyncDispatcher` a plan on a thread of its own.
 //!
-//! The builder, the dispatchers, lists of thread-local systems, systems that are made of simpler ones (`Plain`, `OneOf`)
+//! The builder, the dispatchers, lists of thread-local systems, systems that are made of simpler ones (`Plain`, `Typed`, `OneOf`)
 //! and values of worlds of two, three and four types of resources stand here; what else a user needs is given again of
 //! the crates below.
 #![tactic(auto)]
@@ -15,8 +15,11 @@ pub mod dispatch;
 mod macros;
 pub mod one_of;
 pub mod plain;
+pub mod rounds;
 pub mod spelled;
+pub mod systems;
 pub mod thread_local;
+pub mod typed;
 pub mod values;
 
 pub use dispatch::async_dispatcher::{AsyncDispatcher, new_async};
@@ -28,8 +31,14 @@ pub use dispatch::names::SystemNames;
 pub use dispatch::told::Told;
 pub use one_of::OneOf;
 pub use plain::{Plain, PlainSystem};
+pub use rounds::Rounds;
 pub use spelled::{KindNames, Spelled};
+pub use systems::{
+    NoSystem, Systems2, Systems3, Systems4, Systems5, Systems6, Systems7, Systems8, eighth, fifth,
+    first, fourth, second, seventh, sixth, third,
+};
 pub use thread_local::ThreadLocal;
+pub use typed::{Typed, TypedSystem};
 pub use values::{
     First, Fourth, OneOf2, OneOf3, OneOf4, Second, Third, first_id, fourth_id, second_id, third_id,
 };
@@ -55,7 +64,7 @@ pub use shred_workers::DEFAULT_LOOKS;
 pub use shred_world::{
     Accessor, BatchAccessor, Behind, DataError, DefaultProvider, DynamicSystemData, Entry, Fetch,
     FetchMut, Kind, Lent, LocalLent, LocalWorld, Only, OutOfMemory, PanicHandler, Parts, Read,
-    ReadExpect, ReplaceError, Resource, ResourceId, ResourceValue, Resources, SetupHandler, Steps,
-    SystemData, Table, View, ViewWork, World, WorldError, Write, WriteExpect, bundle_accessor,
-    check_intersection, only_id,
+    ReadExpect, ReplaceError, Resource, ResourceId, ResourceTypes, ResourceValue, Resources,
+    SetupHandler, Steps, SystemData, Table, View, ViewWork, World, WorldError, Write, WriteExpect,
+    bundle_accessor, check_intersection, only_id,
 };

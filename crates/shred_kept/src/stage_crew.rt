@@ -24,7 +24,6 @@ pub struct StageCrew<
     pub(crate) rooms: Rooms<Group<V, Work<S, Nested<V, S, C>>>>,
     pub(crate) shared: Arc<Table<V>>,
     pub(crate) pool: Pool<StageLane<V, S, C>, R>,
-    threads: usize,
 }
 
 impl<
@@ -45,26 +44,11 @@ where
         let shared = Arc::new(alloc, Table::new(alloc))?;
         let crew = Crew::new(workers.clone()?);
         let pool = Pool::start(rt, alloc, workers, &InOrder)?;
-        let threads = pool.len();
         Ok(StageCrew {
             crew,
             rooms: Rooms::new(alloc),
             shared,
             pool,
-            threads,
         })
-    }
-}
-
-impl<
-    R: Threads + Wait,
-    V: ResourceValue,
-    S: System<V, Error = E>,
-    C: BatchController<V, Error = E>,
-    E,
-> StageCrew<R, V, S, C> {
-    /// How many threads were started.
-    pub fn threads(&self) -> usize {
-        self.threads
     }
 }

@@ -82,7 +82,9 @@ impl<J: Job, R: Threads + Wait> Pool<J, R> {
     }
 
     /// The runtime, of which the pool has a clone.
-    pub fn runtime(&self) -> &R {
+    pub fn runtime(&self) -> &R
+        ensures { result.now ≡ self.now.rt }
+    {
         &self.rt
     }
 

@@ -13,6 +13,7 @@ pub mod Grants
 pub mod Bundles
 pub mod Handing
 pub mod BundleParts
+pub mod Types
 pub mod Executed
 pub mod LentBundles
 pub mod Lending

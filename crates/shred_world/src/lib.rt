@@ -21,6 +21,7 @@ pub use world::parted::Parts;
 pub use world::parts::Behind;
 pub use world::read::{Read, ReadExpect};
 pub use world::setup::{DefaultProvider, PanicHandler, SetupHandler};
+pub use world::types::ResourceTypes;
 pub use world::view::{DataError, Shelf, View};
 pub use world::write::{Write, WriteExpect};
 pub use world::{ReplaceError, Resources, World, WorldError};

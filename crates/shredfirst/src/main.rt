@@ -1,101 +1,62 @@
-//! Two systems, one of which doubles what the other sets, run on threads as their plan says.
+//! A position moves by a speed, which is then halved.
 #![tactic(auto)]
 
-ghost use Rattle.std.specs.Int.{int_wrapping_mul, w64};
-ghost use Rattle.std.specs.Prelude.{◌≡◌, [], ◌∷◌, Some, IfOk, option_map, pos};
-ghost use Rattle.shred_table.specs.Id.{id_of};
-ghost use Rattle.shred_table.specs.Only.{only_kind};
-
 use shred::{
-    AddError, BatchAccessor, DataError, DispatchError, Dispatcher, DispatcherBuilder, Fault, OneOf,
-    Only, OutOfMemory, Plain, PlainSystem, System, View, World, only_id,
+    DataError, Dispatcher, DispatcherBuilder, Fault, First, OneOf2, Second, Systems2, Typed,
+    TypedSystem, View, World, first, second,
 };
-use std::alloc::Global;
-use std::thread::Threads;
+
+type Position = First<i64>;
+
+type Speed = Second<i64>;
+
+type Value = OneOf2<i64, i64>;
 
 #[derive(Drop)]
-struct Sets;
+struct Moves;
 
-impl PlainSystem<Only<i64>> for Sets {
+impl TypedSystem<Value> for Moves {
     type Error = DataError;
 
-    ghost reads = { λ system. [] };
+    type Reads = Speed;
 
-    ghost writes = { λ system. id_of only_kind 0 ∷ [] };
+    type Writes = Position;
 
-    ghost step = { λ before seen outcome after left. IfOk outcome (λ done. left (id_of only_kind 0) ≡ Some (record { 0 = pos 7 })) };
-
-    fn run(&mut self, view: &mut View<Only<i64>>) -> Result<(), Fault<DataError>> {
-        *view.write::<i64>(only_id(0))? = 7;
+    fn run(&mut self, view: &View<Value>, position: &mut Position) -> Result<(), Fault<DataError>> {
+        position.0 = position.0.wrapping_add(view.fetch::<Speed>()?.0);
         Ok(())
-    }
-
-    fn accessor(&self, alloc: Global) -> Result<BatchAccessor, OutOfMemory> {
-        BatchAccessor::of(alloc, &[], &[only_id(0)])
     }
 }
 
 #[derive(Drop)]
-struct Doubles;
+struct Brakes;
 
-impl PlainSystem<Only<i64>> for Doubles {
+impl TypedSystem<Value> for Brakes {
     type Error = DataError;
 
-    ghost reads = { λ system. id_of only_kind 0 ∷ [] };
+    type Reads = ();
 
-    ghost writes = { λ system. id_of only_kind 1 ∷ [] };
+    type Writes = Speed;
 
-    ghost step = { λ before seen outcome after left. IfOk outcome (λ done. left (id_of only_kind 1) ≡ option_map (λ number. record { 0 = int_wrapping_mul w64 number.0 (pos 2) }) (seen (id_of only_kind 0))) };
-
-    fn run(&mut self, view: &mut View<Only<i64>>) -> Result<(), Fault<DataError>> {
-        let double = view.read::<i64>(only_id(0))?.wrapping_mul(2);
-        *view.write::<i64>(only_id(1))? = double;
+    fn run(&mut self, _view: &View<Value>, speed: &mut Speed) -> Result<(), Fault<DataError>> {
+        speed.0 /= 2;
         Ok(())
     }
-
-    fn accessor(&self, alloc: Global) -> Result<BatchAccessor, OutOfMemory> {
-        BatchAccessor::of(alloc, &[only_id(0)], &[only_id(1)])
-    }
 }
 
-type Both = Dispatcher<Only<i64>, OneOf<Plain<Sets>, Plain<Doubles>>>;
-
-fn planned<S: System<Only<i64>> + Drop>(
-    alloc: Global,
-    sets: S,
-    doubles: S,
-) -> Result<Dispatcher<Only<i64>, S>, AddError> {
-    let builder = DispatcherBuilder::new(alloc)
-        .with(sets, "sets", &[])?
-        .with(doubles, "doubles", &["sets"])?;
-    Ok(builder.build())
-}
-
-fn dispatched<R: Threads + Sync>(
-    rt: &R,
-    both: &mut Both,
-    world: &mut World<Only<i64>>,
-) -> Result<(), DispatchError<DataError>> {
-    both.dispatch_par(rt, world)
-}
-
-fn doubled<R: Threads + Sync>(
-    rt: &R,
-    alloc: Global,
-    both: &mut Both,
-) -> anyhow::Result<Option<i64>> {
-    let mut world = World::empty(alloc);
-    world.insert_by_id(only_id(0), 1)?;
-    world.insert_by_id(only_id(1), 2)?;
-    dispatched(rt, both, &mut world)?;
-    Ok(world.remove_by_id::<i64>(only_id(1))?)
-}
+type Game = Dispatcher<Value, Systems2<Typed<Moves>, Typed<Brakes>>>;
 
 fn main(rt: HostRuntime) -> anyhow::Result<()> {
-    let sets = OneOf::First(Plain(Sets));
-    let doubles = OneOf::Second(Plain(Doubles));
-    let mut both = planned(rt.alloc(), sets, doubles)?;
-    let number = doubled(&rt, rt.alloc(), &mut both)?;
-    println!(rt; "{number:?}")?;
+    let builder = DispatcherBuilder::new(rt.alloc())
+        .with(first(Typed(Moves)), "moves", &[])?
+        .with(second(Typed(Brakes)), "brakes", &["moves"])?;
+    let mut game: Game = builder.build();
+    let mut world = World::empty(rt.alloc());
+    world.insert(First(0))?;
+    world.insert(Second(8))?;
+    for _ in 0..3 {
+        game.dispatch(&rt, &mut world)?;
+    }
+    println!(rt; "position {}", world.fetch::<Position>()?.0)?;
     Ok(())
 }

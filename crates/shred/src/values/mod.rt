@@ -1,5 +1,6 @@
 //! Values of worlds whose resources are of two, three or four types.
 
+mod by_type;
 pub mod four;
 pub mod places;
 pub mod three;

@@ -38,6 +38,7 @@ pub mod parts;
 pub mod read;
 pub mod setup;
 pub mod tuples;
+pub mod types;
 pub mod view;
 pub mod write;
 

@@ -10,7 +10,7 @@ ghost use Rattle.std.specs.Result.{result_err};
 ghost use Rattle.shred_world.specs.Grants.{grant_of, map_grant, table_grant};
 ghost use Rattle.shred_table.specs.Slots.{among, slots_of, slot_at, held};
 ghost use Rattle.shred_world.specs.Views.{shelf_slot, base_slot, lent_slot, lent_to, view_slot, view_held, is_alone, is_whole, is_own, may_read, may_write, is_out, refusal, view_refusal, ShowsBefore, ShowsBeforeAll, AreWithin};
-ghost use Rattle.shred_table.specs.Id.{id_kind};
+ghost use Rattle.shred_table.specs.Id.{id_kind, id_of};
 ghost use Rattle.shred_table.specs.Slots.{is_vacant};
 
 use shred_table::accessor::OutOfMemory;
@@ -318,6 +318,14 @@ impl<'s, 'a, V: ResourceValue> View<'s, 'a, V> {
             }
         }
         Err(self.refusal::<R>(id, declared))
+    }
+
+    /// The resource of this type and number 0, as `read` has it.
+    pub fn fetch<R: Resource<V>>(&self) -> Result<&R, DataError>
+        ensures refused { result_err result ≡ view_refusal V.kind_of may_read self.now R.KIND (id_of R.KIND 0) }
+        ensures shown { IfOk result (λ r. view_held V.kind_of self.now (id_of R.KIND 0) ≡ Some (R.wrapped r.now)) }
+    {
+        self.read(ResourceId::new::<V, R>())
     }
 
     /// The resource that is held under an id which is declared to be written, to write. The tests

@@ -1,0 +1,50 @@
+-- Systems that name what they read and write by its types.
+use Rattle.std.specs.Prelude.{◌≡◌, ◌⊎◌, None, List, cond, Err}
+use Rattle.shred_table.specs.declared.id.Kind.{Kind}
+use Rattle.shred_table.specs.declared.id.ResourceId.{ResourceId}
+use Rattle.shred_world.specs.declared.world.view.DataError.{DataError}
+use Rattle.shred_world.specs.declared.world.view.View.{View}
+use Rattle.shred_world.specs.Bundles.{Part, IsRefused}
+use Rattle.shred_world.specs.Grants.{Grant, Moved, given_back, grant_of}
+use Rattle.shred_world.specs.OwnViews.{IsLent}
+use Rattle.shred_world.specs.Views.{declared_held}
+use Rattle.shred_world.specs.Worked.{Held}
+use Rattle.shred_run.specs.declared.system.Fault.{Fault}
+use Rattle.shred_run.specs.Faults.{FaultGives}
+use Rattle.shred_run.specs.Steps.{Outcome, Step}
+use Rattle.shred.specs.declared.typed.Typed.{Typed}
+
+-- any step
+abbrev pub SaysNothing : {V S E : Type 0} → Step V S E
+SaysNothing before seen outcome after left = Unit {0}
+
+-- what is granted to be read
+abbrev pub grant_shows : {V : Type 0} → Grant V → Held V
+grant_shows grant id = cond (grant.reads id) (grant.held id) None
+
+-- what a view shows, with the values that were moved out of it
+abbrev pub held_with : {V : Type 0} → (V → Kind) → View V → Moved V → Held V
+held_with kind view moved = grant_shows (given_back (grant_of kind view) moved)
+
+-- the step leads from what the view shows with what is to be written, to what it shows with what was written
+abbrev pub LeadsFrom : {V S E W : Type 0} → (V → Kind) → Step V S E → (W → Moved V) → View V → S → W → Outcome E → S → W → Type 0
+LeadsFrom kind step moved view before old outcome after new = step before (held_with kind view (moved old)) outcome after (held_with kind view (moved new))
+
+-- The run was refused before it began, as a view that shows this refuses the parts; nothing was done.
+pub record IsUntaken {V S E : Type 0} (kind : V → Kind) (reads writes : List ResourceId) (parts : List Part) (gives : DataError → E → Type 0)
+    (before : S) (seen : Held V) (outcome : Outcome E) (after : S) (left : Held V) : Type 0 where
+  pub view : View V
+  pub error : DataError
+  pub fault : Fault E
+  pub lent : IsLent view reads writes
+  pub shown : declared_held kind view ≡ seen
+  pub refused : IsRefused (grant_of kind view) parts error
+  pub told : FaultGives gives error fault
+  pub ended : outcome ≡ Err fault
+  pub state : after ≡ before
+  pub values : left ≡ seen
+
+-- the run was refused before it began, or it is the system's own step
+abbrev pub StepsTyped : {V S E : Type 0} → (V → Kind) → Step V S E → (reads writes : List ResourceId) → List Part → (DataError → E → Type 0) → Step V (Typed S) E
+StepsTyped kind step reads writes parts gives before seen outcome after left =
+    IsUntaken kind reads writes parts gives before seen outcome after left ⊎ step before.0 seen outcome after.0 left

@@ -1,0 +1,81 @@
+//! Systems that name what they read and write by its types.
+ghost use Rattle.std.specs.Prelude.{◌≡◌};
+ghost use Rattle.shred_run.specs.declared.system.RunningTime.TheVariants.{Average};
+ghost use Rattle.shred.specs.Made.{IsLeftAlone};
+ghost use Rattle.shred.specs.Typed.{StepsTyped, SaysNothing};
+
+use shred_run::{Fault, RunningTime, System};
+use shred_world::{
+    BatchAccessor, DataError, OutOfMemory, ResourceTypes, ResourceValue, View, World,
+};
+use std::alloc::Global;
+
+/// What a run does with resources of given types, each of number 0.
+pub trait TypedSystem<V: ResourceValue> {
+    ghost use Rattle.shred_run.specs.Steps.{Step};
+    ghost use Rattle.shred.specs.Typed.{LeadsFrom};
+
+    type Error: From<DataError>;
+
+    type Reads: ResourceTypes<V>;
+
+    type Writes: ResourceTypes<V>;
+
+    ghost step: { Step V Self Self.Error } = { SaysNothing };
+
+    /// One step. What is read is fetched of the view; what is written has left it, and goes back with the values that it then
+    /// has. A `Fault` ends the group; what was written stays.
+    fn run(&mut self, view: &View<V>, written: &mut Self::Writes) -> Result<(), Fault<Self::Error>>
+        ensures { LeadsFrom V.kind_of step Self.Writes.moved view.now self.old written.old result self.new written.new };
+}
+
+/// The system of a `TypedSystem`. A resource that is to be written and is not there is refused before the run, as a view
+/// refuses it. It takes an average time, sets nothing up and has nothing to dispose of.
+#[derive(Drop)]
+pub struct Typed<T>(pub T);
+
+impl<V: ResourceValue, T: TypedSystem<V> + Drop> System<V> for Typed<T> {
+    type Error = T::Error;
+
+    type Accessor = BatchAccessor;
+
+    ghost reads = { λ typed. T.Reads.ids };
+
+    ghost writes = { λ typed. T.Writes.ids };
+
+    ghost time = { λ typed. Average };
+
+    ghost step = { StepsTyped V.kind_of T.step T.Reads.ids T.Writes.ids T.Writes.parts T.Error.from_gives };
+
+    ghost sets_up = { IsLeftAlone };
+
+    ghost disposes = { λ before seen outcome left. IsLeftAlone before seen outcome before left };
+
+    fn run(&mut self, view: &mut View<V>) -> Result<(), Fault<T::Error>> {
+        let mut written = match T::Writes::take(view) {
+            Ok(written) => written,
+            Err(error) => return Err(Fault::from(error)),
+        };
+        let outcome = self.0.run(view, &mut written);
+        written.give_back(view);
+        outcome
+    }
+
+    fn running_time(&self) -> RunningTime {
+        RunningTime::Average
+    }
+
+    fn accessor(&self, alloc: Global) -> Result<BatchAccessor, OutOfMemory> {
+        let reads = T::Reads::ids(alloc)?;
+        let writes = T::Writes::ids(alloc)?;
+        Ok(BatchAccessor::new(reads, writes))
+    }
+
+    fn setup(&mut self, _world: &mut World<V>) -> Result<(), Fault<T::Error>> {
+        Ok(())
+    }
+
+    fn dispose(self, _world: &mut World<V>) -> Result<(), Fault<T::Error>> {
+        Ok(())
+    }
+}

@@ -11,15 +11,15 @@ gcc -shared -fPIC -O1 -o "$room/refuse.so" docs/refuse.c
 differ=0
 
 # The tests that pass whichever request is refused: a crate, and how their names begin.
-tests='shredtest refusals::
-shredtest_cells refusals::
-shredtest_trees refusals::
-shredtest_kept refusals::once_a_stage_has_run
-shredtest_async refusals::a_run_is_begun_or_all_is_lost
-shredtest_store refusals::
-shredtest_dispatch refusals::
-shredtest_dispatch batches::adding::a_batch_is_added_or_memory_is_wanting
-shredtest_dispatch locals::cases::a_call_that_finds_no_memory_is_made_again'
+tests='test_worlds refusals::
+test_cells refusals::
+test_trees refusals::
+test_kept refusals::once_a_stage_has_run
+test_async refusals::a_run_is_begun_or_all_is_lost
+test_store refusals::
+test_dispatch refusals::
+test_dispatch batches::adding::a_batch_is_added_or_memory_is_wanting
+test_dispatch locals::cases::a_call_that_finds_no_memory_is_made_again'
 
 # built CRATE, built_tests CRATE: the path of its program, or of its tests.
 built() {

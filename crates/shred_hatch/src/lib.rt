@@ -7,7 +7,7 @@
 //!     caller.end();
 //!
 //! `collect` ensures `J.ran sent job`, where `sent` is what `send` was passed, though another thread ran it. `shred_workers` starts the
-//! threads; `leaves` of `shredtest_workers` sends and collects.
+//! threads; `leaves` of `test_workers` sends and collects.
 #![tactic(auto)]
 
 mod caller;

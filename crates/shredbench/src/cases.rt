@@ -1,6 +1,6 @@
 //! Scripts, each with how its run is to end.
 
-use shredscript::Case;
+use script_engine::Case;
 
 /// Systems that refuse beside others, and a thread-local one that is not run after that.
 const REFUSED_BESIDE: &str =

@@ -4,7 +4,7 @@
 mod cases;
 
 use cases::CASES;
-use shredscript::run_table;
+use script_engine::run_table;
 use std::process::ExitCode;
 
 fn main(rt: HostRuntime) -> ExitCode {

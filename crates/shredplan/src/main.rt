@@ -1,7 +1,7 @@
 //! Reads the script on standard input, and shows its plan in the way that the arguments name.
 #![tactic(auto)]
 
-use shredplanner::{Wanted, run};
+use plan_engine::{Wanted, run};
 use std::process::ExitCode;
 use std::{env, io};
 

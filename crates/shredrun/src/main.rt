@@ -1,10 +1,10 @@
 //! Runs the script on standard input and prints what it left, or shows the demo, as the arguments ask.
 #![tactic(auto)]
 
-use shredcommand::{Command, demo, tell_usage};
-use shredscript::run;
-use shredscript_text::error::ScriptError;
-use shredscript_text::error_line::tell;
+use script_command::{Command, demo, tell_usage};
+use script_engine::run;
+use script_text::error::ScriptError;
+use script_text::error_line::tell;
 use std::env;
 use std::env::Env;
 use std::io::ErrorKind;

@@ -1,7 +1,0 @@
-use Rattle.std.proofs.Common.{◌≡◌, take}
-use Rattle.shred_stage.specs.StagePlan.{plan_of}
-use Rattle.shredplanner.specs.Stages.{ids_of_plan, stages_in}
-use Rattle.shredplanner.proofs.stages.stages_of.Given as goal
-
-abbrev pub invariant-loop-stage : goal.invariant-loop-stage
-invariant-loop-stage l = stages_in l.all ≡ ids_of_plan (plan_of (take l.stage-index l.stage-items))

@@ -1,6 +1,0 @@
-use Rattle.std.proofs.Common.{◌≡◌, drop}
-use Rattle.shredplanner.specs.Together.{with_places}
-use Rattle.shredplanner.proofs.touched.add_places.Given as goal
-
-abbrev pub invariant-loop-place : goal.invariant-loop-place
-invariant-loop-place l = with_places l.places.items (drop l.place-index l.more) ≡ with_places l.initial.places.items l.more

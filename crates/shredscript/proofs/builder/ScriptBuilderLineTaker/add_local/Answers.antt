@@ -1,5 +1,0 @@
-use Rattle.std.proofs.Common.{refl}
-use Rattle.shredscript.proofs.builder.ScriptBuilderLineTaker.add_local.Goals as goal
-
-pub returns-in-Ok-clause-added : goal.returns-in-Ok-clause-added
-returns-in-Ok-clause-added c = (record { steps = c.args.steps }, refl, c.in-Ok.ensures.added)

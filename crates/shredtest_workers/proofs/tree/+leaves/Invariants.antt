@@ -1,4 +1,0 @@
-use Rattle.shredtest_workers.proofs.tree.+leaves.Given as goal
-
-abbrev pub decreases-leaves : goal.decreases-leaves
-decreases-leaves g l = l.depth

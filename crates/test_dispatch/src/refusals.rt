@@ -1,0 +1,115 @@
+//! Calls whose requests for memory may be refused. Each test passes where all ends as with ample memory, and where want of
+//! memory is told and all stands as it must.
+
+use crate::builder_rows::{Add, ROWS, Row};
+use crate::calls::add;
+use crate::planned_system::{OnlyPlanned, system_of};
+use crate::scripts::Source;
+use script_engine::run;
+use shred::{AddError, DispatcherBuilder, PrintError, SystemId, ToWriter};
+use std::alloc::Global;
+use std::process::Abort;
+use std::thread::Threads;
+use test_worlds::values::Value;
+
+type Builder = DispatcherBuilder<Value, OnlyPlanned>;
+
+fn added(alloc: Global, builder: &mut Builder, call: &Add) -> Result<SystemId, AddError> {
+    match system_of(alloc, call.case) {
+        Ok(system) => add(builder, system, call.name, call.dependencies),
+        Err(_) => Err(AddError::OutOfMemory),
+    }
+}
+
+// How the call is answered; where memory is wanting, how the same call then is.
+fn added_at_last(alloc: Global, builder: &mut Builder, call: &Add) -> Result<SystemId, AddError> {
+    match added(alloc, builder, call) {
+        Err(AddError::OutOfMemory) => added(alloc, builder, call),
+        answer => answer,
+    }
+}
+
+/// The builder prints this, which takes no memory, and the printing ends so.
+fn expect_printed(rt: &impl Abort, builder: &Builder, text: &[u8], ended: Result<(), PrintError>) {
+    let mut bytes = [0; 256];
+    let (mut out, _) = bytes.split_at_mut(text.len().min(256));
+    let mut sink = ToWriter::new(&mut out);
+    assert_eq!(rt; builder.print_par_seq(&mut sink), ended);
+    drop(sink);
+    let (written, _) = bytes.split_at(text.len().min(256));
+    assert_eq!(rt; written, text);
+}
+
+fn expect_row(rt: &impl Abort, alloc: Global, row: &Row) {
+    let mut builder = Builder::new(alloc);
+    for call in row.adds {
+        assert_eq!(rt; added_at_last(alloc, &mut builder, call), call.answer);
+    }
+    expect_printed(rt, &builder, row.printed.as_bytes(), row.ended);
+}
+
+#[test]
+fn a_refused_system_is_added_when_it_is_handed_in_again(rt: HostRuntime) {
+    for row in ROWS {
+        expect_row(&rt, rt.alloc(), row);
+    }
+}
+
+/// A script, what its run prints, and its status.
+struct Run {
+    script: &'static str,
+    printed: &'static str,
+    status: u8,
+}
+
+const RUNS: &[Run] = &[
+    // A stage for each of six systems, of which two keep what they find.
+    Run {
+        script: "res R 0\nres S 0\nres T 0\nsys 0 average - R+=0\nsys 1 average - R+=1\nsys 2 average - R+=2\nsys 3 average 1 R+=3\nbarrier\nsys 4 average - S=R R+=4\nsys 5 average 4 T=R R+=5\n",
+        printed: "R=15\nS=6\nT=10\nok\n",
+        status: 0,
+    },
+    // A refusal beside another group, and a thread-local system that is not run.
+    Run {
+        script: "res A 0\nres B 0\nsys L very-long - B+=5\nsys f very-short - A+=1 refuse:7\nsys x very-short - A+=1\nsys z average - B+=100\nlocal A+=1000\n",
+        printed: "A=1\nB=5\nsystem 1 refused 7\n",
+        status: 2,
+    },
+    // A batch, dispatched ten times.
+    Run {
+        script: "res potatoes 50\nres tomatoes 50\nres cents 2000\nres open 0\nsys opener average - open=1\nbatch buy - 3\nsys t average - ?open tomatoes+=-1 cents+=-150\nsys p average - ?open potatoes+=-1 cents+=-50\nend\nsys closer average - open=0\ntimes 10\n",
+        printed: "potatoes=20\ntomatoes=20\ncents=-4000\nopen=0\nok\n",
+        status: 0,
+    },
+    // A plan that is printed, and a thread-local system.
+    Run {
+        script: "plan\nres X 1\nsys a average - X+=1\nlocal X*=10\n",
+        printed: "seq![\n\tpar![\n\t\tseq![\n\t\t\ta,\n\t\t],\n\t],\n]\n\nthreads 1\nX=20\nok\n",
+        status: 0,
+    },
+];
+
+// Whether the text stands at the beginning of the bytes, of which so many were not written.
+fn is_text(bytes: &[u8], left: usize, text: &str) -> bool {
+    let (written, _) = bytes.split_at(bytes.len() - left.min(bytes.len()));
+    written == text.as_bytes()
+}
+
+/// The script is run as with ample memory, or not at all.
+fn expect_run(rt: &(impl Abort + AllocGlobal + Threads + Sync), row: &Run) {
+    let (mut printed, mut told) = ([0; 256], [0; 64]);
+    let (mut out, mut err) = (printed.as_mut_slice(), told.as_mut_slice());
+    let mut source = Source::of_text(row.script);
+    let status = run(rt, rt.alloc(), &mut source, &mut out, &mut err);
+    let (room, rest) = (out.len(), err.len());
+    let is_ample = is_text(&printed, room, row.printed) && is_text(&told, rest, "");
+    let is_refused = is_text(&printed, room, "") && is_text(&told, rest, "out of memory\n");
+    assert!(rt; (is_ample && status == row.status) || (is_refused && status == 2));
+}
+
+#[test]
+fn a_script_is_run_or_memory_is_wanting(rt: HostRuntime) {
+    for row in RUNS {
+        expect_run(&rt, row);
+    }
+}

@@ -1,0 +1,122 @@
+//! Systems that name what they read and write by its types, alone and in rounds.
+
+use shred::{
+    DataError, DispatchError, Dispatcher, DispatcherBuilder, Fault, First, Fourth, NoBatch, OneOf4,
+    Rounds, Second, SystemId, Systems2, Third, Typed, TypedSystem, View, World, first, second,
+    third_id,
+};
+use std::process::Abort;
+use std::test::Fail;
+
+type Value = OneOf4<i64, i64, i64, i64>;
+
+/// Each number moves on by one place, and the last to the first.
+#[derive(Drop)]
+struct Turns;
+
+impl TypedSystem<Value> for Turns {
+    type Error = DataError;
+
+    type Reads = ();
+
+    type Writes = (First<i64>, Second<i64>, Third<i64>, Fourth<i64>);
+
+    fn run(
+        &mut self,
+        _view: &View<Value>,
+        written: &mut (First<i64>, Second<i64>, Third<i64>, Fourth<i64>),
+    ) -> Result<(), Fault<DataError>> {
+        let last = written.3.0;
+        written.3.0 = written.2.0;
+        written.2.0 = written.1.0;
+        written.1.0 = written.0.0;
+        written.0.0 = last;
+        Ok(())
+    }
+}
+
+/// The third number becomes what the first two are together.
+#[derive(Drop)]
+struct Sums;
+
+impl TypedSystem<Value> for Sums {
+    type Error = DataError;
+
+    type Reads = (First<i64>, Second<i64>);
+
+    type Writes = Third<i64>;
+
+    fn run(&mut self, view: &View<Value>, third: &mut Third<i64>) -> Result<(), Fault<DataError>> {
+        let first = view.fetch::<First<i64>>()?.0;
+        third.0 = first.wrapping_add(view.fetch::<Second<i64>>()?.0);
+        Ok(())
+    }
+}
+
+type Both = Systems2<Typed<Turns>, Typed<Sums>>;
+
+/// The numbers that the world holds, and 0 where it holds none.
+fn numbers(world: &World<Value>) -> [i64; 4] {
+    let first = world.try_fetch::<First<i64>>().map_or(0, |held| held.0);
+    let second = world.try_fetch::<Second<i64>>().map_or(0, |held| held.0);
+    let third = world.try_fetch::<Third<i64>>().map_or(0, |held| held.0);
+    let fourth = world.try_fetch::<Fourth<i64>>().map_or(0, |held| held.0);
+    [first, second, third, fourth]
+}
+
+#[test]
+fn typed_systems_write_what_they_name(rt: HostRuntime) -> Result<(), Fail> {
+    let mut both: Dispatcher<Value, Both> = DispatcherBuilder::new(rt.alloc())
+        .with(first(Typed(Turns)), "turns", &[])?
+        .with(second(Typed(Sums)), "sums", &["turns"])?
+        .build();
+    let mut world = World::empty(rt.alloc());
+    world.insert(First(1))?;
+    world.insert(Second(2))?;
+    world.insert(Third(3))?;
+    world.insert(Fourth(4))?;
+    assert!(rt; both.dispatch(&rt, &mut world).is_ok());
+    assert_eq!(rt; numbers(&world), [4, 1, 5, 3]);
+    Ok(())
+}
+
+#[test]
+fn a_batch_of_rounds_runs_its_plan_as_often(rt: HostRuntime) -> Result<(), Fail> {
+    let inner = DispatcherBuilder::new(rt.alloc()).with(Typed(Turns), "turns", &[])?;
+    let mut outer: Dispatcher<Value, Typed<Turns>, Rounds<DataError>> = DispatcherBuilder::new(
+        rt.alloc(),
+    ).with_batch(Rounds::new(3), inner, "three", &[])?
+        .build();
+    let mut world = World::empty(rt.alloc());
+    world.insert(First(1))?;
+    world.insert(Second(2))?;
+    world.insert(Third(3))?;
+    world.insert(Fourth(4))?;
+    assert!(rt; outer.dispatch(&rt, &mut world).is_ok());
+    assert_eq!(rt; numbers(&world), [2, 3, 4, 1]);
+    Ok(())
+}
+
+#[test]
+fn a_missing_resource_is_told_before_the_run(rt: HostRuntime) -> Result<(), Fail> {
+    let mut turns: Dispatcher<Value, Typed<Turns>, NoBatch<DataError>> = DispatcherBuilder::new(
+        rt.alloc(),
+    ).with(Typed(Turns), "turns", &[])?
+        .build();
+    let mut world = World::empty(rt.alloc());
+    world.insert(First(1))?;
+    world.insert(Second(2))?;
+    world.insert(Fourth(4))?;
+    let missing = match turns.dispatch(&rt, &mut world) {
+        Err(
+            DispatchError::System {
+                id: SystemId(0),
+                fault: Fault::Refused(DataError::Missing(id)),
+            },
+        ) => id == third_id(0),
+        _ => false,
+    };
+    assert!(rt; missing);
+    assert_eq!(rt; numbers(&world), [1, 2, 0, 4]);
+    Ok(())
+}

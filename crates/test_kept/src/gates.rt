@@ -1,0 +1,116 @@
+//! Systems that wait for each other, on workers that are kept, and how many of these there are.
+
+use crate::adds::{ADDS, Does, UNMET};
+use crate::keeping::{first_refusal, in_batches, kept_on, stage_of, zeros};
+use shred::{AddError, DEFAULT_LOOKS};
+use std::alloc::Global;
+use std::process::Abort;
+use std::sync::Wait;
+use std::sync::atomic::Ordering;
+use std::test::Fail;
+use std::thread::Threads;
+use test_meeting::TURNS;
+use test_workers::few_copies::FewCopies;
+
+/// How often one looks in vain. No number of looks would do: another one has not begun.
+const VAIN: u32 = 1_000;
+
+/// So many systems that wait for each other in each run, in the innermost of so many batches.
+#[derive(Clone, Copy)]
+struct Meeting {
+    systems: usize,
+    levels: u32,
+    turns: u32,
+}
+
+/// The code of the first refusal in three dispatches.
+fn code_on<R: Threads + Wait + Clone + Drop + Send + 'static>(
+    rt: &R,
+    alloc: Global,
+    meeting: Meeting,
+    threads: usize,
+    looks: u32,
+) -> Result<Option<u8>, AddError> {
+    let does = Does {
+        members: meeting.systems as u64,
+        turns: meeting.turns,
+        ..ADDS
+    };
+    let inner = stage_of(alloc, &[does; 4][..meeting.systems.min(4)])?;
+    let builder = in_batches(alloc, inner, meeting.levels)?;
+    let mut kept = kept_on(rt, alloc, builder, threads, looks)?;
+    let mut world = zeros(alloc, meeting.systems)?;
+    let refusal = first_refusal(&mut kept, &mut world, 3);
+    Ok(refusal.map(|(_, code)| code))
+}
+
+const TWO: Meeting = Meeting {
+    systems: 2,
+    levels: 0,
+    turns: TURNS,
+};
+
+const FOUR: Meeting = Meeting { systems: 4, ..TWO };
+
+/// The same in vain.
+fn in_vain(meeting: Meeting) -> Meeting {
+    Meeting {
+        turns: VAIN,
+        ..meeting
+    }
+}
+
+#[test]
+fn gate_two_systems(rt: HostRuntime) -> Result<(), Fail> {
+    for looks in [0, DEFAULT_LOOKS] {
+        assert_eq!(rt; code_on(&rt, rt.alloc(), TWO, 2, looks)?, None);
+        assert_eq!(rt;
+            code_on(&rt, rt.alloc(), in_vain(TWO), 1, looks)?,
+            Some(UNMET)
+        );
+    }
+    Ok(())
+}
+
+#[test]
+fn gate_four_systems(rt: HostRuntime) -> Result<(), Fail> {
+    for looks in [0, DEFAULT_LOOKS] {
+        assert_eq!(rt; code_on(&rt, rt.alloc(), FOUR, 4, looks)?, None);
+        assert_eq!(rt;
+            code_on(&rt, rt.alloc(), in_vain(FOUR), 3, looks)?,
+            Some(UNMET)
+        );
+    }
+    Ok(())
+}
+
+#[test]
+fn gate_batches(rt: HostRuntime) -> Result<(), Fail> {
+    for levels in [1, 3] {
+        let two = Meeting { levels, ..TWO };
+        assert_eq!(rt; code_on(&rt, rt.alloc(), two, 2, 0)?, None);
+        assert_eq!(rt; code_on(&rt, rt.alloc(), in_vain(two), 1, 0)?, Some(UNMET));
+    }
+    Ok(())
+}
+
+/// Two systems on two threads end so where so many copies of the runtime can be made, all of which come back.
+fn expect_with<R: Abort + AllocGlobal + Threads + Wait + Clone + Drop + Send + 'static>(
+    rt: &R,
+    copies: u64,
+    meeting: Meeting,
+    end: Result<Option<u8>, AddError>,
+) -> Result<(), Fail> {
+    let (few, left) = FewCopies::of(rt.clone()?, rt.alloc(), copies)?;
+    assert_eq!(rt; code_on(&few, rt.alloc(), meeting, 2, 0), end);
+    assert_eq!(rt; left.load(Ordering::SeqCst), copies);
+    Ok(())
+}
+
+#[test]
+fn a_worker_that_is_refused_is_one_fewer(rt: HostRuntime) -> Result<(), Fail> {
+    expect_with(&rt, 0, TWO, Err(AddError::OutOfMemory))?;
+    expect_with(&rt, 1, in_vain(TWO), Ok(Some(UNMET)))?;
+    expect_with(&rt, 2, TWO, Ok(None))?;
+    expect_with(&rt, 3, TWO, Ok(None))
+}

@@ -1,0 +1,104 @@
+//! Which refusal is told, and dispatchers that are dropped after it. The last test passes whichever request for memory or
+//! thread is refused.
+
+use crate::adds::{ADDS, Does};
+use crate::keeping::{expect_counts, first_refusal, in_batches, kept_on, refusal, stage_of, zeros};
+use std::process::Abort;
+use std::sync::Wait;
+use std::sync::atomic::Ordering;
+use std::test::Fail;
+use std::thread::Threads;
+use test_meeting::VAIN;
+use test_workers::few_copies::FewCopies;
+
+/// Refuses with this code, where it is not 0.
+const fn with_code(code: u8) -> Does {
+    Does { code, ..ADDS }
+}
+
+/// One stage of these systems tells so in each of ten dispatches, and all of them have added.
+fn expect_told<R: Abort + AllocGlobal + Threads + Wait + Clone + Drop + Send + 'static>(
+    rt: &R,
+    systems: &[Does],
+    told: Option<(usize, u8)>,
+) -> Result<(), Fail> {
+    for threads in [0, 1, 2, 3, 8, 64] {
+        let mut kept = kept_on(rt, rt.alloc(), stage_of(rt.alloc(), systems)?, threads, 0)?;
+        let mut world = zeros(rt.alloc(), systems.len())?;
+        for _ in 0..10 {
+            assert_eq!(rt; refusal(&mut kept, &mut world), told);
+        }
+        expect_counts(rt, &world, systems.len(), 10);
+    }
+    Ok(())
+}
+
+#[test]
+fn the_first_refusal_is_told(rt: HostRuntime) -> Result<(), Fail> {
+    let (done, three, four) = (with_code(0), with_code(3), with_code(4));
+    expect_told(&rt, &[done; 4], None)?;
+    expect_told(&rt, &[done, done, done, three], Some((3, 3)))?;
+    expect_told(&rt, &[done, four, done, three], Some((1, 4)))?;
+    expect_told(&rt, &[four, three, three, three], Some((0, 4)))?;
+    expect_told(
+        &rt,
+        &[done, done, three, done, done, done, four, four, done, four],
+        Some((2, 3)),
+    )
+}
+
+/// Three workers and their pool have a copy of the runtime each, until the dispatcher is dropped after so many dispatches of four
+/// systems in so many batches, which tell so.
+fn expect_ended<R: Abort + AllocGlobal + Threads + Wait + Clone + Drop + Send + 'static>(
+    rt: &R,
+    last: Does,
+    levels: u32,
+    times: u32,
+    told: Option<(usize, u8)>,
+) -> Result<(), Fail> {
+    let (few, left) = FewCopies::of(rt.clone()?, rt.alloc(), 4)?;
+    let inner = stage_of(rt.alloc(), &[ADDS, ADDS, ADDS, last])?;
+    let builder = in_batches(rt.alloc(), inner, levels)?;
+    let mut kept = kept_on(&few, rt.alloc(), builder, 4, 0)?;
+    assert_eq!(rt; left.load(Ordering::SeqCst), 0);
+    let mut world = zeros(rt.alloc(), 4)?;
+    assert_eq!(rt; first_refusal(&mut kept, &mut world, times), told);
+    drop(kept);
+    assert_eq!(rt; left.load(Ordering::SeqCst), 4);
+    Ok(())
+}
+
+#[test]
+fn a_dispatcher_that_is_dropped_has_ended_its_workers(rt: HostRuntime) -> Result<(), Fail> {
+    expect_ended(&rt, ADDS, 0, 0, None)?;
+    expect_ended(&rt, ADDS, 0, 10, None)?;
+    expect_ended(&rt, with_code(7), 0, 1, Some((3, 7)))?;
+    expect_ended(&rt, with_code(7), 1, 1, Some((0, 7)))?;
+    expect_ended(&rt, with_code(7), 3, 1, Some((0, 7)))
+}
+
+/// Two that wait for each other, but not long before they have met.
+const IMPATIENT: Does = Does {
+    members: 2,
+    turns: VAIN,
+    code: 0,
+};
+
+/// Whether two that wait for each other have met ten times more after they met. A dispatch that took memory then would fail.
+#[test]
+fn once_a_stage_has_run_a_dispatch_takes_no_memory(rt: HostRuntime) {
+    let Ok(builder) = stage_of(rt.alloc(), &[IMPATIENT; 2]) else {
+        return;
+    };
+    let Ok(mut kept) = kept_on(&rt, rt.alloc(), builder, 2, 0) else {
+        return;
+    };
+    let Ok(mut world) = zeros(rt.alloc(), 2) else {
+        return;
+    };
+    if refusal(&mut kept, &mut world).is_some() {
+        return;
+    }
+    assert_eq!(rt; first_refusal(&mut kept, &mut world, 10), None);
+    expect_counts(&rt, &world, 2, 11);
+}

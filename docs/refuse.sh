@@ -94,19 +94,19 @@ swept() {
 }
 
 sweep_scripts() {
-    local program script mode
-    program=$(built shredrun)
+    local script way program mode
     local may='2\|\|out of memory|2\|(system|local|stage) [0-9]+ out of memory\|'
     for script in examples/*.script; do
-        for mode in par seq; do
+        for way in 'shredrun par' 'shredrun seq' 'shredkept par'; do
+            read -r program mode <<<"$way"
             { cat "$script"; printf '\nmode %s\n' "$mode"; } >"$room/script"
             input=$room/script
-            swept "$(basename "$script") $mode" "$program"
+            swept "$(basename "$script") by $way" "$(built "$program")"
         done
     done
     input=/dev/null
     may='2\|\|out of memory|1\|\|demo failed'
-    swept 'shredrun demo' "$program" demo
+    swept 'shredrun demo' "$(built shredrun)" demo
 }
 
 sweep_tests() {

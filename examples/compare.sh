@@ -1,6 +1,6 @@
 #!/usr/bin/env bash
-# examples/compare.sh: runs the built shredrun and shredplan on the scripts of this folder, and compares the status, standard
-# output and standard error with what is wanted. It prints nothing where all agree.
+# examples/compare.sh: runs the built shredrun, shredkept and shredplan on the scripts of this folder, and compares the status,
+# standard output and standard error with what is wanted. It prints nothing where all agree.
 # - NAME.script is to print the file NAME.stdout, which was worked out by hand; the status has to be 0 where the last
 #   line is `ok`, else 2.
 # - rows.txt has a script a line, with its status before it and what it prints behind it, in columns with one tab
@@ -9,7 +9,7 @@
 #   value. A line feed stands at an end only where one is written. Empty lines and lines that begin with # are no rows.
 #   A row without STDOUT is run once more with a standard output that takes nothing, and has to end in the same way. What
 #   a row is told of its lines, shredplan has to tell too.
-# - What prints something of these files and rows is run on several numbers of workers besides, and has to end in the same way.
+# - What prints something is run on several numbers of workers besides, and has to end in the same way.
 # - random.txt has whole scripts, each behind a line `=== NUMBER`. The line `--- STATUS stdout` or `--- STATUS stderr`
 #   ends it, and what is printed there follows; nothing is printed on the other.
 # - NAME.dot and NAME.conflicts are what shredplan is to print of NAME.script, asked for that, worked out by hand. Of its
@@ -18,7 +18,9 @@
 set -euo pipefail
 cd "$(dirname "${BASH_SOURCE[0]}")"
 
-program=(../crates/shredrun/out/shredrun)
+shredrun=../crates/shredrun/out/shredrun
+shredkept=../crates/shredkept/out/shredkept
+program=("$shredrun")
 shredplan=../crates/shredplan/out/shredplan
 room=$(mktemp -d)
 trap 'rm -rf "$room"' EXIT
@@ -26,7 +28,7 @@ differ=0
 tab=$'\t'
 
 complain() {
-    echo "examples: $1" >&2
+    echo "examples: ${program[0]##*/}: $1" >&2
     differ=1
 }
 
@@ -135,6 +137,8 @@ compare_random() {
         case=$room/$number
         read -r status <"$case.status"
         ends_so "script $number of random.txt" "$case.script" "$status" "$case.stdout" "$case.stderr"
+        [ ! -s "$case.stdout" ] ||
+            ends_so_on_any_workers "script $number of random.txt" "$case.script" "$status" "$case.stdout"
         scripts=$((scripts + 1))
     done <"$room/numbers"
     [ "$scripts" -gt 0 ] || complain "random.txt has no script"
@@ -142,8 +146,8 @@ compare_random() {
 
 # is_told_usage ARGUMENT..: shredrun is told how it is called, and runs no script.
 is_told_usage() {
-    local program=("${program[@]}" "$@")
-    ends_so "shredrun, called with '$*'," "$room/script" 1 /dev/null "$room/wanted-stderr"
+    local program=("$program" "$@")
+    ends_so "the call with '$*'," "$room/script" 1 /dev/null "$room/wanted-stderr"
 }
 
 compare_arguments() {
@@ -157,16 +161,19 @@ compare_arguments() {
     is_told_usage demo ''
     is_told_usage demo demo
     is_told_usage script demo
-    local program=("${program[@]}" demo)
+    local program=("$program" demo)
     printf 'e0 8 5 11\ne1 10 - 27\nok\n' >"$room/wanted-stdout"
-    ends_so "shredrun demo" "$room/script" 0 "$room/wanted-stdout" /dev/null
+    ends_so "the demo" "$room/script" 0 "$room/wanted-stdout" /dev/null
     printf 'demo failed\n' >"$room/wanted-stderr"
-    writes_nothing "shredrun demo" "$room/script" 1 "$room/wanted-stderr"
+    writes_nothing "the demo" "$room/script" 1 "$room/wanted-stderr"
 }
 
-compare_files
 compare_arguments
 compare_plans
-compare_rows
-compare_random
+for each in "$shredrun" "$shredkept"; do
+    program=("$each")
+    compare_files
+    compare_rows
+    compare_random
+done
 exit "$differ"

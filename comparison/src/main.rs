@@ -3,7 +3,10 @@
 //!     comparison once <SCRIPT      each system fetches what it declares once a run, as its system data
 //!     comparison few <SCRIPT       it fetches in each step where there are few, by the rule of `shredrun`
 //!     comparison declared <SCRIPT  the same, where a step `?X` only declares
+//!     comparison waiting SYSTEMS TIMES WORK  dispatches the systems of `shredmeasure`
 //!     comparison plan SYSTEMS TIMES  builds plans of the accesses that `shredmeasure` draws
+//!
+//! Dispatches run on one thread, and with `--features parallel` on the original's pool.
 mod script;
 mod steps;
 mod systems;
@@ -13,7 +16,7 @@ use shred::{Dispatcher, DispatcherBuilder, RunningTime, System, World};
 use std::hint::black_box;
 use std::{io, process};
 use steps::{id_of, Compiled, Ids};
-use systems::{ByRule, Once, Planned, Rounds};
+use systems::{ByRule, Once, Planned, Rounds, Waiting};
 
 /// The type of each resource.
 pub struct Value(pub i64);
@@ -69,8 +72,7 @@ fn builder_of<S: FromLine>(lines: &[Line]) -> Builder {
 
 fn dispatch_each(dispatcher: &mut Dispatcher<'static, 'static>, world: &World, times: usize) {
     for _ in 0..times {
-        dispatcher.dispatch_seq(world);
-        dispatcher.dispatch_thread_local(world);
+        dispatcher.dispatch(world);
     }
 }
 
@@ -91,6 +93,24 @@ fn run<S: FromLine>(looks: bool) {
         println!("{name}={}", value.0);
     }
     println!("ok");
+}
+
+/// Each system waits for so many pauses of the processor, adds 1 to a count of its own and declares to read one that all share. The
+/// sum of the counts is printed.
+fn waiting(count: u64, times: u64, work: u64) {
+    let mut world = World::empty();
+    let mut builder = Builder::new();
+    world.insert_by_id(id_of(0), Value(0));
+    for number in 1..=count as usize {
+        world.insert_by_id(id_of(number), Value(0));
+        builder.add(Waiting::of(number, work), "", &[]);
+    }
+    dispatch_each(&mut builder.build(), &world, times as usize);
+    let sum: i64 = (1..=count as usize)
+        .filter_map(|number| world.try_fetch_by_id::<Value>(id_of(number)))
+        .map(|count| count.0)
+        .sum();
+    println!("{sum}");
 }
 
 fn next(seed: u64) -> u64 {
@@ -126,7 +146,7 @@ fn plan(count: u64, times: u64) {
 }
 
 fn usage() -> ! {
-    eprintln!("usage: comparison once|few|declared <SCRIPT, or comparison plan SYSTEMS TIMES");
+    eprintln!("usage: comparison once|few|declared <SCRIPT, comparison waiting SYSTEMS TIMES WORK, or comparison plan SYSTEMS TIMES");
     process::exit(2)
 }
 
@@ -141,6 +161,7 @@ fn main() {
         ["once"] => run::<Once>(true),
         ["few"] => run::<ByRule>(true),
         ["declared"] => run::<ByRule>(false),
+        ["waiting", count, times, work] => waiting(number(count), number(times), number(work)),
         ["plan", count, times] => plan(number(count), number(times)),
         _ => usage(),
     }

@@ -1,5 +1,5 @@
 //! Reads a script. It has to be a good one without `refuse:`; whatever is wrong in it ends the program. `mode`, `workers` and `plan`
-//! are passed over: all runs on one thread, and nothing is printed of the plan.
+//! are passed over: how the program is built says where all runs, and nothing is printed of the plan.
 use crate::steps::{compile, Change, Compiled, Op, RawOperand, RawStep};
 use shred::RunningTime;
 use std::collections::HashMap;

@@ -1,11 +1,12 @@
 //! Systems whose ids are known at run time alone.
-use crate::steps::{apply, look, Compiled, Guard, Ids, Operand, Step};
+use crate::steps::{apply, id_of, look, Compiled, Guard, Ids, Operand, Step};
 use crate::Value;
 use shred::{
     AccessorCow, BatchController, Dispatcher, DynamicSystemData, Fetch, FetchMut, RunningTime,
     System, World,
 };
 use smallvec::SmallVec;
+use std::hint::spin_loop;
 
 type Reads<'a> = SmallVec<[Fetch<'a, Value>; 4]>;
 type Writes<'a> = SmallVec<[FetchMut<'a, Value>; 4]>;
@@ -162,6 +163,41 @@ impl<'a, 'b, 'c> BatchController<'a, 'b, 'c> for Rounds {
         for _ in 0..self.0 {
             dispatcher.dispatch(world);
         }
+    }
+}
+
+/// Waits for so many pauses of the processor, and adds 1 to a count of its own.
+pub struct Waiting {
+    work: u64,
+    ids: Ids,
+}
+
+impl Waiting {
+    pub fn of(number: usize, work: u64) -> Self {
+        Waiting {
+            work,
+            ids: Ids {
+                writes: vec![id_of(number)],
+                only_declared: vec![id_of(0)],
+                ..Ids::default()
+            },
+        }
+    }
+}
+
+impl<'a> System<'a> for Waiting {
+    type SystemData = Guards<'a>;
+
+    fn run(&mut self, mut guards: Guards<'a>) {
+        for _ in 0..self.work {
+            spin_loop();
+        }
+        let count = &mut guards.writes[0].0;
+        *count = count.wrapping_add(1);
+    }
+
+    fn accessor<'b>(&'b self) -> AccessorCow<'a, 'b, Self> {
+        AccessorCow::Ref(&self.ids)
     }
 }
 

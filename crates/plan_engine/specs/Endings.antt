@@ -1,13 +1,18 @@
 -- How a run ends that shows a plan.
-use Rattle.std.specs.Prelude.{◌≡◌, ◌⊎◌, ℕ, Any, IsTrue, List, Option, Result, Ok, Err, IfErr, IfOk, OnOk}
+use Rattle.std.specs.Prelude.{◌≡◌, ◌⊎◌, ℕ, IsTrue, List, Option, Result, Ok, Err, IfErr, IfOk, OnOk}
 use Rattle.std.specs.Io.KnownBytes.{Appends, Keeps}
 use Rattle.shred_stage.specs.Sinks.{AppendsBeginning}
-use Rattle.plan_text.specs.declared.plans.Plans.{Plans}
-use Rattle.plan_text.specs.Plans.{HasChoice}
+use Rattle.script_engine.specs.Lines.{IsNotBuilt}
+use Rattle.script_engine.specs.Runs.{IsReadAs}
+use Rattle.plan_engine.specs.declared.plans.Plans.{Plans}
+use Rattle.plan_engine.specs.Plans.{HaveChoice}
+use Rattle.script_text.specs.declared.error.AddRefusal.{AddRefusal}
 use Rattle.script_text.specs.declared.error.ScriptError.{ScriptError}
-use Rattle.script_text.specs.declared.error.ScriptError.TheVariants.{OutputFailed}
+use Rattle.script_text.specs.declared.script.Script.{Script}
+use Rattle.script_text.specs.declared.error.ScriptError.TheVariants.{OutputFailed, Refused}
 use Rattle.script_text.specs.Endings.{error_status}
 use Rattle.script_text.specs.Texts.{error_text, line_of}
+use Rattle.plan_engine.specs.Shown.{AreShownOf}
 use Rattle.plan_engine.specs.declared.wanted.Wanted.{Wanted}
 use Rattle.plan_engine.specs.declared.wanted.Wanted.TheVariants.{Choices, Dot, Svg}
 
@@ -15,11 +20,27 @@ use Rattle.plan_engine.specs.declared.wanted.Wanted.TheVariants.{Choices, Dot, S
 abbrev pub HasStatus : Wanted → Plans → ℕ → Type 0
 HasStatus Dot plans status = status ≡ 0
 HasStatus Svg plans status = status ≡ 0
-HasStatus (Choices denied) plans status = ((status ≡ 0) × (IsTrue denied → Any HasChoice plans.plans.items → ⊥)) ⊎ ((status ≡ 4) × IsTrue denied × Any HasChoice plans.plans.items)
+HasStatus (Choices denied) plans status = ((status ≡ 0) × (IsTrue denied → HaveChoice plans → ⊥)) ⊎ ((status ≡ 4) × IsTrue denied × HaveChoice plans)
 
--- some plans are shown, with their status
-abbrev pub IsShown : Wanted → Option (List ℕ) → Option (List ℕ) → ℕ → Type 0
-IsShown wanted old new status = (plans : Plans) × HasStatus wanted plans status × ((text : List ℕ) × Appends old new text)
+-- the plans of this script are shown, with their status
+abbrev pub IsScriptShown : Wanted → Script → Option (List ℕ) → Option (List ℕ) → ℕ → Type 0
+IsScriptShown wanted script old new status = (plans : Plans) × AreShownOf script plans × HasStatus wanted plans status × ((text : List ℕ) × Appends old new text)
+
+-- what was read says a script, whose plans are shown, with their status
+abbrev pub IsShown : Wanted → Option (List ℕ) → Option (List ℕ) → Option (List ℕ) → Option (List ℕ) → ℕ → Type 0
+IsShown wanted read left old new status = (script : Script) × IsReadAs script read left × IsScriptShown wanted script old new status
+
+-- where a line is told to be refused, the builders refuse it
+abbrev pub IsRefusedByBuilders : Script → ScriptError → Type 0
+IsRefusedByBuilders script error = (line : ℕ) (refusal : AddRefusal) → error ≡ Refused line refusal → IsNotBuilt script.plan.items error
+
+-- where a line is told to be refused, what was read says a script of which the builders refuse it
+abbrev pub IsRefusedAsRead : Option (List ℕ) → Option (List ℕ) → ScriptError → Type 0
+IsRefusedAsRead read left error = (line : ℕ) (refusal : AddRefusal) → error ≡ Refused line refusal → (script : Script) × IsReadAs script read left × IsNotBuilt script.plan.items error
+
+-- nothing was added to standard output, unless output failed
+abbrev pub IsNotShown : Option (List ℕ) → Option (List ℕ) → ScriptError → Type 0
+IsNotShown old new error = (error ≡ OutputFailed) ⊎ Keeps old new
 
 -- the status of an end
 abbrev pub shown_status : Result ℕ ScriptError → ℕ
@@ -27,11 +48,12 @@ shown_status (Ok status) = status
 shown_status (Err error) = error_status error
 
 -- A run ended somehow: the status says how. Where plans are shown, a text was added to standard output, and nothing to standard
--- error; of an error its line is told there, or a beginning of it, and only where output failed may something be on standard output.
-pub record HasToldPlan (wanted : Wanted) (status : ℕ) (out out_after err err_after : Option (List ℕ)) : Type 0 where
+-- error; of an error its line is told there, or a beginning of it, and only where output failed may something be on standard output. A line that is told to be refused the builders refuse.
+pub record HasToldPlan (wanted : Wanted) (status : ℕ) (read left out out_after err err_after : Option (List ℕ)) : Type 0 where
   pub ending : Result ℕ ScriptError
   pub status_is : status ≡ shown_status ending
-  pub shown : IfOk ending (IsShown wanted out out_after)
-  pub not_shown : IfErr ending (λ error. (error ≡ OutputFailed) ⊎ Keeps out out_after)
+  pub shown : IfOk ending (IsShown wanted read left out out_after)
+  pub not_shown : IfErr ending (IsNotShown out out_after)
+  pub refused : IfErr ending (IsRefusedAsRead read left)
   pub quiet : OnOk ending (Keeps err err_after)
   pub told : IfErr ending (λ error. AppendsBeginning err err_after (line_of (error_text error)))

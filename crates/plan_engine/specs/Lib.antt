@@ -1,4 +1,11 @@
-pub mod Additions
+pub mod Choices
+pub mod Dependence
 pub mod Endings
+pub mod Entries
+pub mod Levels
+pub mod Names
+pub mod Noted
+pub mod Plans
+pub mod Shown
 pub mod Stages
 pub mod Together

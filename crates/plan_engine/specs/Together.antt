@@ -1,6 +1,6 @@
 -- What the entries of a plan declare together.
 use Rattle.std.specs.Prelude.{ℕ, List, [], ◌∷◌, Some}
-use Rattle.plan_choices.specs.declared.declaration.Declaration.{Declaration}
+use Rattle.plan_engine.specs.declared.declaration.Declaration.{Declaration}
 use Rattle.script_text.specs.Declares.{with_place}
 
 -- these places, and those of the others that they lack, each once

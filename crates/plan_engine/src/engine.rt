@@ -1,11 +1,13 @@
 //! From a script's bytes to what is shown of its plan.
-ghost use Rattle.std.specs.Prelude.{◌≡◌, ◌⊎◌, IfErr, IfOk};
-ghost use Rattle.std.specs.Io.KnownBytes.{Appends, Keeps};
-ghost use Rattle.plan_engine.specs.Endings.{HasToldPlan, HasStatus, IsShown};
+ghost use Rattle.std.specs.Prelude.{IfErr, IfOk};
+ghost use Rattle.plan_engine.specs.Endings.{HasToldPlan, HasStatus, IsNotShown, IsRefusedAsRead, IsRefusedByBuilders, IsScriptShown, IsShown};
 
 use crate::build::plans_of;
+use crate::digraph::dot;
+use crate::picture::svg;
+use crate::plans::Plans;
+use crate::report::report;
 use crate::wanted::Wanted;
-use plan_text::{Plans, dot, report, svg};
 use script_text::error::ScriptError;
 use script_text::error_line::tell;
 use script_text::input::read_text;
@@ -34,7 +36,7 @@ pub fn run<R: Read, O: Write, E: Write>(
     out: &mut O,
     err: &mut E,
 ) -> u8
-    ensures { HasToldPlan wanted result (O.contents out.old) (O.contents out.new) (E.contents err.old) (E.contents err.new) }
+    ensures { HasToldPlan wanted result (R.remaining reader.old) (R.remaining reader.new) (O.contents out.old) (O.contents out.new) (E.contents err.old) (E.contents err.new) }
 {
     match run_wanted(alloc, wanted, reader, out) {
         Ok(status) => status,
@@ -52,8 +54,9 @@ fn run_wanted<R: Read, O: Write>(
     reader: &mut R,
     out: &mut O,
 ) -> Result<u8, ScriptError>
-    ensures shown { IfOk result (IsShown wanted (O.contents out.old) (O.contents out.new)) }
-    ensures not_shown { IfErr result (λ error. (error ≡ ScriptError.OutputFailed) ⊎ Keeps (O.contents out.old) (O.contents out.new)) }
+    ensures shown { IfOk result (IsShown wanted (R.remaining reader.old) (R.remaining reader.new) (O.contents out.old) (O.contents out.new)) }
+    ensures not_shown { IfErr result (IsNotShown (O.contents out.old) (O.contents out.new)) }
+    ensures refused { IfErr result (IsRefusedAsRead (R.remaining reader.old) (R.remaining reader.new)) }
 {
     let text = match read_text(alloc, reader) {
         Ok(text) => text,
@@ -63,6 +66,20 @@ fn run_wanted<R: Read, O: Write>(
         Ok(script) => script,
         Err(error) => return Err(error),
     };
+    show_script(alloc, wanted, script, out)
+}
+
+/// Shows the plan of a script on `out`. Gives the exit status.
+fn show_script<O: Write>(
+    alloc: Global,
+    wanted: Wanted,
+    script: Script<'_>,
+    out: &mut O,
+) -> Result<u8, ScriptError>
+    ensures shown { IfOk result (IsScriptShown wanted script.entry (O.contents out.old) (O.contents out.new)) }
+    ensures not_shown { IfErr result (IsNotShown (O.contents out.old) (O.contents out.new)) }
+    ensures refused { IfErr result (IsRefusedByBuilders script.entry) }
+{
     let plans = match plans_of(alloc, script) {
         Ok(plans) => plans,
         Err(error) => return Err(error),

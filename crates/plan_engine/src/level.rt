@@ -1,46 +1,42 @@
-//! A plan that grows, of a script or of a batch in it.
-ghost use Rattle.std.specs.Prelude.{◌≡◌, ◌<◌, ◌++◌, [], ◌∷◌, All, IfOk, IfSome, OnOk, vec_len};
+//! A plan that grows, of a script or of a batch in it, and what is shown of it.
+ghost use Rattle.std.specs.Prelude.{◌≡◌, ◌≤◌, ◌++◌, IfOk, OnOk, vec_len};
+ghost use Rattle.std.specs.String.{string_bytes};
 ghost use Rattle.shred.specs.Builders.{built};
-ghost use Rattle.script_text.specs.Declares.{places_read, places_written};
-ghost use Rattle.plan_engine.specs.Additions.{AddsDeclaration, BecomePlans};
-ghost use Rattle.plan_engine.specs.Together.{reads_of_all, writes_of_all};
+ghost use Rattle.shred_stage.specs.Known.{texts_of};
+ghost use Rattle.plan_engine.specs.Names.{numbers_in};
+ghost use Rattle.plan_engine.specs.Noted.{AreEarlier, BecomePlans};
 
-use crate::planned::Planned;
+use crate::declaration::Declaration;
+use crate::declarations::Declarations;
+use crate::plans::{Batch, Entry, Plan};
 use crate::stages::stages_of;
 use crate::touched::Touched;
-use plan_choices::{Declaration, Declarations};
-use plan_text::{Batch, Entry, Plan};
+use script_engine::{Declared, LineTaker, ScriptBuilder};
 use script_text::error::ScriptError;
-use script_text::script::RuleLine;
+use script_text::script::{BatchLine, RuleLine, SystemLine};
 use script_text::step::Step;
-use script_text::value::Value;
-use shred::{AddError, DispatcherBuilder, RunningTime};
+use shred::{RunningTime, SystemId};
 use std::alloc::{AllocError, Global};
 
-/// A plan that grows, and the plans of the batches in it, at every depth, each behind the one that it stands in.
+/// A plan that grows, with what is noted of it, and the plans of the batches in it, at every depth, each behind the one that it
+/// stands in.
 #[derive(Drop)]
 pub(crate) struct Level {
-    builder: DispatcherBuilder<Value, Planned>,
+    builder: ScriptBuilder,
     plan: Plan,
     behind: Vec<Plan>,
-    /// Whether it has a thread-local system.
-    pub(crate) has_local: bool,
-}
-
-/// An entry that is to be added, by the line with this number.
-#[derive(Drop)]
-pub(crate) struct Addition<'text> {
-    pub(crate) line: usize,
-    pub(crate) name: &'text str,
-    pub(crate) time: RunningTime,
-    pub(crate) dependencies: Vec<&'text str>,
+    ghost noted: { (built builder).next ≤ vec_len plan.declarations.entries },
 }
 
 impl Level {
+    ghost use Rattle.plan_engine.specs.Levels.{ArePlansOf, IsNewLevel, found_ids, next_name, next_path};
+
     /// An empty plan, with so many batches around it.
-    pub(crate) fn new(alloc: Global, batch: Option<Batch>, depth: usize) -> Level {
+    pub(crate) fn new(alloc: Global, batch: Option<Batch>, depth: usize) -> Level
+        ensures { IsNewLevel result batch }
+    {
         Level {
-            builder: DispatcherBuilder::new(alloc),
+            builder: ScriptBuilder::new(alloc),
             plan: Plan {
                 batch,
                 depth,
@@ -49,65 +45,13 @@ impl Level {
                 stages: Vec::new(alloc),
             },
             behind: Vec::new(alloc),
-            has_local: false,
         }
-    }
-
-    /// What is added from here on stands behind all that is there.
-    pub(crate) fn add_barrier(&mut self) {
-        self.builder.add_barrier();
-    }
-
-    /// What is added from here on is placed by the line's rule, which is refused where something was added before.
-    pub(crate) fn set_rule(&mut self, line: RuleLine) -> Result<(), ScriptError> {
-        match self.builder.add_rule(line.rule) {
-            Ok(()) => Ok(()),
-            Err(error) => Err(ScriptError::of_add(line.line, error)),
-        }
-    }
-
-    /// Adds a system of these steps.
-    pub(crate) fn add_system(
-        &mut self,
-        alloc: Global,
-        addition: Addition<'_>,
-        steps: &[Step],
-    ) -> Result<(), ScriptError>
-        ensures { OnOk result (AddsDeclaration self.old.plan self.new.plan (places_read [] steps.now) (places_written [] steps.now)) }
-    {
-        let touched = Touched::by_steps(alloc, steps)?;
-        let name = self.name_of_next(alloc, addition.name, "system")?;
-        self.add(alloc, addition, name, touched, None)
-    }
-
-    /// Adds a batch of this plan, which has no thread-local system.
-    pub(crate) fn add_batch(
-        &mut self,
-        alloc: Global,
-        addition: Addition<'_>,
-        inner: Level,
-    ) -> Result<(), ScriptError>
-        ensures { OnOk result (AddsDeclaration self.old.plan self.new.plan (reads_of_all [] inner.plan.declarations.entries.items) (writes_of_all [] inner.plan.declarations.entries.items)) }
-    {
-        if inner.has_local {
-            return Err(ScriptError::of_add(addition.line, AddError::ThreadLocalInBatch));
-        }
-        let touched = Touched::by_all(alloc, &inner.plan.declarations.entries)?;
-        let name = self.name_of_next(alloc, addition.name, "batch")?;
-        let distance = self.behind.len() + 1;
-        self.add(alloc, addition, name, touched, Some(distance))?;
-        let mut plans = inner.into_plans(alloc)?;
-        self.behind.append(&mut plans)?;
-        Ok(())
     }
 
     /// The name of the next entry: the one that it is given, or what it is, with its id.
-    pub(crate) fn name_of_next(
-        &self,
-        alloc: Global,
-        name: &str,
-        kind: &str,
-    ) -> Result<String, AllocError> {
+    fn name_of_next(&self, alloc: Global, name: &str, kind: &str) -> Result<String, AllocError>
+        ensures { IfOk result (λ text. string_bytes text ≡ next_name self.now kind.now name.now) }
+    {
         let id = self.plan.entries.len();
         if name.is_empty() {
             format!(in alloc; "{kind} {id}")
@@ -117,7 +61,9 @@ impl Level {
     }
 
     /// The name of the next batch, behind those of the batches around it, with a `/` between them.
-    pub(crate) fn path_of_next(&self, alloc: Global, name: &str) -> Result<String, AllocError> {
+    fn path_of_next(&self, alloc: Global, name: &str) -> Result<String, AllocError>
+        ensures { IfOk result (λ path. string_bytes path ≡ next_path self.now name.now) }
+    {
         let name = self.name_of_next(alloc, name, "batch")?;
         match &self.plan.batch {
             Some(batch) => format!(in alloc; "{}/{name}", batch.name),
@@ -125,93 +71,136 @@ impl Level {
         }
     }
 
-    fn add(
-        &mut self,
-        alloc: Global,
-        addition: Addition<'_>,
-        name: String,
-        touched: Touched,
-        inner: Option<usize>,
-    ) -> Result<(), ScriptError>
-        ensures { OnOk result (AddsDeclaration self.old.plan self.new.plan touched.reads.items touched.writes.items) }
+    /// The ids of the entries of these names.
+    fn ids_of(&self, alloc: Global, names: &[&str]) -> Result<Vec<usize>, AllocError>
+        ensures ids { IfOk result (λ ids. ids.items ≡ found_ids self.now (texts_of names.now)) }
+        ensures earlier { IfOk result (λ ids. AreEarlier self.now.plan ids.items) }
     {
-        let Addition {
-            line,
-            name: given,
-            time,
-            dependencies,
-        } = addition;
-        let Touched { reads, writes } = touched;
-        let system = Planned::new(alloc, &reads, &writes, time)?;
-        if let Err(error) = self.builder.add(system, given, dependencies.as_slice()) {
-            return Err(ScriptError::of_add(line, error));
+        let mut ids = Vec::new(alloc);
+        for place in 0..names.len() {
+            push_known(&mut ids, self.builder.id_of(names[place]))?;
         }
-        let dependencies = places_of(alloc, &self.plan, dependencies.as_slice())?;
+        Ok(ids)
+    }
+
+    /// The plan, as it is planned, and those of its batches behind it.
+    pub(crate) fn into_plans(self, alloc: Global) -> Result<Vec<Plan>, AllocError>
+        ensures { IfOk result (λ plans. ArePlansOf self plans.items) }
+    {
+        let Level {
+            builder,
+            plan,
+            behind,
+        } = self;
+        as_planned(alloc, &builder, plan, behind)
+    }
+}
+
+impl LineTaker for Level {
+    ghost use Rattle.plan_engine.specs.Levels.{level_notes};
+
+    ghost noting = { level_notes };
+
+    fn add_system(&mut self, alloc: Global, line: SystemLine<'_>) -> Result<(), ScriptError> {
+        let declared = Declared::of_steps(alloc, line.steps.as_slice())?;
+        let dependencies = self.ids_of(alloc, line.dependencies.as_slice())?;
+        let name = self.name_of_next(alloc, line.name, "system")?;
+        let entry = Entry {
+            name,
+            time: line.time.count(),
+            inner: None,
+        };
+        let Declared {
+            read: reads,
+            written: writes,
+            ..
+        } = declared;
         let declaration = Declaration {
             reads,
             writes,
             dependencies,
         };
+        self.plan.add(entry, declaration)?;
+        self.builder.add_system(alloc, line)
+    }
+
+    fn add_local(&mut self, steps: Vec<Step>) -> Result<(), ScriptError> {
+        self.builder.add_local(steps)
+    }
+
+    fn add_barrier(&mut self) {
+        LineTaker::add_barrier(&mut self.builder);
+    }
+
+    fn set_rule(&mut self, line: RuleLine) -> Result<(), ScriptError> {
+        self.builder.set_rule(line)
+    }
+
+    fn begin_batch(&self, alloc: Global, batch: &BatchLine<'_>) -> Result<Level, AllocError> {
+        let name = self.path_of_next(alloc, batch.name)?;
+        let inner = Batch {
+            name,
+            rounds: batch.rounds,
+        };
+        let depth = self.plan.depth.saturating_add(1);
+        Ok(Level::new(alloc, Some(inner), depth))
+    }
+
+    fn add_batch(
+        &mut self,
+        alloc: Global,
+        end: usize,
+        batch: BatchLine<'_>,
+        inner: Level,
+    ) -> Result<(), ScriptError> {
+        let touched = Touched::by_all(alloc, &inner.plan.declarations.entries)?;
+        let dependencies = self.ids_of(alloc, batch.dependencies.as_slice())?;
+        let name = self.name_of_next(alloc, batch.name, "batch")?;
         let entry = Entry {
             name,
-            time: time.count(),
-            inner,
+            time: RunningTime::VeryLong.count(),
+            inner: Some(self.behind.len() + 1),
         };
-        self.note(entry, declaration)?;
-        Ok(())
-    }
-
-    /// Notes an entry, and what it declares.
-    fn note(&mut self, entry: Entry, declaration: Declaration) -> Result<(), AllocError>
-        requires { All (λ place. place < vec_len self.old.plan.declarations.entries) declaration.dependencies.items }
-        ensures entries { OnOk result (self.new.plan.entries.items ≡ self.old.plan.entries.items ++ entry ∷ []) }
-        ensures declarations { OnOk result (self.new.plan.declarations.entries.items ≡ self.old.plan.declarations.entries.items ++ declaration ∷ []) }
-    {
-        self.plan.entries.push(entry)?;
-        self.plan.declarations.add(declaration)
-    }
-
-    /// The plan, as it is planned, and those of its batches behind it.
-    pub(crate) fn into_plans(self, alloc: Global) -> Result<Vec<Plan>, AllocError>
-        ensures { IfOk result (λ plans. BecomePlans self.plan self.behind.items (built self.builder).plan plans.items) }
-    {
+        let Touched { reads, writes } = touched;
+        let declaration = Declaration {
+            reads,
+            writes,
+            dependencies,
+        };
         let Level {
             builder,
-            mut plan,
-            mut behind,
-            ..
-        } = self;
-        plan.stages = stages_of(alloc, builder)?;
-        let mut plans = Vec::new(alloc);
-        plans.push(plan)?;
-        plans.append(&mut behind)?;
-        Ok(plans)
+            plan,
+            behind,
+        } = inner;
+        let mut plans = as_planned(alloc, &builder, plan, behind)?;
+        self.plan.add(entry, declaration)?;
+        self.behind.append(&mut plans)?;
+        LineTaker::add_batch(&mut self.builder, alloc, end, batch, builder)
     }
 }
 
-/// The places of the entries of these names, of which each is an entry's.
-fn places_of(alloc: Global, plan: &Plan, names: &[&str]) -> Result<Vec<usize>, AllocError>
-    ensures { IfOk result (λ places. All (λ place. place < vec_len plan.now.declarations.entries) places.items) }
+/// Puts the id behind these, if there is one.
+fn push_known(ids: &mut Vec<usize>, id: Option<SystemId>) -> Result<(), AllocError>
+    ensures { OnOk result (ids.new.items ≡ ids.old.items ++ numbers_in id) }
 {
-    let mut places = Vec::new(alloc);
-    for name in names {
-        if let Some(place) = place_of(plan, name) {
-            places.push(place)?;
-        }
+    if let Some(id) = id {
+        ids.push(id.0)?;
     }
-    Ok(places)
+    Ok(())
 }
 
-/// The place of the entry of this name.
-fn place_of(plan: &Plan, name: &str) -> Option<usize>
-    ensures { IfSome result (λ place. place < vec_len plan.now.declarations.entries) }
+/// A plan with what is noted of it and the stages that the builder made, and behind it these.
+fn as_planned(
+    alloc: Global,
+    builder: &ScriptBuilder,
+    mut plan: Plan,
+    mut behind: Vec<Plan>,
+) -> Result<Vec<Plan>, AllocError>
+    ensures { IfOk result (λ all. BecomePlans plan behind.items (built builder.now).plan all.items) }
 {
-    for place in 0..plan.declarations.entries.len() {
-        if let Some(entry) = plan.entries.get(place)
-            && entry.name.as_str() == name
-        {
-            return Some(place);
-        }
-    }
-    None
+    plan.stages = stages_of(alloc, builder.stages())?;
+    let mut plans = Vec::new(alloc);
+    plans.push(plan)?;
+    plans.append(&mut behind)?;
+    Ok(plans)
 }

@@ -1,32 +1,33 @@
-//! The stages that a builder makes, by the ids of their groups.
+//! The stages of a plan, by the ids of their groups.
 ghost use Rattle.std.specs.Prelude.{◌≡◌, IfOk};
-ghost use Rattle.shred.specs.Builders.{built};
 ghost use Rattle.shred_run.specs.PlanOf.{numbers_of};
-ghost use Rattle.shred_stage.specs.StagePlan.{stage_plan};
+ghost use Rattle.shred_stage.specs.StagePlan.{plan_of, stage_plan};
 ghost use Rattle.plan_engine.specs.Stages.{groups_in, ids_of_plan, ids_of_stage, stages_in};
 
-use crate::planned::Planned;
+use script_engine::{ScriptBatch, ScriptSystem};
 use script_text::value::Value;
-use shred::{DispatcherBuilder, Stage, SystemId};
+use shred::{Stage, SystemId};
 use std::alloc::{AllocError, Global};
 
-/// The stages that the builder made, with the ids of their groups.
+/// A stage of a script's plan.
+type ScriptStage = Stage<Value, ScriptSystem, ScriptBatch>;
+
+/// These stages, by the ids of their groups.
 pub(crate) fn stages_of(
     alloc: Global,
-    builder: DispatcherBuilder<Value, Planned>,
+    stages: &[ScriptStage],
 ) -> Result<Vec<Vec<Vec<usize>>>, AllocError>
-    ensures { IfOk result (λ stages. stages_in stages ≡ ids_of_plan (built builder).plan) }
+    ensures { IfOk result (λ ids. stages_in ids ≡ ids_of_plan (plan_of stages.now)) }
 {
-    let dispatcher = builder.build();
     let mut all = Vec::new(alloc);
-    for stage in &dispatcher.plan().stages {
+    for stage in stages {
         all.push(groups_of(alloc, stage)?)?;
     }
     Ok(all)
 }
 
 /// The ids of the groups of a stage.
-fn groups_of(alloc: Global, stage: &Stage<Value, Planned>) -> Result<Vec<Vec<usize>>, AllocError>
+fn groups_of(alloc: Global, stage: &ScriptStage) -> Result<Vec<Vec<usize>>, AllocError>
     ensures { IfOk result (λ groups. groups_in groups ≡ ids_of_stage (stage_plan stage.now)) }
 {
     let mut groups = Vec::new(alloc);

@@ -1,10 +1,9 @@
 //! What an entry touches.
 ghost use Rattle.std.specs.Prelude.{◌≡◌, [], IfOk, OnOk, Some};
-ghost use Rattle.script_text.specs.Declares.{places_read, places_written, read_place, with_place, write_place};
+ghost use Rattle.script_text.specs.Declares.{with_place};
 ghost use Rattle.plan_engine.specs.Together.{reads_of_all, with_places, writes_of_all};
 
-use plan_choices::Declaration;
-use script_text::step::Step;
+use crate::declaration::Declaration;
 use std::alloc::{AllocError, Global};
 
 /// The places of the resources that an entry reads, and of those that it writes, each once.
@@ -23,31 +22,6 @@ impl Touched {
             reads: Vec::new(alloc),
             writes: Vec::new(alloc),
         }
-    }
-
-    /// What the steps declare.
-    pub(crate) fn by_steps(alloc: Global, steps: &[Step]) -> Result<Touched, AllocError>
-        ensures reads { IfOk result (λ touched. touched.reads.items ≡ places_read [] steps.now) }
-        ensures writes { IfOk result (λ touched. touched.writes.items ≡ places_written [] steps.now) }
-    {
-        let mut touched = Touched::nothing(alloc);
-        for step in steps {
-            touched.add(*step)?;
-        }
-        Ok(touched)
-    }
-
-    fn add(&mut self, step: Step) -> Result<(), AllocError>
-        ensures reads { OnOk result (self.new.reads.items ≡ with_place self.old.reads.items (read_place step)) }
-        ensures writes { OnOk result (self.new.writes.items ≡ with_place self.old.writes.items (write_place step)) }
-    {
-        if let Some(place) = step.read_place() {
-            add_place(&mut self.reads, place)?;
-        }
-        if let Some(place) = step.write_place() {
-            add_place(&mut self.writes, place)?;
-        }
-        Ok(())
     }
 
     /// What these entries declare together.

@@ -3,7 +3,7 @@ use Rattle.std.proofs.Common.{◌≡◌, ℕ, List, [], ◌∷◌, ◌++◌, OnO
 use Rattle.std.proofs.lemmas.List.{map-append}
 use Rattle.shred_table.specs.declared.id.ResourceId.{ResourceId}
 use Rattle.shred.specs.Batches.{IsBatchAddition}
-use Rattle.shred.specs.Built.{IsAddition, IsNewBuilt, IsSameBuilt}
+use Rattle.shred.specs.Built.{IsAddition, IsNewBuilt}
 use Rattle.shred_run.specs.declared.system.RunningTime.TheVariants.{VeryLong}
 use Rattle.shred_run.specs.declared.work.Work.TheVariants.{System as a_system}
 use Rattle.shred_stage.specs.Refusals.{IsBatchRefusal, MayAdd}
@@ -45,10 +45,6 @@ batch-added-by batch inner old new needs n no_local allowed addition = record {
   allowed = subst (MayAdd old.known old.next batch.name.now) n allowed;
   addition = subst (λ x. IsBatchAddition old new batch.name.now x no_access VeryLong (record { rounds = batch.rounds }) inner) n addition;
 }
-
--- a builder that no call changed is as before
-pub built-same : (built : ScriptBuilt) → IsSameBuilt built built
-built-same built = record { plan = refl; states = λ path. refl; known = λ name. refl; barrier = refl; rule = refl; next = refl; locals = refl; workers = refl }
 
 taken-more : (lines : List PlanLine) (line : PlanLine) (old mid new : Builts) → AreTaken lines old mid → IsLineTaken line mid new → AreTaken (lines ++ line ∷ []) old new
 taken-more [] line old mid new e h = (new, subst (λ b. IsLineTaken line b new) e h, refl)

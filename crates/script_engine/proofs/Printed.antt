@@ -2,23 +2,13 @@
 use Rattle.std.proofs.Common.{◌∙◌, ◌++◌, ℕ, List, Option, ap, append_assoc, sym}
 use Rattle.std.specs.Io.KnownBytes.{Appends}
 use Rattle.std.specs.Prelude.{Result, Ok, Err}
-use Rattle.std.proofs.KnownBytes.{Appends-trans, Keeps-refl}
+use Rattle.std.proofs.KnownBytes.{Appends-trans}
 use Rattle.shred_stage.specs.Sinks.{AppendsBeginning}
 use Rattle.script_text.specs.declared.error.ScriptError.{ScriptError}
 use Rattle.script_text.specs.declared.error.ScriptError.TheVariants.{TooLong, InputFailed, Line, Refused, Unnamed, OutOfMemory, OutputFailed}
 use Rattle.script_text.specs.declared.outcome.Outcome.{Outcome}
 use Rattle.script_text.specs.declared.script.Script.{Script}
-use Rattle.script_engine.specs.Runs.{IsNotRun, IsPrinted, IsReadAs, IsReadFor, IsReported}
-
--- nothing was printed, and this is why
-pub not-printed : (script : Script) (error : ScriptError) (held : Option (List ℕ)) → IsNotRun script error → IsPrinted script (Err error) held held
-not-printed script OutputFailed held why = absurd why
-not-printed script OutOfMemory held why = (why, Keeps-refl held)
-not-printed script TooLong held why = absurd why
-not-printed script InputFailed held why = absurd why
-not-printed script (Line number fault) held why = (why, Keeps-refl held)
-not-printed script (Refused number refusal) held why = (why, Keeps-refl held)
-not-printed script (Unnamed id) held why = (why, Keeps-refl held)
+use Rattle.script_engine.specs.Runs.{IsPrinted, IsReadAs, IsReadFor, IsReported}
 
 -- a beginning of a text goes on a text that was printed before it
 pub begun-behind : (old middle new : Option (List ℕ)) (first text : List ℕ) → Appends old middle first → AppendsBeginning middle new text → AppendsBeginning old new (first ++ text)

@@ -1,5 +1,5 @@
 -- A script's run, put together from its parts.
-use Rattle.std.proofs.Common.{◌≡◌, ◌++◌, Bool, true, false, List, ap, subst₂}
+use Rattle.std.proofs.Common.{◌≡◌, ◌++◌, Bool, true, false, List, sym, subst₂}
 use Rattle.std.proofs.Math.Path.{fun_ext}
 use Rattle.shred.specs.FullRuns.{whole_over}
 use Rattle.shred_model.specs.Record.{Agent}
@@ -20,7 +20,7 @@ use Rattle.script_text.specs.declared.value.Value.{Value}
 use Rattle.script_engine.specs.Lines.{ScriptBuilt}
 use Rattle.script_engine.specs.PlanTexts.{IsNotPlanned}
 use Rattle.script_engine.specs.Ready.{IsReadyFor}
-use Rattle.script_engine.specs.Runs.{AreSetUpAndDispatched, IsMadeOf, IsNotRun, IsRunOf, Program, program_of}
+use Rattle.script_engine.specs.Runs.{AreSetUpAndDispatched, IsMadeOf, IsNotRun, IsRunOf, LeavesValues, Program, program_of}
 use Rattle.script_engine.specs.declared.run_plan.Ready.{Ready}
 
 -- the plan and the systems are what was built, and the values are the first ones
@@ -31,16 +31,16 @@ program-of built first start plan states held locals workers =
     λ i. record { staged = record { plan = plan i; works = works i; values = held i }; locals = locals i; workers = workers i }
 
 -- what was ready to run is run
-pub run-of : (script : Script) (ready : Ready) (is : IsReadyFor script ready) (answer : Answer (DispatchError Refusal)) (after : Program) (outcome : Outcome) → AreSetUpAndDispatched ready.manner.times (whole_over value_kind ready.dispatcher ready.world) answer after → outcome ≡ outcome_of answer
-    → IsRunOf script outcome (ready.text.items ++ report (resource_names ready.resources) after.staged.values outcome)
-run-of script ready is answer after outcome ran ends = record {
+pub run-of : (script : Script) (ready : Ready) (is : IsReadyFor script ready) (answer : Answer (DispatchError Refusal)) (held : Held Value) (outcome : Outcome) → LeavesValues (AreSetUpAndDispatched ready.manner.times (whole_over value_kind ready.dispatcher ready.world) answer) held → outcome ≡ outcome_of answer
+    → IsRunOf script outcome (ready.text.items ++ report (resource_names ready.resources) held outcome)
+run-of script ready is answer held outcome (after, ran, same) ends = record {
   begins = ready.text.items;
   plan = is.plan;
   answer = answer;
   after = after;
   ran = subst₂ (λ (manner : Manner) (start : Program). AreSetUpAndDispatched manner.times start answer after) is.manner is.program ran;
   outcome_is = ends;
-  text_is = ap (λ resources. ready.text.items ++ report (resource_names resources) after.staged.values outcome) is.resources;
+  text_is = λ i. ready.text.items ++ report (resource_names (is.resources i)) (sym same i) outcome;
 }
 
 -- the plan was not made, which is asked for where it can fail

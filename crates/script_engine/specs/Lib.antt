@@ -6,4 +6,5 @@ pub mod PlanTexts
 pub mod Runs
 pub mod Ready
 pub mod Building
+pub mod Declaring
 pub mod Tables

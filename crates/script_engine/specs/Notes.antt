@@ -1,10 +1,14 @@
 -- What the lines of a script make of what takes them: of its builders, and of what is noted beside them.
-use Rattle.std.specs.Prelude.{◌≡◌, List, [], ◌∷◌, ◌++◌, map}
+use Rattle.std.specs.Prelude.{◌≡◌, ℕ, List, [], ◌∷◌, ◌++◌, map}
+use Rattle.shred.specs.Built.{IsRuleSet, IsSameBuilt}
+use Rattle.shred_stage.specs.declared.dispatch.rule.Rule as rules
+use Rattle.script_text.specs.declared.error.ScriptError.{ScriptError}
 use Rattle.script_text.specs.declared.script.BatchLine.{BatchLine}
 use Rattle.script_text.specs.declared.script.PlanLine.{PlanLine}
 use Rattle.script_text.specs.declared.script.PlanLine.TheVariants.{System, Local, Barrier, Rule, Batch, End}
 use Rattle.script_text.specs.declared.script.SystemLine.{SystemLine}
-use Rattle.script_engine.specs.Lines.{Building, Builts, IsLineTaken, ScriptBuilt}
+use Rattle.script_text.specs.declared.step.Step.{Step}
+use Rattle.script_engine.specs.Lines.{Building, Builts, IsBatchAdded, IsBatchNotAdded, IsLineAdded, IsLineTaken, IsLocalTaken, ScriptBuilt}
 
 -- What a builder has come to, and what is noted beside it: of a system's line, nothing, of a batch that begins, by what takes its lines, and of one that ends, with what took its lines.
 pub record Noting (B : Type 0) : Type 1 where
@@ -13,6 +17,30 @@ pub record Noting (B : Type 0) : Type 1 where
   pub same : B → B → Type 0
   pub begins : BatchLine → B → B → Type 0
   pub batch : BatchLine → B → B → B → Type 0
+
+-- a line's system is added to what its builder has come to
+abbrev pub AddsLine : {B : Type 0} → Noting B → SystemLine → B → B → Type 0
+AddsLine N line old new = IsLineAdded line (N.comes_to old) (N.comes_to new)
+
+-- a thread-local system of these steps is
+abbrev pub AddsLocal : {B : Type 0} → Noting B → List Step → B → B → Type 0
+AddsLocal N steps old new = IsLocalTaken steps (N.comes_to old) (N.comes_to new)
+
+-- the rule is set there
+abbrev pub SetsRule : {B : Type 0} → Noting B → rules.Rule → B → B → Type 0
+SetsRule N rule old new = IsRuleSet (N.comes_to old) (N.comes_to new) rule
+
+-- a batch is added there, of what the inner builder has come to
+abbrev pub AddsBatchLine : {B : Type 0} → Noting B → BatchLine → B → B → B → Type 0
+AddsBatchLine N batch inner old new = IsBatchAdded batch (N.comes_to inner) (N.comes_to old) (N.comes_to new)
+
+-- why it is not, by the line of this number that ends it
+abbrev pub RefusesBatch : {B : Type 0} → Noting B → ℕ → BatchLine → B → B → ScriptError → Type 0
+RefusesBatch N end batch inner around error = IsBatchNotAdded end batch (N.comes_to around) (N.comes_to inner) error
+
+-- what its builder has come to stays
+abbrev pub KeepsBuilt : {B : Type 0} → Noting B → B → B → Type 0
+KeepsBuilt N old new = IsSameBuilt (N.comes_to old) (N.comes_to new)
 
 -- an open batch, with what the builder has come to that is to take it
 abbrev pub begun : {B : Type 0} → Noting B → BatchLine × B → BatchLine × ScriptBuilt

@@ -86,6 +86,10 @@ AreDispatched (suc n) before answer after = (a : Answer (DispatchError Refusal))
     (λ done. AreDispatched n middle answer after)
     (λ fault. (after ≡ middle) × (answer ≡ Err fault))
 
+-- a program that is so has these values
+abbrev pub LeavesValues : (Program → Type 0) → Held Value → Type 0
+LeavesValues is held = (after : Program) × is after × (after.staged.values ≡ held)
+
 -- What stands in the plan was set up, and all else is as before, the values too.
 pub record IsSetUpFrom (before after : Program) : Type 0 where
   pub staged : SetUp script_setups dispatch_fault before.staged (Ok tt) after.staged

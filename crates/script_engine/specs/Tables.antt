@@ -22,6 +22,10 @@ abbrev pub verdict_text : Case → Bool → List ℕ
 verdict_text case true = case.name.now ++ codes " " ++ codes "ok"
 verdict_text case false = case.name.now ++ codes " " ++ codes "differs"
 
+-- the line of a case is added
+abbrev pub AddsVerdict : Case → Bool → Option (List ℕ) → Option (List ℕ) → Type 0
+AddsVerdict case verdict old new = Appends old new (line_of (verdict_text case verdict))
+
 -- the lines of cases of these verdicts
 abbrev pub verdict_lines : List Case → List Bool → List ℕ
 verdict_lines (case ∷ cases) (verdict ∷ verdicts) = line_of (verdict_text case verdict) ++ verdict_lines cases verdicts
@@ -36,6 +40,10 @@ matching_of (false ∷ verdicts) = matching_of verdicts
 -- the text of the last line: how many of so many cases ended as they are to
 abbrev pub count_text : ℕ → ℕ → List ℕ
 count_text matching number = decimal matching ++ codes " of " ++ decimal number
+
+-- the last line is added
+abbrev pub AddsCount : ℕ → ℕ → Option (List ℕ) → Option (List ℕ) → Type 0
+AddsCount matching number old new = Appends old new (line_of (count_text matching number))
 
 -- There is a verdict of each case; a line was added for each, and one that says how many ended as they are to; and this says whether all did.
 pub record IsTableRun (cases : List Case) (all : Bool) (old new : Option (List ℕ)) : Type 0 where

@@ -3,8 +3,8 @@ ghost use Rattle.std.specs.Prelude.{◌≡◌, OnOk, IfOk, IfErr};
 ghost use Rattle.shred.specs.Built.{IsNewBuilt};
 ghost use Rattle.script_engine.specs.Lines.{IsBatchNotEnded, IsBuiltBy, IsNotBuilt, IsNotTaken};
 ghost use Rattle.script_text.specs.declared.script.PlanLine.TheVariants.{Batch, End};
-ghost use Rattle.script_engine.specs.Notes.{AreNotedBy, TakesLine};
-ghost use Rattle.script_engine.specs.Building.{building_of, values_of};
+ghost use Rattle.script_engine.specs.Notes.{AreNotedBy};
+ghost use Rattle.script_engine.specs.Building.{HasTaken, building_of};
 
 use crate::taker::LineTaker;
 use script_text::error::{LineFault, ScriptError};
@@ -55,7 +55,7 @@ fn take_line<'text, B: LineTaker + Drop>(
     building: &mut Building<'text, B>,
     line: PlanLine<'text>,
 ) -> Result<(), ScriptError>
-    ensures taken { OnOk result (TakesLine B.noting line.entry (values_of building.old) (values_of building.new)) }
+    ensures taken { OnOk result (HasTaken B.noting line.entry building.old building.new) }
     ensures not_taken { IfErr result (IsNotTaken line.entry (building_of B.noting building.old)) }
 {
     match line {
@@ -77,7 +77,7 @@ fn begin_batch<'text, B: LineTaker + Drop>(
     building: &mut Building<'text, B>,
     batch: BatchLine<'text>,
 ) -> Result<(), ScriptError>
-    ensures begun { OnOk result (TakesLine B.noting (Batch batch.entry) (values_of building.old) (values_of building.new)) }
+    ensures begun { OnOk result (HasTaken B.noting (Batch batch.entry) building.old building.new) }
     ensures not_begun { IfErr result (λ error. error ≡ ScriptError.OutOfMemory) }
 {
     let inner = building.current.begin_batch(alloc, &batch)?;
@@ -94,7 +94,7 @@ fn end_batch<B: LineTaker + Drop>(
     building: &mut Building<'_, B>,
     end: usize,
 ) -> Result<(), ScriptError>
-    ensures ended { OnOk result (TakesLine B.noting (End end) (values_of building.old) (values_of building.new)) }
+    ensures ended { OnOk result (HasTaken B.noting (End end) building.old building.new) }
     ensures not_ended { IfErr result (IsBatchNotEnded end (building_of B.noting building.old)) }
 {
     let Some((batch, outer)) = building.pending.pop() else {

@@ -1,6 +1,6 @@
 //! What the steps of a system declare.
 ghost use Rattle.std.specs.Prelude.{◌≡◌, [], ◌∷◌, Some, map, IfOk, IfSome, OnOk};
-ghost use Rattle.script_text.specs.Declares.{named_place, read_place, write_place, places_named, places_read, places_written, with_place};
+ghost use Rattle.script_text.specs.Declares.{places_named, places_read, places_written, with_place};
 ghost use Rattle.script_text.specs.Place.{id_at};
 
 use script_text::step::Step;
@@ -18,6 +18,8 @@ pub struct Declared {
 }
 
 impl Declared {
+    ghost use Rattle.script_engine.specs.Declaring.{DeclaresMore};
+
     /// What the steps declare, in the order in which they first do. Refused where memory is.
     pub fn of_steps(alloc: Global, steps: &[Step]) -> Result<Declared, AllocError>
         ensures read { IfOk result (λ declared. declared.read.items ≡ places_read [] steps.now) }
@@ -36,9 +38,7 @@ impl Declared {
     }
 
     fn add(&mut self, step: Step) -> Result<(), AllocError>
-        ensures read { OnOk result (self.new.read.items ≡ with_place self.old.read.items (read_place step)) }
-        ensures written { OnOk result (self.new.written.items ≡ with_place self.old.written.items (write_place step)) }
-        ensures named { OnOk result (self.new.named.items ≡ with_place self.old.named.items (named_place step)) }
+        ensures { OnOk result (DeclaresMore step self.old self.new) }
     {
         if let Some(place) = step.read_place() {
             add_place(&mut self.read, place)?;

@@ -1,12 +1,9 @@
 //! Numbers that are kept while the steps of a system run: read once before them, and written once after.
-ghost use Rattle.std.specs.Prelude.{◌≡◌, ℕ, List, [], false, map, IfNone, IfSome, IsSome, IsTrue};
+ghost use Rattle.std.specs.Prelude.{◌≡◌, ℕ, List, [], false, IfNone, IfSome, OnSome, IsSome, IsTrue};
 ghost use Rattle.std.specs.List.{All};
-ghost use Rattle.std.specs.Option.{option_or};
-ghost use Rattle.shred_world.specs.Worked.{Held};
-ghost use Rattle.script_text.specs.declared.value.Value.{Value};
 ghost use Rattle.script_text.specs.Declares.{AllowsStep, is_among, places_written};
-ghost use Rattle.script_text.specs.Place.{id_at, number_at};
-ghost use Rattle.script_engine.specs.Overlaid.{AreHeld, IsKeptAt, kept_place, overlaid};
+ghost use Rattle.script_text.specs.Place.{number_at};
+ghost use Rattle.script_engine.specs.Overlaid.{AreHeld, EachPlace, IsKeptAt, IsNumberOver, kept_places, overlaid};
 ghost use Rattle.script_engine.specs.Steps.{steps_outcome, steps_left};
 
 use crate::declared::Declared;
@@ -41,9 +38,9 @@ impl<N: Numbers> Numbers for Keeping<'_, N> {
 
     ghost is_ready = { λ keeping. N.is_ready keeping.behind.now };
 
-    ghost allows = { λ keeping place. IsTrue (is_among (map kept_place keeping.written.items) place) };
+    ghost allows = { λ keeping place. IsTrue (is_among (kept_places keeping.written.items) place) };
 
-    ghost keeps = { λ old new. (new.behind.now ≡ old.behind.now) × (new.named.items ≡ old.named.items) × (map kept_place new.written.items ≡ map kept_place old.written.items) };
+    ghost keeps = { λ old new. (new.behind.now ≡ old.behind.now) × (new.named.items ≡ old.named.items) × (kept_places new.written.items ≡ kept_places old.written.items) };
 
     fn number(&self, place: usize) -> Result<i64, Fault<Refusal>> {
         if let Some(number) = number_in(self.written.as_slice(), place) {
@@ -82,7 +79,7 @@ impl<N: Numbers> Numbers for Keeping<'_, N> {
 
 // The number that is kept of this place, the first where there are several.
 pub(crate) fn number_in(kept: &[KeptNumber], place: usize) -> Option<i64>
-    ensures { (seen : Held Value) → number_at (overlaid kept.now seen) place ≡ option_or result (number_at seen place) }
+    ensures { IsNumberOver kept.now place result }
 {
     for one in kept {
         if one.place == place {
@@ -98,9 +95,9 @@ impl<N: Numbers> Keeping<'_, N> {
         requires is_ready { N.is_ready self.old.behind.now }
         requires empty { (self.old.named.items ≡ []) × (self.old.written.items ≡ []) }
         ensures behind { self.new.behind.now ≡ self.old.behind.now }
-        ensures places { IfSome result (λ done. map kept_place self.new.written.items ≡ declared.now.written.items) }
-        ensures named { IfSome result (λ done. AreHeld (N.seen self.old.behind.now) self.new.named.items) }
-        ensures written { IfSome result (λ done. AreHeld (N.seen self.old.behind.now) self.new.written.items) }
+        ensures places { OnSome result (kept_places self.new.written.items ≡ declared.now.written.items) }
+        ensures named { OnSome result (AreHeld (N.seen self.old.behind.now) self.new.named.items) }
+        ensures written { OnSome result (AreHeld (N.seen self.old.behind.now) self.new.written.items) }
     {
         let behind = self.behind;
         keep_each(&mut self.named, behind, declared.named.as_slice())?;
@@ -111,7 +108,7 @@ impl<N: Numbers> Keeping<'_, N> {
 // Where a number of this place is kept, the first where there are several.
 fn kept_at(kept: &[KeptNumber], place: usize) -> Option<usize>
     ensures kept { IfSome result (IsKeptAt kept.now place) }
-    ensures none { IfNone result (is_among (map kept_place kept.now) place ≡ false) }
+    ensures none { IfNone result (is_among (kept_places kept.now) place ≡ false) }
 {
     // Mostly one number is written, so the first is looked at before the search.
     if let Some(first) = kept.first() {
@@ -130,8 +127,8 @@ fn keep_each<N: Numbers>(
 ) -> Option<()>
     requires is_ready { N.is_ready numbers.now }
     requires empty { kept.old.items ≡ [] }
-    ensures places { IfSome result (λ done. map kept_place kept.new.items ≡ places.now) }
-    ensures held { IfSome result (λ done. AreHeld (N.seen numbers.now) kept.new.items) }
+    ensures places { OnSome result (kept_places kept.new.items ≡ places.now) }
+    ensures held { OnSome result (AreHeld (N.seen numbers.now) kept.new.items) }
 {
     for place in places {
         let number = numbers.number(*place).ok()?;
@@ -147,8 +144,8 @@ fn keep_each<N: Numbers>(
 // Writes the kept numbers, the last first.
 fn write_kept<N: Numbers>(kept: &[KeptNumber], numbers: &mut N)
     requires is_ready { N.is_ready numbers.old }
-    requires allowed { (place : ℕ) → IsTrue (is_among (map kept_place kept.now) place) → N.allows numbers.old place }
-    requires held { (place : ℕ) → IsTrue (is_among (map kept_place kept.now) place) → IsSome (number_at (N.seen numbers.old) place) }
+    requires allowed { EachPlace kept.now (N.allows numbers.old) }
+    requires held { EachPlace kept.now (λ place. IsSome (number_at (N.seen numbers.old) place)) }
     ensures left { N.seen numbers.new ≡ overlaid kept.now (N.seen numbers.old) }
     ensures keeps { N.keeps numbers.old numbers.new }
 {
@@ -172,8 +169,8 @@ fn run_kept<N: Numbers>(
     requires writes { All (AllowsStep N.allows numbers.old) steps.now }
     requires is_ready { N.is_ready numbers.old }
     requires written { declared.now.written.items ≡ places_written [] steps.now }
-    ensures outcome { IfSome result (λ outcome. outcome ≡ steps_outcome steps.now (N.seen numbers.old)) }
-    ensures left { IfSome result (λ outcome. N.seen numbers.new ≡ steps_left steps.now (N.seen numbers.old)) }
+    ensures outcome { IfSome result (λ end. end ≡ steps_outcome steps.now (N.seen numbers.old)) }
+    ensures left { OnSome result (N.seen numbers.new ≡ steps_left steps.now (N.seen numbers.old)) }
     ensures none { IfNone result (numbers.new ≡ numbers.old) }
     ensures keeps { N.keeps numbers.old numbers.new }
 {

@@ -1,5 +1,5 @@
 //! The number of the one resource that a system writes, kept while its steps run.
-ghost use Rattle.std.specs.Prelude.{◌≡◌, [], ◌∷◌, IfNone, IfSome};
+ghost use Rattle.std.specs.Prelude.{◌≡◌, [], ◌∷◌, IfNone, IfSome, OnSome};
 ghost use Rattle.std.specs.List.{All};
 ghost use Rattle.script_text.specs.Declares.{AllowsStep, places_written};
 ghost use Rattle.script_engine.specs.Overlaid.{overlaid};
@@ -69,8 +69,8 @@ pub(crate) fn run_one_kept<N: Numbers>(
     requires writes { All (AllowsStep N.allows numbers.old) steps.now }
     requires is_ready { N.is_ready numbers.old }
     requires written { places_written [] steps.now ≡ place ∷ [] }
-    ensures outcome { IfSome result (λ outcome. outcome ≡ steps_outcome steps.now (N.seen numbers.old)) }
-    ensures left { IfSome result (λ outcome. N.seen numbers.new ≡ steps_left steps.now (N.seen numbers.old)) }
+    ensures outcome { IfSome result (λ end. end ≡ steps_outcome steps.now (N.seen numbers.old)) }
+    ensures left { OnSome result (N.seen numbers.new ≡ steps_left steps.now (N.seen numbers.old)) }
     ensures none { IfNone result (numbers.new ≡ numbers.old) }
     ensures keeps { N.keeps numbers.old numbers.new }
 {

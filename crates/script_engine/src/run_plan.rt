@@ -11,29 +11,26 @@ ghost use Rattle.script_text.specs.Report.{report, resource_names};
 ghost use Rattle.script_text.specs.Value.{value_kind};
 ghost use Rattle.script_engine.specs.PlanTexts.{IsNotPlanned, IsPlanPart};
 ghost use Rattle.script_engine.specs.Ready.{IsReadyFor};
-ghost use Rattle.script_engine.specs.Runs.{AreDispatched, AreSetUpAndDispatched, IsNotRun, IsOnce, IsPrinted};
+ghost use Rattle.script_engine.specs.Runs.{IsNotRun, IsPrinted};
 
-use crate::batch::ScriptBatch;
 use crate::builder::{ScriptBuilder, builder_with};
-use crate::local::ScriptLocal;
+use crate::dispatches::ScriptDispatcher;
+use crate::dispatching::{set_up_and_dispatch, set_up_and_dispatch_on_kept};
 use crate::plan_text::plan_text;
-use crate::system::ScriptSystem;
 use script_text::error::ScriptError;
 use script_text::first_values::world_of;
-use script_text::outcome::{Outcome, Refusal, write_threads};
+use script_text::outcome::{Outcome, write_threads};
 use script_text::output::print;
 use script_text::report::{most_bytes, write_report};
-use script_text::script::{Manner, Mode, Script};
+use script_text::script::{Manner, Script};
 use script_text::step::Resources;
 use script_text::value::Value;
-use shred::{DispatchError, Dispatcher, World};
+use shred::World;
 use std::alloc::Global;
 use std::io;
 use std::io::Write;
+use std::sync::Wait;
 use std::thread::Threads;
-
-/// A dispatcher of a script's systems and batches.
-type ScriptDispatcher = Dispatcher<Value, ScriptSystem, ScriptBatch, ScriptLocal>;
 
 /// A script that is ready to run: its plan, a world of its first values, and what is printed before the run, with room behind it
 /// for the report.
@@ -58,7 +55,7 @@ pub(crate) fn run_plan<T: Threads + Sync, O: Write>(
 {
     let ready = prepare(alloc, script)?;
     let Ready {
-        mut dispatcher,
+        dispatcher,
         mut world,
         mut text,
         resources,
@@ -68,7 +65,36 @@ pub(crate) fn run_plan<T: Threads + Sync, O: Write>(
         return Err(ScriptError::OutputFailed);
     }
     text.clear();
-    let outcome = Outcome::of(set_up_and_dispatch(rt, &mut dispatcher, &mut world, manner));
+    let outcome = Outcome::of(set_up_and_dispatch(rt, dispatcher, &mut world, manner));
+    match print_report(out, text, &resources, &world, outcome) {
+        Ok(()) => Ok(outcome),
+        Err(_) => Err(ScriptError::OutputFailed),
+    }
+}
+
+/// The same, on workers that are kept over all dispatches.
+pub(crate) fn run_plan_on_kept<T: Threads + Wait + Clone + Drop + Send + Sync + 'static, O: Write>(
+    rt: &T,
+    alloc: Global,
+    script: Script<'_>,
+    out: &mut O,
+) -> Result<Outcome, ScriptError>
+    ensures { IsPrinted script.entry result (O.contents out.old) (O.contents out.new) }
+{
+    let ready = prepare(alloc, script)?;
+    let Ready {
+        dispatcher,
+        mut world,
+        mut text,
+        resources,
+        manner,
+    } = ready;
+    if let Err(_) = print_plan(out, text.as_slice()) {
+        return Err(ScriptError::OutputFailed);
+    }
+    text.clear();
+    let answer = set_up_and_dispatch_on_kept(rt, alloc, dispatcher, &mut world, manner);
+    let outcome = Outcome::of(answer);
     match print_report(out, text, &resources, &world, outcome) {
         Ok(()) => Ok(outcome),
         Err(_) => Err(ScriptError::OutputFailed),
@@ -128,56 +154,6 @@ fn print_report<O: Write>(
         return Err(error);
     }
     print(out, room.as_slice())
-}
-
-/// Sets the systems up, and dispatches them as often as asked, up to the first dispatch that is not Done.
-fn set_up_and_dispatch<T: Threads + Sync>(
-    rt: &T,
-    dispatcher: &mut ScriptDispatcher,
-    world: &mut World<Value>,
-    manner: Manner,
-) -> Result<(), DispatchError<Refusal>>
-    ensures { AreSetUpAndDispatched manner.times (whole_over value_kind dispatcher.old world.old) result (whole_over value_kind dispatcher.new world.new) }
-{
-    match dispatcher.setup(world) {
-        Ok(()) => dispatch_each(rt, dispatcher, world, manner),
-        Err(error) => Err(error),
-    }
-}
-
-/// Dispatches as often as asked, up to the first dispatch that is not Done.
-fn dispatch_each<T: Threads + Sync>(
-    rt: &T,
-    dispatcher: &mut ScriptDispatcher,
-    world: &mut World<Value>,
-    manner: Manner,
-) -> Result<(), DispatchError<Refusal>>
-    ensures { AreDispatched manner.times (whole_over value_kind dispatcher.old world.old) result (whole_over value_kind dispatcher.new world.new) }
-{
-    for round in 0..manner.times {
-        if let Err(error) = dispatch_once(rt, dispatcher, world, manner.mode) {
-            return Err(error);
-        }
-    }
-    Ok(())
-}
-
-/// One dispatch, in this mode.
-fn dispatch_once<T: Threads + Sync>(
-    rt: &T,
-    dispatcher: &mut ScriptDispatcher,
-    world: &mut World<Value>,
-    mode: Mode,
-) -> Result<(), DispatchError<Refusal>>
-    ensures { IsOnce (whole_over value_kind dispatcher.old world.old) result (whole_over value_kind dispatcher.new world.new) }
-{
-    match mode {
-        Mode::Parallel => dispatcher.dispatch(rt, world),
-        Mode::Sequential => match dispatcher.dispatch_seq(world) {
-            Ok(()) => dispatcher.dispatch_thread_local(rt, world),
-            Err(error) => Err(error),
-        },
-    }
 }
 
 /// The dispatcher of what is built, and what is printed of its plan, which is nothing where that is not asked for.

@@ -4,13 +4,13 @@ ghost use Rattle.std.specs.List.{All};
 ghost use Rattle.std.specs.Option.{ok_or};
 ghost use Rattle.shred_run.specs.declared.system.Fault.TheVariants.{Refused};
 ghost use Rattle.script_text.specs.declared.outcome.Refusal.TheVariants.{Undeclared};
-ghost use Rattle.script_text.specs.Change.{change_left, change_outcome, changed, operand_number};
+ghost use Rattle.script_text.specs.Change.{operand_number};
 ghost use Rattle.script_text.specs.Declares.{AllowsStep};
 ghost use Rattle.script_engine.specs.Steps.{step_outcome, step_left, steps_outcome, steps_left};
 
 use script_text::numbers::Numbers;
 use script_text::outcome::Refusal;
-use script_text::step::{Operand, Operation, Step};
+use script_text::step::{Operand, Step};
 use shred_run::Fault;
 
 /// Runs the steps over the numbers, up to the first that refuses, which the answer tells.
@@ -30,7 +30,7 @@ pub fn run_steps<N: Numbers>(steps: &[Step], numbers: &mut N) -> Result<(), Faul
     Ok(())
 }
 
-/// Runs one step.
+/// Runs one step. What an operand stands for is looked up first.
 #[inline(always)]
 fn run_step<N: Numbers>(step: Step, numbers: &mut N) -> Result<(), Fault<Refusal>>
     requires writes { AllowsStep N.allows numbers.old step }
@@ -44,28 +44,13 @@ fn run_step<N: Numbers>(step: Step, numbers: &mut N) -> Result<(), Fault<Refusal
             target,
             operation,
             operand,
-        } => change(numbers, target, operation, operand),
+        } => {
+            let operand = operand_number(numbers, operand)?;
+            numbers.change(target, operation, operand)
+        }
         Step::Declare(_) => Ok(()),
         Step::Refuse(code) => Err(Fault::Refused(Refusal::Code(code))),
     }
-}
-
-/// Changes the target by what the operand stands for, which is looked up first.
-#[inline(always)]
-fn change<N: Numbers>(
-    numbers: &mut N,
-    target: usize,
-    operation: Operation,
-    operand: Operand,
-) -> Result<(), Fault<Refusal>>
-    requires writes { N.allows numbers.old target }
-    requires is_ready { N.is_ready numbers.old }
-    ensures outcome { result ≡ change_outcome (changed (N.seen numbers.old) target operation operand) }
-    ensures left { N.seen numbers.new ≡ change_left (N.seen numbers.old) target (changed (N.seen numbers.old) target operation operand) }
-    ensures keeps { N.keeps numbers.old numbers.new }
-{
-    let operand = operand_number(numbers, operand)?;
-    numbers.change(target, operation, operand)
 }
 
 /// The number that an operand stands for.

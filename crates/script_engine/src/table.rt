@@ -1,8 +1,6 @@
 //! A table of cases, run one after the other.
-ghost use Rattle.std.specs.Prelude.{◌≡◌, IfOk, OnOk};
-ghost use Rattle.std.specs.Io.KnownBytes.{Appends};
-ghost use Rattle.script_text.specs.Texts.{line_of};
-ghost use Rattle.script_engine.specs.Tables.{IsTableRun, IsVerdict, count_text, verdict_text};
+ghost use Rattle.std.specs.Prelude.{IfOk, OnOk};
+ghost use Rattle.script_engine.specs.Tables.{AddsCount, AddsVerdict, IsTableRun, IsVerdict};
 
 use crate::engine::run;
 use std::alloc::Global;
@@ -44,7 +42,7 @@ pub fn run_table<T: Threads + Sync, W: Write>(
 
 // Writes the line of a case.
 fn write_verdict<W: Write>(out: &mut W, case: &Case, verdict: bool) -> io::Result<()>
-    ensures { OnOk result (Appends (W.contents out.old) (W.contents out.new) (line_of (verdict_text case.now verdict))) }
+    ensures { OnOk result (AddsVerdict case.now verdict (W.contents out.old) (W.contents out.new)) }
 {
     let word = if verdict { "ok" } else { "differs" };
     writeln!(out, "{} {word}", case.name)
@@ -52,7 +50,7 @@ fn write_verdict<W: Write>(out: &mut W, case: &Case, verdict: bool) -> io::Resul
 
 // Writes the last line, and flushes.
 fn write_count<W: Write>(out: &mut W, matching: usize, cases: usize) -> io::Result<()>
-    ensures { OnOk result (Appends (W.contents out.old) (W.contents out.new) (line_of (count_text matching cases))) }
+    ensures { OnOk result (AddsCount matching cases (W.contents out.old) (W.contents out.new)) }
 {
     writeln!(out, "{matching} of {cases}")?;
     out.flush()

@@ -5,10 +5,11 @@ use crate::builder_rows::{Add, ROWS, Row};
 use crate::calls::add;
 use crate::planned_system::{OnlyPlanned, system_of};
 use crate::scripts::Source;
-use script_engine::run;
+use script_engine::{run, run_on_kept_workers};
 use shred::{AddError, DispatcherBuilder, PrintError, SystemId, ToWriter};
 use std::alloc::Global;
 use std::process::Abort;
+use std::sync::Wait;
 use std::thread::Threads;
 use test_worlds::values::Value;
 
@@ -95,12 +96,20 @@ fn is_text(bytes: &[u8], left: usize, text: &str) -> bool {
     written == text.as_bytes()
 }
 
-/// The script is run as with ample memory, or not at all.
-fn expect_run(rt: &(impl Abort + AllocGlobal + Threads + Sync), row: &Run) {
+/// The script is run as with ample memory, or not at all; on workers that are kept, or on threads that each stage starts.
+fn expect_run(
+    rt: &(impl Abort + AllocGlobal + Threads + Wait + Clone + Drop + Send + Sync + 'static),
+    row: &Run,
+    is_kept: bool,
+) {
     let (mut printed, mut told) = ([0; 256], [0; 64]);
     let (mut out, mut err) = (printed.as_mut_slice(), told.as_mut_slice());
     let mut source = Source::of_text(row.script);
-    let status = run(rt, rt.alloc(), &mut source, &mut out, &mut err);
+    let status = if is_kept {
+        run_on_kept_workers(rt, rt.alloc(), &mut source, &mut out, &mut err)
+    } else {
+        run(rt, rt.alloc(), &mut source, &mut out, &mut err)
+    };
     let (room, rest) = (out.len(), err.len());
     let is_ample = is_text(&printed, room, row.printed) && is_text(&told, rest, "");
     let is_refused = is_text(&printed, room, "") && is_text(&told, rest, "out of memory\n");
@@ -110,6 +119,7 @@ fn expect_run(rt: &(impl Abort + AllocGlobal + Threads + Sync), row: &Run) {
 #[test]
 fn a_script_is_run_or_memory_is_wanting(rt: HostRuntime) {
     for row in RUNS {
-        expect_run(&rt, row);
+        expect_run(&rt, row, false);
+        expect_run(&rt, row, true);
     }
 }

@@ -3,7 +3,7 @@ use std::io;
 use std::io::{Error, ErrorKind, Read};
 
 /// Gives a text in pieces, and then one byte so many times; and then it ends or fails.
-#[derive(Drop)]
+#[derive(Clone, Copy)]
 pub struct Source<'text> {
     pub text: &'text [u8],
     /// How much of the text it gives at a time.

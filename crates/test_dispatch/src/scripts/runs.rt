@@ -1,8 +1,9 @@
 //! Whole runs, from a script's bytes to what is printed.
 use crate::scripts::readers::Source;
 use crate::scripts::writers::StoppingWriter;
-use script_engine::run;
+use script_engine::{run, run_on_kept_workers};
 use std::process::Abort;
+use std::sync::Wait;
 use std::thread::Threads;
 
 /// What a run is to write, to tell and to answer.
@@ -13,24 +14,30 @@ struct Wanted<'text> {
     status: u8,
 }
 
-/// The run ends so.
+/// The run ends so, on threads that each stage starts, and on workers that are kept.
 fn expect_run(
-    rt: &(impl Abort + AllocGlobal + Threads + Sync),
+    rt: &(impl Abort + AllocGlobal + Threads + Wait + Clone + Drop + Send + Sync + 'static),
     source: Source,
     out: StoppingWriter,
     err: StoppingWriter,
     wanted: Wanted,
 ) {
-    let (mut source, mut out, mut err) = (source, out, err);
-    let status = run(rt, rt.alloc(), &mut source, &mut out, &mut err);
-    assert_eq!(rt; out.written(), wanted.out);
-    assert_eq!(rt; err.written(), wanted.err);
-    assert_eq!(rt; status, wanted.status);
+    for is_kept in [false, true] {
+        let (mut source, mut out, mut err) = (source, out.again(), err.again());
+        let status = if is_kept {
+            run_on_kept_workers(rt, rt.alloc(), &mut source, &mut out, &mut err)
+        } else {
+            run(rt, rt.alloc(), &mut source, &mut out, &mut err)
+        };
+        assert_eq!(rt; out.written(), wanted.out);
+        assert_eq!(rt; err.written(), wanted.err);
+        assert_eq!(rt; status, wanted.status);
+    }
 }
 
 /// The run ends so, where all that is written is taken.
 fn expect_printed(
-    rt: &(impl Abort + AllocGlobal + Threads + Sync),
+    rt: &(impl Abort + AllocGlobal + Threads + Wait + Clone + Drop + Send + Sync + 'static),
     source: Source,
     wanted: Wanted,
 ) {
@@ -40,7 +47,11 @@ fn expect_printed(
 }
 
 /// Nothing is run, and this is told.
-fn expect_told(rt: &(impl Abort + AllocGlobal + Threads + Sync), source: Source, told: &str) {
+fn expect_told(
+    rt: &(impl Abort + AllocGlobal + Threads + Wait + Clone + Drop + Send + Sync + 'static),
+    source: Source,
+    told: &str,
+) {
     let wanted = Wanted {
         out: &[],
         err: told.as_bytes(),
@@ -51,7 +62,7 @@ fn expect_told(rt: &(impl Abort + AllocGlobal + Threads + Sync), source: Source,
 
 /// Into this output the script's run writes this, and tells that the output failed.
 fn expect_output_failed(
-    rt: &(impl Abort + AllocGlobal + Threads + Sync),
+    rt: &(impl Abort + AllocGlobal + Threads + Wait + Clone + Drop + Send + Sync + 'static),
     script: &str,
     out: StoppingWriter,
     written: &[u8],

@@ -62,6 +62,17 @@ impl StoppingWriter {
         }
     }
 
+    /// One that does the same and has taken nothing.
+    pub fn again(&self) -> StoppingWriter {
+        StoppingWriter {
+            taken: Vec::new(*self.taken.allocator()),
+            left: self.left,
+            most: self.most,
+            end: self.end,
+            flushes: self.flushes,
+        }
+    }
+
     pub fn written(&self) -> &[u8] {
         self.taken.as_slice()
     }

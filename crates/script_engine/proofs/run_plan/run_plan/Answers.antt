@@ -1,7 +1,6 @@
 use Rattle.std.proofs.Common.{◌++◌, List, ℕ, inl, inr, subst}
 use Rattle.std.specs.Io.KnownBytes.{Appends}
 use Rattle.std.proofs.KnownBytes.{Appends-trans}
-use Rattle.shred.specs.FullRuns.{whole_over}
 use Rattle.shred_stage.specs.Sinks.{AppendsBeginning}
 use Rattle.shred_world.specs.Worlds.{world_held}
 use Rattle.script_text.specs.Report.{report, resource_names}
@@ -25,7 +24,7 @@ returns-in-Ok g c =
     let rest = report (resource_names ready.resources) (world_held value_kind c.set_up_and_dispatch.new.world) c.of-outcome.result in
     let first = subst (λ (text : List ℕ). Appends old middle text) c.as_slice.ensures.value c.in_default.ensures.whole in (
       ready.text.items ++ rest,
-      run-of c.args.script ready c.in_ok-ready.ensures.ready c.set_up_and_dispatch.result (whole_over value_kind c.set_up_and_dispatch.new.dispatcher c.set_up_and_dispatch.new.world) c.of-outcome.result c.set_up_and_dispatch.ensures c.of-outcome.ensures,
+      run-of c.args.script ready c.in_ok-ready.ensures.ready c.set_up_and_dispatch.result (world_held value_kind c.set_up_and_dispatch.new.world) c.of-outcome.result c.set_up_and_dispatch.ensures c.of-outcome.ensures,
       Appends-trans old middle (g.O.Write.contents c.print_report.new.out) ready.text.items rest first c.in-Ok.ensures.whole,
     )
 
@@ -37,6 +36,6 @@ returns g c =
     let rest = report (resource_names ready.resources) (world_held value_kind c.set_up_and_dispatch.new.world) c.of-outcome.result in
     let first = subst (λ (text : List ℕ). Appends old middle text) c.as_slice.ensures.value c.in_default.ensures.whole in (
       ready.text.items ++ rest,
-      inr (c.of-outcome.result, run-of c.args.script ready c.in_ok-ready.ensures.ready c.set_up_and_dispatch.result (whole_over value_kind c.set_up_and_dispatch.new.dispatcher c.set_up_and_dispatch.new.world) c.of-outcome.result c.set_up_and_dispatch.ensures c.of-outcome.ensures),
+      inr (c.of-outcome.result, run-of c.args.script ready c.in_ok-ready.ensures.ready c.set_up_and_dispatch.result (world_held value_kind c.set_up_and_dispatch.new.world) c.of-outcome.result c.set_up_and_dispatch.ensures c.of-outcome.ensures),
       begun-behind old middle (g.O.Write.contents c.print_report.new.out) ready.text.items rest first c.in-Err-print_report.ensures.beginning,
     )

@@ -1,3 +1,0 @@
-pub mod Declaring
-pub mod Depending
-pub mod Picking

@@ -1,3 +1,0 @@
-pub mod Choices
-pub mod Entries
-pub mod Dependence

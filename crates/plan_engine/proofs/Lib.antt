@@ -1,0 +1,9 @@
+pub mod Declaring
+pub mod Depending
+pub mod Knowing
+pub mod Naming
+pub mod Noting
+pub mod Picking
+pub mod Reading
+pub mod Reporting
+pub mod Zipped

@@ -1,2 +1,0 @@
-pub mod Reporting
-pub mod Zipped

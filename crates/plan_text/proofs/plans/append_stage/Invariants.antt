@@ -1,6 +1,0 @@
-use Rattle.std.proofs.Common.{◌≡◌, ◌++◌, take}
-use Rattle.plan_text.specs.Plans.{stage_order}
-use Rattle.plan_text.proofs.plans.append_stage.Given as goal
-
-abbrev pub invariant-loop-group : goal.invariant-loop-group
-invariant-loop-group l = l.ids.items ≡ l.initial.ids.items ++ stage_order (take l.group-index l.groups)

@@ -1,5 +1,5 @@
 #!/usr/bin/env bash
-# docs/api.sh: compares the names of API.md with the public ones that `shred` gives: types, traits, functions, macros, and of
+# gate/api.sh: compares the names of API.md with the public ones that `shred` gives: types, traits, functions, macros, and of
 # each type and trait its calls. It prints nothing where they are the same.
 set -euo pipefail
 cd "$(dirname "${BASH_SOURCE[0]}")/../crates"

@@ -1,5 +1,5 @@
 #!/usr/bin/env bash
-# comparison/curve.sh <NUMBERS >PICTURE.svg: draws what `comparison/threads.sh curve` printed: how many times as fast as in sequence
+# measure/comparison/curve.sh <NUMBERS >PICTURE.svg: draws what `measure/comparison/threads.sh curve` printed: how many times as fast as in sequence
 # four systems of one stage run, over the microseconds that each takes there, from 1 to 1,000.
 set -euo pipefail
 LC_ALL=C awk '

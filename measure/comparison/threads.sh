@@ -1,15 +1,15 @@
 #!/usr/bin/env bash
-# comparison/threads.sh plans|curve: the microseconds of a dispatch on threads, by the clock: what twice so many dispatches take
+# measure/comparison/threads.sh plans|curve: the microseconds of a dispatch on threads, by the clock: what twice so many dispatches take
 # longer than so many, the least of seven runs of each, the programs in turn. They have to be built, `comparison` with
 # `cargo build --release --features parallel`.
-# - plans: of each of these scripts of docs/plan.sh a line: by shredrun, by shredkept, by the original.
+# - plans: of each of these scripts of measure/plan.sh a line: by shredrun, by shredkept, by the original.
 # - curve: of four systems beside each other that wait for so many pauses of the processor a line: the pauses; by shredmeasure
-#   in sequence, on threads that are started, on workers that are kept; by the original. comparison/curve.sh draws it.
+#   in sequence, on threads that are started, on workers that are kept; by the original. measure/comparison/curve.sh draws it.
 set -euo pipefail
 cd "$(dirname "${BASH_SOURCE[0]}")/.."
 room=$(mktemp -d)
 trap 'rm -rf "$room"' EXIT
-original=comparison/target/release/comparison
+original=measure/comparison/target/release/comparison
 
 # spent COMMAND..: the microseconds that it takes on this input.
 spent() {
@@ -21,7 +21,7 @@ spent() {
 
 # run_script COMMAND TIMES: those of the plan, dispatched so often.
 run_script() {
-    docs/plan.sh "$2" par $plan >"$room/input"
+    measure/plan.sh "$2" par $plan >"$room/input"
     spent $1
 }
 
@@ -73,7 +73,7 @@ curve)
     done
     ;;
 *)
-    echo "usage: comparison/threads.sh plans|curve" >&2
+    echo "usage: measure/comparison/threads.sh plans|curve" >&2
     exit 2
     ;;
 esac

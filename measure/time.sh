@@ -1,5 +1,5 @@
 #!/usr/bin/env bash
-# docs/time.sh MODE 'PLAN NUMBER..' TIMES PROGRAM WORD..: the microseconds of one dispatch of a plan of docs/plan.sh by a program that
+# measure/time.sh MODE 'PLAN NUMBER..' TIMES PROGRAM WORD..: the microseconds of one dispatch of a plan of measure/plan.sh by a program that
 # reads scripts: the processor time that twice so many dispatches take longer than so many, the least of nine runs of each.
 set -euo pipefail
 plan=$(dirname "${BASH_SOURCE[0]}")/plan.sh

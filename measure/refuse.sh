@@ -1,5 +1,5 @@
 #!/usr/bin/env bash
-# docs/refuse.sh: refuses each request for memory, and each start of a thread, of the programs and of the tests that ask for
+# measure/refuse.sh: refuses each request for memory, and each start of a thread, of the programs and of the tests that ask for
 # it, one after the other, and prints for each of them how often it ended as with ample memory, and how else. A program or
 # test that is not built is proved and built first. The status is 1 where one ended as it may not.
 set -euo pipefail
@@ -7,7 +7,7 @@ cd "$(dirname "${BASH_SOURCE[0]}")/.."
 
 room=$(mktemp -d)
 trap 'rm -rf "$room"' EXIT
-gcc -shared -fPIC -O1 -o "$room/refuse.so" docs/refuse.c
+gcc -shared -fPIC -O1 -o "$room/refuse.so" measure/refuse.c
 differ=0
 
 # The tests that pass whichever request is refused: a crate, and how their names begin.

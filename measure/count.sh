@@ -1,5 +1,5 @@
 #!/usr/bin/env bash
-# docs/count.sh MODE 'PLAN NUMBER..' PROGRAM WORD..: the instructions of one dispatch of a plan of docs/plan.sh by a program that
+# measure/count.sh MODE 'PLAN NUMBER..' PROGRAM WORD..: the instructions of one dispatch of a plan of measure/plan.sh by a program that
 # reads scripts: what 110 dispatches cost more than 10, divided by 100.
 set -euo pipefail
 plan=$(dirname "${BASH_SOURCE[0]}")/plan.sh

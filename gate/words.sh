@@ -1,5 +1,5 @@
 #!/usr/bin/env bash
-# docs/words.sh: a word stands for one definition in all libraries. It prints each that stands for more.
+# gate/words.sh: a word stands for one definition in all libraries. It prints each that stands for more.
 set -euo pipefail
 cd "$(dirname "${BASH_SOURCE[0]}")/../crates"
 

@@ -1,5 +1,5 @@
 #!/usr/bin/env bash
-# docs/plan.sh TIMES MODE PLAN NUMBER..: prints a script that PERFORMANCE.md measures, dispatched so often in this mode. The
+# measure/plan.sh TIMES MODE PLAN NUMBER..: prints a script that PERFORMANCE.md measures, dispatched so often in this mode. The
 # plans: beside SYSTEMS STEPS, chain SYSTEMS, mixed SYSTEMS STEPS, batch SYSTEMS ROUNDS, depth LEVELS, large SYSTEMS.
 set -euo pipefail
 awk -v times="$1" -v mode="$2" -v plan="$3" -v first="${4:-0}" -v second="${5:-1}" '

@@ -1,5 +1,5 @@
 #!/usr/bin/env bash
-# docs/compare.sh: compares each program that a document prints with the file of `crates/` that the text before it names
+# gate/compare.sh: compares each program that a document prints with the file of `crates/` that the text before it names
 # last. It prints nothing where all agree.
 set -euo pipefail
 cd "$(dirname "${BASH_SOURCE[0]}")/.."

@@ -1,5 +1,5 @@
 #!/usr/bin/env bash
-# docs/circles.sh: compares the two circles of functions by which a step is run, on the caller's thread and on threads. Apart from
+# gate/circles.sh: compares the two circles of functions by which a step is run, on the caller's thread and on threads. Apart from
 # what threads need they are one text.
 set -euo pipefail
 cd "$(dirname "${BASH_SOURCE[0]}")/../crates/shred_run/src"

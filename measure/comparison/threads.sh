@@ -6,7 +6,7 @@
 # - curve: of four systems beside each other that wait for so many pauses of the processor a line: the pauses; by shredmeasure
 #   in sequence, on threads that are started, on workers that are kept; by the original. measure/comparison/curve.sh draws it.
 set -euo pipefail
-cd "$(dirname "${BASH_SOURCE[0]}")/.."
+cd "$(dirname "${BASH_SOURCE[0]}")/../.."
 room=$(mktemp -d)
 trap 'rm -rf "$room"' EXIT
 original=measure/comparison/target/release/comparison

@@ -3,7 +3,7 @@
 
 use shred::{
     DataError, Dispatcher, DispatcherBuilder, Fault, First, OneOf2, Second, Systems2, Typed,
-    TypedSystem, View, World, first, second,
+    TypedSystem, View, World, first_system, second_system,
 };
 
 type Position = First<i64>;
@@ -48,8 +48,8 @@ type Game = Dispatcher<Value, Systems2<Typed<Moves>, Typed<Brakes>>>;
 
 fn main(rt: HostRuntime) -> anyhow::Result<()> {
     let builder = DispatcherBuilder::new(rt.alloc())
-        .with(first(Typed(Moves)), "moves", &[])?
-        .with(second(Typed(Brakes)), "brakes", &["moves"])?;
+        .with(first_system(Typed(Moves)), "moves", &[])?
+        .with(second_system(Typed(Brakes)), "brakes", &["moves"])?;
     let mut game: Game = builder.build();
     let mut world = World::empty(rt.alloc());
     world.insert(First(0))?;

@@ -3,11 +3,10 @@
 
 use shred::{
     AddError, DataError, Dispatcher, DispatcherBuilder, Fault, First, Now, OneOf3, Rounds, Rule,
-    Second, SystemNames, Systems3, Third, Told, Typed, TypedSystem, View, World, WorldError, first,
-    second, third,
+    Second, SystemNames, Systems3, Third, Told, Typed, TypedSystem, View, World, WorldError,
+    first_system, second_system, third_system,
 };
 use std::alloc::Global;
-use std::ops::Deref;
 use thiserror::Error;
 
 type Position = First<i64>;
@@ -122,9 +121,9 @@ type Game<P> = Dispatcher<Value, Staged, Rounds<Stopped>, Now<Typed<Prints<P>>>>
 fn planned<P: Print + Drop>(rt: P, alloc: Global) -> Result<(Game<P>, SystemNames), AddError> {
     let inner = DispatcherBuilder::new(alloc)
         .with_rule(Rule::Ordered)?
-        .with(first(Typed(Moves)), "moves", &[])?
-        .with(second(Typed(Bounces)), "bounces", &[])?;
-    let scores = third(Typed(Scores { frame: 0, last: 7 }));
+        .with(first_system(Typed(Moves)), "moves", &[])?
+        .with(second_system(Typed(Bounces)), "bounces", &[])?;
+    let scores = third_system(Typed(Scores { frame: 0, last: 7 }));
     let outer = DispatcherBuilder::new(alloc)
         .with_rule(Rule::Ordered)?
         .with_batch(Rounds::new(4), inner, "sub-steps", &[])?

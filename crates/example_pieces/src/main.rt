@@ -3,15 +3,17 @@
 
 use shred::cell::TrustCell;
 use shred::{
-    DataError, DispatcherBuilder, Fault, First, MetaTable, NoBatch, Now, OneOf2, ParSeq, Second,
-    SharedWorld, Typed, TypedSystem, View, World, par, seq,
+    DataError, DispatcherBuilder, Fault, First, MetaTable, Now, OneOf3, ParSeq, Second,
+    SharedWorld, Third, Typed, TypedSystem, View, World, par, seq,
 };
 
 type Hour = First<u32>;
 
 type Light = Second<u32>;
 
-type Value = OneOf2<u32, u32>;
+type Warmth = Third<u32>;
+
+type Value = OneOf3<u32, u32, u32>;
 
 /// An hour goes by.
 #[derive(Drop)]
@@ -48,17 +50,37 @@ impl TypedSystem<Value> for Shines {
     }
 }
 
+/// It is warmest at fifteen.
+#[derive(Drop)]
+struct Warms;
+
+impl TypedSystem<Value> for Warms {
+    type Error = DataError;
+
+    type Reads = Hour;
+
+    type Writes = Warmth;
+
+    fn run(&mut self, view: &View<Value>, warmth: &mut Warmth) -> Result<(), Fault<DataError>> {
+        warmth.0 = 20u32.saturating_sub(view.fetch::<Hour>()?.0.abs_diff(15));
+        Ok(())
+    }
+}
+
 fn main(rt: HostRuntime) -> anyhow::Result<()> {
     let mut world: World<Value> = World::empty(rt.alloc());
     world.insert(First(4))?;
     world.insert(Second(0))?;
+    world.insert(Third(0))?;
 
-    // An hour goes by, and then another one, and then there is light.
-    let tree = seq![Now(Typed(Turns)), Now(Typed(Turns)), Now(Typed(Shines)),];
+    // Two hours go by, and then it gets light and warm at once.
+    let both = par![rt.alloc(); Now(Typed(Shines)), Now(Typed(Warms)),]?;
+    let tree = seq![Now(Typed(Turns)), Now(Typed(Turns)), both,];
     let mut dawn = ParSeq::new(tree, 2);
     dawn.setup(&mut world)?;
     dawn.dispatch(&rt, &mut world)?;
     println!(rt; "light {}", world.fetch::<Light>()?.0)?;
+    println!(rt; "warmth {}", world.fetch::<Warmth>()?.0)?;
 
     // What the world holds of the kinds that are listed.
     let mut kinds: MetaTable<Value> = MetaTable::new(rt.alloc());

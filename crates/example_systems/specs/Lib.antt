@@ -9,3 +9,4 @@ pub mod Adders
 pub mod TwoSystems
 pub mod PlanTexts
 pub mod SetUp
+pub mod Doubles

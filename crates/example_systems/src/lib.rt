@@ -12,4 +12,5 @@ pub mod plan_text;
 pub mod same_end;
 pub mod set_up;
 pub mod two_systems;
+pub mod typed;
 pub mod world_alone;

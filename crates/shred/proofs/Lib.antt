@@ -1,3 +1,4 @@
 pub mod Async
 pub mod Planner
 pub mod Names
+pub mod Taken

@@ -1,11 +1,12 @@
 -- Systems that name what they read and write by its types.
-use Rattle.std.specs.Prelude.{◌≡◌, ◌⊎◌, None, List, cond, Err}
+use Rattle.std.specs.Prelude.{◌≡◌, ◌⊎◌, ◌||◌, None, List, cond, Err}
 use Rattle.shred_table.specs.declared.id.Kind.{Kind}
 use Rattle.shred_table.specs.declared.id.ResourceId.{ResourceId}
 use Rattle.shred_world.specs.declared.world.view.DataError.{DataError}
 use Rattle.shred_world.specs.declared.world.view.View.{View}
 use Rattle.shred_world.specs.Bundles.{Part, IsRefused}
-use Rattle.shred_world.specs.Grants.{Grant, Moved, given_back, grant_of}
+use Rattle.shred_table.specs.Slots.{among}
+use Rattle.shred_world.specs.Grants.{Moved, given_back, grant_of}
 use Rattle.shred_world.specs.OwnViews.{IsLent}
 use Rattle.shred_world.specs.Views.{declared_held}
 use Rattle.shred_world.specs.Worked.{Held}
@@ -18,17 +19,14 @@ use Rattle.shred.specs.declared.typed.Typed.{Typed}
 abbrev pub SaysNothing : {V S E : Type 0} → Step V S E
 SaysNothing before seen outcome after left = Unit {0}
 
--- what is granted to be read
-abbrev pub grant_shows : {V : Type 0} → Grant V → Held V
-grant_shows grant id = cond (grant.reads id) (grant.held id) None
+-- what is held under the ids of both lists, with the values that were moved out of the view
+abbrev pub held_with : {V : Type 0} → (V → Kind) → (reads writes : List ResourceId) → View V → Moved V → Held V
+held_with kind reads writes view moved id = cond (among reads id || among writes id) ((given_back (grant_of kind view) moved).held id) None
 
--- what a view shows, with the values that were moved out of it
-abbrev pub held_with : {V : Type 0} → (V → Kind) → View V → Moved V → Held V
-held_with kind view moved = grant_shows (given_back (grant_of kind view) moved)
-
--- the step leads from what the view shows with what is to be written, to what it shows with what was written
-abbrev pub LeadsFrom : {V S E W : Type 0} → (V → Kind) → Step V S E → (W → Moved V) → View V → S → W → Outcome E → S → W → Type 0
-LeadsFrom kind step moved view before old outcome after new = step before (held_with kind view (moved old)) outcome after (held_with kind view (moved new))
+-- the step leads from what is declared, with what is to be written, to the same with what was written
+abbrev pub LeadsFrom : {V S E W : Type 0} → (V → Kind) → Step V S E → (reads writes : List ResourceId) → (W → Moved V) → View V → S → W → Outcome E → S → W → Type 0
+LeadsFrom kind step reads writes moved view before old outcome after new =
+    step before (held_with kind reads writes view (moved old)) outcome after (held_with kind reads writes view (moved new))
 
 -- The run was refused before it began, as a view that shows this refuses the parts; nothing was done.
 pub record IsUntaken {V S E : Type 0} (kind : V → Kind) (reads writes : List ResourceId) (parts : List Part) (gives : DataError → E → Type 0)

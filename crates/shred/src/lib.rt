@@ -34,8 +34,9 @@ pub use plain::{Plain, PlainSystem};
 pub use rounds::Rounds;
 pub use spelled::{KindNames, Spelled};
 pub use systems::{
-    NoSystem, Systems2, Systems3, Systems4, Systems5, Systems6, Systems7, Systems8, eighth, fifth,
-    first, fourth, second, seventh, sixth, third,
+    NoSystem, Systems2, Systems3, Systems4, Systems5, Systems6, Systems7, Systems8, eighth_system,
+    fifth_system, first_system, fourth_system, second_system, seventh_system, sixth_system,
+    third_system,
 };
 pub use thread_local::ThreadLocal;
 pub use typed::{Typed, TypedSystem};

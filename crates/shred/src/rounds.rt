@@ -10,7 +10,8 @@ use shred_world::{OutOfMemory, ResourceValue, View, World};
 use std::alloc::Global;
 use std::marker::PhantomData;
 
-/// The controller of a batch whose plan is run a fixed number of times each time. It declares nothing, and refuses nothing.
+/// The controller of a batch whose plan is run this many times at each run of the batch, up to the first refusal. It declares
+/// nothing, and refuses nothing itself.
 #[derive(Drop)]
 pub struct Rounds<E> {
     rounds: usize,

@@ -39,65 +39,67 @@ pub type Systems7<A, B, C, D, E, F, G> = OneOf<A, Systems6<B, C, D, E, F, G>>;
 pub type Systems8<A, B, C, D, E, F, G, H> = OneOf<A, Systems7<B, C, D, E, F, G, H>>;
 
 /// A system of the first type of a list.
-pub fn first<A, R>(system: A) -> OneOf<A, R>
+pub fn first_system<A, R>(system: A) -> OneOf<A, R>
     ensures { result ≡ First system }
 {
     OneOf::First(system)
 }
 
 /// A system of the second type of a list.
-pub fn second<A, B, R>(system: B) -> OneOf<A, OneOf<B, R>>
+pub fn second_system<A, B, R>(system: B) -> OneOf<A, OneOf<B, R>>
     ensures { result ≡ Second (First system) }
 {
-    OneOf::Second(first(system))
+    OneOf::Second(first_system(system))
 }
 
 /// A system of the third type of a list.
-pub fn third<A, B, C, R>(system: C) -> OneOf<A, OneOf<B, OneOf<C, R>>>
+pub fn third_system<A, B, C, R>(system: C) -> OneOf<A, OneOf<B, OneOf<C, R>>>
     ensures { result ≡ Second (Second (First system)) }
 {
-    OneOf::Second(second(system))
+    OneOf::Second(second_system(system))
 }
 
 /// A system of the fourth type of a list.
-pub fn fourth<A, B, C, D, R>(system: D) -> OneOf<A, OneOf<B, OneOf<C, OneOf<D, R>>>>
+pub fn fourth_system<A, B, C, D, R>(system: D) -> OneOf<A, OneOf<B, OneOf<C, OneOf<D, R>>>>
     ensures { result ≡ Second (Second (Second (First system))) }
 {
-    OneOf::Second(third(system))
+    OneOf::Second(third_system(system))
 }
 
 /// A system of the fifth type of a list.
-pub fn fifth<A, B, C, D, E, R>(system: E) -> OneOf<A, OneOf<B, OneOf<C, OneOf<D, OneOf<E, R>>>>>
+pub fn fifth_system<A, B, C, D, E, R>(
+    system: E,
+) -> OneOf<A, OneOf<B, OneOf<C, OneOf<D, OneOf<E, R>>>>>
     ensures { result ≡ Second (Second (Second (Second (First system)))) }
 {
-    OneOf::Second(fourth(system))
+    OneOf::Second(fourth_system(system))
 }
 
 /// A system of the sixth type of a list.
-pub fn sixth<A, B, C, D, E, F, R>(
+pub fn sixth_system<A, B, C, D, E, F, R>(
     system: F,
 ) -> OneOf<A, OneOf<B, OneOf<C, OneOf<D, OneOf<E, OneOf<F, R>>>>>>
     ensures { result ≡ Second (Second (Second (Second (Second (First system))))) }
 {
-    OneOf::Second(fifth(system))
+    OneOf::Second(fifth_system(system))
 }
 
 /// A system of the seventh type of a list.
-pub fn seventh<A, B, C, D, E, F, G, R>(
+pub fn seventh_system<A, B, C, D, E, F, G, R>(
     system: G,
 ) -> OneOf<A, OneOf<B, OneOf<C, OneOf<D, OneOf<E, OneOf<F, OneOf<G, R>>>>>>>
     ensures { result ≡ Second (Second (Second (Second (Second (Second (First system)))))) }
 {
-    OneOf::Second(sixth(system))
+    OneOf::Second(sixth_system(system))
 }
 
 /// A system of the eighth type of a list.
-pub fn eighth<A, B, C, D, E, F, G, H, R>(
+pub fn eighth_system<A, B, C, D, E, F, G, H, R>(
     system: H,
 ) -> OneOf<A, OneOf<B, OneOf<C, OneOf<D, OneOf<E, OneOf<F, OneOf<G, OneOf<H, R>>>>>>>>
     ensures { result ≡ Second (Second (Second (Second (Second (Second (Second (First system))))))) }
 {
-    OneOf::Second(seventh(system))
+    OneOf::Second(seventh_system(system))
 }
 
 impl<V: ResourceValue, S: System<V>> System<V> for NoSystem<S> {

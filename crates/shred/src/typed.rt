@@ -1,5 +1,5 @@
 //! Systems that name what they read and write by its types.
-ghost use Rattle.std.specs.Prelude.{◌≡◌};
+ghost use Rattle.std.specs.Prelude.{◌≡◌, ◌||◌};
 ghost use Rattle.shred_run.specs.declared.system.RunningTime.TheVariants.{Average};
 ghost use Rattle.shred.specs.Made.{IsLeftAlone};
 ghost use Rattle.shred.specs.Typed.{StepsTyped, SaysNothing};
@@ -14,6 +14,9 @@ use std::alloc::Global;
 pub trait TypedSystem<V: ResourceValue> {
     ghost use Rattle.shred_run.specs.Steps.{Step};
     ghost use Rattle.shred.specs.Typed.{LeadsFrom};
+    ghost use Rattle.shred_table.specs.Slots.{among};
+    ghost use Rattle.shred_table.specs.declared.id.ResourceId.{ResourceId};
+    ghost use Rattle.shred_world.specs.Views.{is_out, may_read};
 
     type Error: From<DataError>;
 
@@ -23,14 +26,17 @@ pub trait TypedSystem<V: ResourceValue> {
 
     ghost step: { Step V Self Self.Error } = { SaysNothing };
 
-    /// One step. What is read is fetched of the view; what is written has left it, and goes back with the values that it then
-    /// has. A `Fault` ends the group; what was written stays.
+    /// One step. What is read is fetched of the view, before anything is written, since a refusal takes nothing back; what is
+    /// written has left the view, and goes back with the values that it then has. A `Fault` ends the group.
     fn run(&mut self, view: &View<V>, written: &mut Self::Writes) -> Result<(), Fault<Self::Error>>
-        ensures { LeadsFrom V.kind_of step Self.Writes.moved view.now self.old written.old result self.new written.new };
+        requires declared { (id : ResourceId) → may_read view.now id ≡ (among Self.Reads.ids id || among Self.Writes.ids id) }
+        requires out { (id : ResourceId) → is_out view.now id ≡ among Self.Writes.ids id }
+        ensures { LeadsFrom V.kind_of step Self.Reads.ids Self.Writes.ids Self.Writes.moved view.now self.old written.old result self.new written.new };
 }
 
-/// The system of a `TypedSystem`. A resource that is to be written and is not there is refused before the run, as a view
-/// refuses it. It takes an average time, sets nothing up and has nothing to dispose of.
+/// The system of a `TypedSystem`. Before the run it moves out what is to be written, and is refused as a view refuses it: where a
+/// resource is not there, or is named twice, or for want of memory. It takes an average time, sets nothing up and has nothing
+/// to dispose of.
 #[derive(Drop)]
 pub struct Typed<T>(pub T);
 

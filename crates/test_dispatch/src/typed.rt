@@ -2,8 +2,8 @@
 
 use shred::{
     DataError, DispatchError, Dispatcher, DispatcherBuilder, Fault, First, Fourth, NoBatch, OneOf4,
-    Rounds, Second, SystemId, Systems2, Third, Typed, TypedSystem, View, World, first, second,
-    third_id,
+    Rounds, Second, SystemId, Systems2, Third, Typed, TypedSystem, View, World, first_system,
+    second_system, third_id,
 };
 use std::process::Abort;
 use std::test::Fail;
@@ -67,8 +67,8 @@ fn numbers(world: &World<Value>) -> [i64; 4] {
 #[test]
 fn typed_systems_write_what_they_name(rt: HostRuntime) -> Result<(), Fail> {
     let mut both: Dispatcher<Value, Both> = DispatcherBuilder::new(rt.alloc())
-        .with(first(Typed(Turns)), "turns", &[])?
-        .with(second(Typed(Sums)), "sums", &["turns"])?
+        .with(first_system(Typed(Turns)), "turns", &[])?
+        .with(second_system(Typed(Sums)), "sums", &["turns"])?
         .build();
     let mut world = World::empty(rt.alloc());
     world.insert(First(1))?;

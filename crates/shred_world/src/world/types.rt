@@ -25,7 +25,8 @@ pub trait ResourceTypes<V: ResourceValue> {
 
     ghost moved: { Self → Moved V };
 
-    /// Moves the resources out of a view, one after the other, up to the first that is refused; then the view is as before.
+    /// Moves the resources out of a view, one after the other. Where one is refused, those before it go back, and the view is as it
+    /// was.
     fn take(view: &mut View<V>) -> Result<Self, DataError>
         ensures refused { IfErr result (IsRefused (grant_of V.kind_of view.old) parts) }
         ensures passed { OnOk result (bundle_refusal (grant_of V.kind_of view.old) parts ≡ None) }

@@ -17,8 +17,9 @@ test_trees refusals::
 test_kept refusals::once_a_stage_has_run
 test_async refusals::a_run_is_begun_or_all_is_lost
 test_store refusals::
-test_dispatch refusals::
-test_dispatch batches::adding::a_batch_is_added_or_memory_is_wanting
+test_builder refusals::
+test_scripts refusals::
+test_batches adding::a_batch_is_added_or_memory_is_wanting
 test_dispatch locals::cases::a_call_that_finds_no_memory_is_made_again'
 
 # built CRATE, built_tests CRATE: the path of its program, or of its tests.

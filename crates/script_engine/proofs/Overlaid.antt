@@ -15,7 +15,7 @@ use Rattle.script_text.proofs.Changed.{put-same}
 use Rattle.script_text.specs.Declares.{is_among}
 use Rattle.script_text.specs.Place.{id_at, number_at}
 use Rattle.script_text.specs.declared.value.Value.{Value}
-use Rattle.script_engine.specs.declared.kept.KeptNumber.{KeptNumber}
+use Rattle.script_engine.specs.declared.kept_numbers.KeptNumber.{KeptNumber}
 use Rattle.script_engine.specs.Overlaid.{AreHeld, IsKeptAt, kept_place, of_number, overlaid}
 
 -- numbers that are held change nothing

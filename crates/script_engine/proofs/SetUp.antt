@@ -1,4 +1,5 @@
 -- A setup of systems and batches that set nothing up is Done, and keeps the values.
+use Rattle.std.specs.Prelude.{None}
 use Rattle.std.proofs.Common.{◌≡◌, ℕ, zero, suc, List, [], ◌∷◌, Option, Ok, Err, refl, sym, ◌∙◌, ap, subst, subst₂}
 use Rattle.std.specs.Result.{MatchResult}
 use Rattle.shred_model.specs.InTurn.{InTurn}
@@ -7,15 +8,15 @@ use Rattle.shred_model.specs.Runs.{Answer}
 use Rattle.shred_model.specs.States.{listed_states}
 use Rattle.shred_world.specs.Worked.{Held}
 use Rattle.shred_run.specs.AdditionOrder.{PlacedEntry, plan_entries}
-use Rattle.shred_run.specs.Depths.{batch_of}
+use Rattle.shred_run.specs.Depths.{batch_of, depth_of}
 use Rattle.shred_run.specs.EntrySetups.{SetUpInOrder, own_fault}
-use Rattle.shred_run.specs.OwnDepth.{depth_of}
 use Rattle.shred_run.specs.PlanSetups.{SetUp}
 use Rattle.shred_run.specs.Steps.{Outcome, Step}
-use Rattle.shred_run.specs.WorkSetups.{OwnSetup, Setups, WorkSetup}
+use Rattle.shred_run.specs.WorkSetups.{Setups, WorkSetup}
 use Rattle.shred_run.specs.Works.{tier_states, tiers_plan}
 use Rattle.shred_run.specs.declared.work.Nested.{Nested}
 use Rattle.shred_run.specs.declared.work.Work.{Work}
+use Rattle.shred_run.specs.Rules.{RuleSetup}
 use Rattle.shred_run.specs.declared.work.Work.TheVariants.{System, Batch}
 use Rattle.shred_stage.specs.Setups.{dispatch_fault}
 use Rattle.shred_stage.specs.declared.dispatch.dispatch_error.DispatchError.{DispatchError}
@@ -67,7 +68,7 @@ module _ {V S C E : Type 0} (setups : Setups V S C E)
       (inside.0, inside.1 ∙ first.1)
 
 -- a setup of what stands in an entry of a script's plan is Done, and keeps the values
-own-idle : (s : ScriptWork) (h : Held Value) (o : Outcome Refusal) (t : ScriptWork) (k : Held Value) → OwnSetup script_setups s h o t k → (o ≡ Ok tt) × (k ≡ h)
+own-idle : (s : ScriptWork) (h : Held Value) (o : Outcome Refusal) (t : ScriptWork) (k : Held Value) → RuleSetup script_setups None s h o t k → (o ≡ Ok tt) × (k ≡ h)
 own-idle s h o t k own = work-idle script_setups (λ s h o t k is. (is.0.1, is.0.2)) (λ s h o t k is. (is.0.1, is.0.2)) (depth_of s) s h o t k own
 
 module _ {V L E : Type 0} (local : Step V L E) (idle : (s : L) (h : Held V) (o : Outcome E) (t : L) (k : Held V) → local s h o t k → (t ≡ s) × (o ≡ Ok tt) × (k ≡ h)) where
@@ -77,7 +78,7 @@ module _ {V L E : Type 0} (local : Step V L E) (idle : (s : L) (h : Held V) (o :
 -- a dispatcher of a script's plan is set up, and its thread-local systems and the values are as before
 pub is-set-up : (before after : Program) (answer : Answer (DispatchError Refusal)) → IsSetUp script_setups IsIdle before answer after → (answer ≡ Ok tt) × IsSetUpFrom before after
 is-set-up before after answer set =
-    let plan = order-idle dispatch_fault (OwnSetup script_setups) own-idle before.staged.works after.staged.works (plan_entries before.staged.plan) before.staged.values set.middle set.of_plan set.staged.in_order in
+    let plan = order-idle dispatch_fault (RuleSetup script_setups None) own-idle before.staged.works after.staged.works (plan_entries before.staged.plan) before.staged.values set.middle set.of_plan set.staged.in_order in
     let turns = subst (λ (c : Answer (DispatchError Refusal)). MatchResult c (λ done. LocalsSetup IsIdle before.locals set.middle answer after.locals after.staged.values) (λ error. (after.locals ≡ before.locals) × (after.staged.values ≡ set.middle) × (answer ≡ Err error))) plan.0 set.locals in
     let locals = turns-same (LocalSetup IsIdle) (local-same IsIdle (λ s h o t k is. is)) 0 before.locals after.locals set.middle after.staged.values answer turns in (
       locals.0,

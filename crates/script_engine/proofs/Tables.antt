@@ -4,7 +4,7 @@ use Rattle.std.proofs.lemmas.List.{take_more}
 use Rattle.std.specs.List.{AllZip}
 use Rattle.script_text.specs.Texts.{line_of}
 use Rattle.script_engine.specs.Tables.{IsVerdict, matching_of, verdict_lines, verdict_text}
-use Rattle.script_engine.specs.declared.table.Case.{Case}
+use Rattle.script_engine.specs.declared.cases.Case.{Case}
 
 -- of each case there is a verdict
 pub verdicts-more : (cases : List Case) (verdicts : List Bool) (case : Case) (verdict : Bool) → AllZip IsVerdict cases verdicts → IsVerdict case verdict → AllZip IsVerdict (cases ++ case ∷ []) (verdicts ++ verdict ∷ [])

@@ -1,5 +1,5 @@
 -- What takes the lines of a script, and what its builders have come to.
-use Rattle.script_engine.specs.declared.build.Building.{Building as Takers}
+use Rattle.script_engine.specs.declared.walk.Building.{Building as Takers}
 use Rattle.script_engine.specs.Lines.{Building, Builts}
 use Rattle.script_engine.specs.Notes.{Noting, TakesLine, builts_of}
 use Rattle.script_text.specs.declared.script.PlanLine.{PlanLine}

@@ -7,7 +7,7 @@ use Rattle.shred_world.specs.Worked.{Held}
 use Rattle.script_text.specs.Declares.{is_among}
 use Rattle.script_text.specs.Place.{id_at, number_at}
 use Rattle.script_text.specs.declared.value.Value.{Value}
-use Rattle.script_engine.specs.declared.kept.KeptNumber.{KeptNumber}
+use Rattle.script_engine.specs.declared.kept_numbers.KeptNumber.{KeptNumber}
 
 -- the place of a kept number
 abbrev pub kept_place : KeptNumber → ℕ

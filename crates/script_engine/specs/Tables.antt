@@ -5,7 +5,7 @@ use Rattle.std.specs.Io.KnownBytes.{Appends}
 use Rattle.std.specs.List.{AllZip}
 use Rattle.script_text.specs.Texts.{line_of}
 use Rattle.script_engine.specs.Runs.{HasEnded}
-use Rattle.script_engine.specs.declared.table.Case.{Case}
+use Rattle.script_engine.specs.declared.cases.Case.{Case}
 
 -- A run of the case's script may end with this status and these texts on standard output and standard error, by what `run` promises.
 pub record HasEndedWith (case : Case) (status : ℕ) (out err : List ℕ) : Type 0 where

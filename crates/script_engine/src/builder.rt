@@ -5,10 +5,10 @@ ghost use Rattle.script_engine.specs.Lines.{IsNotBuilt};
 ghost use Rattle.script_engine.specs.Runs.{IsMadeOf};
 
 use crate::batch::ScriptBatch;
-use crate::build::take_lines;
 use crate::local::ScriptLocal;
 use crate::system::ScriptSystem;
 use crate::taker::LineTaker;
+use crate::walk::take_lines;
 use script_text::error::ScriptError;
 use script_text::script::{BatchLine, PlanLine, RuleLine, SystemLine};
 use script_text::step::Step;

@@ -2,27 +2,27 @@
 #![tactic(auto)]
 
 mod batch;
-mod build;
 mod builder;
+mod cases;
 mod declared;
 mod dispatches;
-mod dispatching;
 mod engine;
-mod kept;
+mod kept_numbers;
 mod local;
 mod one_kept;
 mod plan_text;
 mod run_plan;
 mod stepping;
 mod system;
-mod table;
 mod taker;
+mod times;
+mod walk;
 
 pub use batch::ScriptBatch;
-pub use build::take_lines;
 pub use builder::ScriptBuilder;
+pub use cases::{Case, run_table};
 pub use declared::Declared;
 pub use engine::{run, run_on_kept_workers};
 pub use system::ScriptSystem;
-pub use table::{Case, run_table};
 pub use taker::LineTaker;
+pub use walk::take_lines;

@@ -5,7 +5,7 @@ ghost use Rattle.script_text.specs.Declares.{AllowsStep, places_written};
 ghost use Rattle.script_engine.specs.Overlaid.{overlaid};
 ghost use Rattle.script_engine.specs.Steps.{steps_outcome, steps_left};
 
-use crate::kept::{KeptNumber, number_in};
+use crate::kept_numbers::{KeptNumber, number_in};
 use crate::stepping::run_steps;
 use script_text::arithmetic::change_number;
 use script_text::numbers::Numbers;

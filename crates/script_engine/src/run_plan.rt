@@ -1,22 +1,19 @@
 //! A script, looked through, run over a world.
-ghost use Rattle.std.specs.Prelude.{◌≡◌, IfErr, IfOk, OnErr, OnOk, []};
-ghost use Rattle.std.specs.Io.KnownBytes.{Appends};
+ghost use Rattle.std.specs.Prelude.{◌≡◌, IfErr, IfOk, []};
 ghost use Rattle.shred_model.specs.Record.{Agent};
-ghost use Rattle.shred_stage.specs.Sinks.{AppendsBeginning};
 ghost use Rattle.shred.specs.Builders.{built, builder_pairs};
 ghost use Rattle.shred.specs.Dispatchers.{dispatcher_locals, dispatcher_plan, dispatcher_states, dispatcher_workers};
 ghost use Rattle.shred.specs.FullRuns.{whole_over};
-ghost use Rattle.shred_world.specs.Worlds.{world_held};
-ghost use Rattle.script_text.specs.Report.{report, resource_names};
-ghost use Rattle.script_text.specs.Value.{value_kind};
+ghost use Rattle.script_text.specs.Report.{report, report_of};
 ghost use Rattle.script_engine.specs.PlanTexts.{IsNotPlanned, IsPlanPart};
 ghost use Rattle.script_engine.specs.Ready.{IsReadyFor};
 ghost use Rattle.script_engine.specs.Runs.{IsNotRun, IsPrinted};
+ghost use Rattle.script_text.specs.Output.{Writes, WritesBeginning};
 
 use crate::builder::{ScriptBuilder, builder_with};
 use crate::dispatches::ScriptDispatcher;
-use crate::dispatching::{set_up_and_dispatch, set_up_and_dispatch_on_kept};
 use crate::plan_text::plan_text;
+use crate::times::{set_up_and_dispatch, set_up_and_dispatch_on_kept};
 use script_text::error::ScriptError;
 use script_text::first_values::world_of;
 use script_text::outcome::{Outcome, write_threads};
@@ -128,8 +125,8 @@ fn prepare<'text>(alloc: Global, script: Script<'text>) -> Result<Ready<'text>, 
 
 /// Prints what is printed before the run, where there is something.
 fn print_plan<O: Write>(out: &mut O, text: &[u8]) -> io::Result<()>
-    ensures whole { OnOk result (Appends (O.contents out.old) (O.contents out.new) text.now) }
-    ensures beginning { OnErr result (AppendsBeginning (O.contents out.old) (O.contents out.new) text.now) }
+    ensures whole { Writes O.contents out.old out.new text.now result }
+    ensures beginning { WritesBeginning O.contents out.old out.new text.now result }
 {
     if text.is_empty() {
         Ok(())
@@ -147,8 +144,8 @@ fn print_report<O: Write>(
     outcome: Outcome,
 ) -> io::Result<()>
     requires { room.items ≡ [] }
-    ensures whole { OnOk result (Appends (O.contents out.old) (O.contents out.new) (report (resource_names resources.now) (world_held value_kind world.now) outcome)) }
-    ensures beginning { OnErr result (AppendsBeginning (O.contents out.old) (O.contents out.new) (report (resource_names resources.now) (world_held value_kind world.now) outcome)) }
+    ensures whole { Writes O.contents out.old out.new (report_of resources.now world.now outcome) result }
+    ensures beginning { WritesBeginning O.contents out.old out.new (report_of resources.now world.now outcome) result }
 {
     if let Err(error) = write_report(&mut room, resources, world, outcome) {
         return Err(error);

@@ -5,7 +5,7 @@ ghost use Rattle.script_text.specs.Place.{id_at};
 ghost use Rattle.script_engine.specs.Steps.{steps_outcome, steps_left};
 
 use crate::declared::Declared;
-use crate::kept::run_declared;
+use crate::kept_numbers::run_declared;
 use script_text::outcome::Refusal;
 use script_text::step::Step;
 use script_text::value::Value;

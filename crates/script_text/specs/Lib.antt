@@ -14,3 +14,4 @@ pub mod Report
 pub mod Scripts
 pub mod Operation
 pub mod Change
+pub mod Output

@@ -4,9 +4,12 @@ use Rattle.std.specs.Option.{option_map}
 use Rattle.indexmap.specs.IndexMap.{IndexMap, keys}
 use denote.Ref.{Bor}
 use Rattle.shred_world.specs.Worked.{Held}
+use Rattle.shred_world.specs.Worlds.{world_held}
+use Rattle.shred_world.specs.declared.world.World.{World}
 use Rattle.script_text.specs.declared.outcome.Outcome.{Outcome}
 use Rattle.script_text.specs.declared.value.Value.{Value}
 use Rattle.script_text.specs.Place.{number_at}
+use Rattle.script_text.specs.Value.{value_kind}
 use Rattle.script_text.specs.Texts.{line_of, outcome_text, value_text}
 
 -- the names of declared resources, in their order
@@ -35,3 +38,7 @@ bytes_of_lines more (name ∷ names) = length name + more + bytes_of_lines more 
 -- a line for each resource that is held, and one for how the run ended
 abbrev pub report : List (List ℕ) → Held Value → Outcome → List ℕ
 report names held outcome = value_lines 0 names held ++ line_of (outcome_text outcome)
+
+-- the report of these resources over a world
+abbrev pub report_of : {X S : Type 0} → IndexMap (Bor (List ℕ)) X S → World Value → Outcome → List ℕ
+report_of resources world outcome = report (resource_names resources) (world_held value_kind world) outcome

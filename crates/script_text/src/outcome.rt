@@ -1,9 +1,9 @@
 //! What a run left, as standard output tells it.
-ghost use Rattle.std.specs.Prelude.{◌≡◌, OnOk};
-ghost use Rattle.std.specs.Io.KnownBytes.{Appends};
+ghost use Rattle.std.specs.Prelude.{◌≡◌};
 ghost use Rattle.script_text.specs.declared.outcome.Refusal.TheVariants.{Undeclared};
 ghost use Rattle.script_text.specs.Endings.{failure_of, outcome_of, outcome_status};
 ghost use Rattle.script_text.specs.Texts.{line_of, outcome_text, threads_text, value_text};
+ghost use Rattle.script_text.specs.Output.{Writes};
 
 use shred_run::Fault;
 use shred_stage::DispatchError;
@@ -135,21 +135,21 @@ impl fmt::Display for Outcome {
 
 /// Writes the line of the greatest number of groups in a stage.
 pub fn write_threads<W: Write>(out: &mut W, threads: usize) -> io::Result<()>
-    ensures { OnOk result (Appends (W.contents out.old) (W.contents out.new) (line_of (threads_text threads))) }
+    ensures { Writes W.contents out.old out.new (line_of (threads_text threads)) result }
 {
     writeln!(out, "threads {threads}")
 }
 
 /// Writes the line of a resource.
 pub(crate) fn write_value<W: Write>(out: &mut W, name: &str, value: i64) -> io::Result<()>
-    ensures { OnOk result (Appends (W.contents out.old) (W.contents out.new) (line_of (value_text name.now value))) }
+    ensures { Writes W.contents out.old out.new (line_of (value_text name.now value)) result }
 {
     writeln!(out, "{name}={value}")
 }
 
 /// Writes the last line.
 pub(crate) fn write_outcome<W: Write>(out: &mut W, outcome: Outcome) -> io::Result<()>
-    ensures { OnOk result (Appends (W.contents out.old) (W.contents out.new) (line_of (outcome_text outcome))) }
+    ensures { Writes W.contents out.old out.new (line_of (outcome_text outcome)) result }
 {
     writeln!(out, "{outcome}")
 }

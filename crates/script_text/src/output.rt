@@ -1,15 +1,13 @@
 //! Writing a text whole.
-ghost use Rattle.std.specs.Prelude.{OnErr, OnOk};
-ghost use Rattle.std.specs.Io.KnownBytes.{Appends};
-ghost use Rattle.shred_stage.specs.Sinks.{AppendsBeginning};
+ghost use Rattle.script_text.specs.Output.{Writes, WritesBeginning};
 
 use std::io;
 use std::io::{ErrorKind, Write};
 
 /// Writes the text and flushes it. What was written before a failure is a beginning of the text.
 pub fn print<O: Write>(out: &mut O, text: &[u8]) -> io::Result<()>
-    ensures whole { OnOk result (Appends (O.contents out.old) (O.contents out.new) text.now) }
-    ensures beginning { OnErr result (AppendsBeginning (O.contents out.old) (O.contents out.new) text.now) }
+    ensures whole { Writes O.contents out.old out.new text.now result }
+    ensures beginning { WritesBeginning O.contents out.old out.new text.now result }
 {
     if let Err(error) = write_whole(out, text) {
         return Err(error);
@@ -18,8 +16,8 @@ pub fn print<O: Write>(out: &mut O, text: &[u8]) -> io::Result<()>
 }
 
 fn write_whole<O: Write>(out: &mut O, text: &[u8]) -> io::Result<()>
-    ensures whole { OnOk result (Appends (O.contents out.old) (O.contents out.new) text.now) }
-    ensures beginning { OnErr result (AppendsBeginning (O.contents out.old) (O.contents out.new) text.now) }
+    ensures whole { Writes O.contents out.old out.new text.now result }
+    ensures beginning { WritesBeginning O.contents out.old out.new text.now result }
 {
     let mut done = 0;
     for _ in 0..u64::MAX {

@@ -1,10 +1,10 @@
 //! The report of what a run left in the world.
-ghost use Rattle.std.specs.Prelude.{◌≡◌, ◌+◌, ◌-◌, ◌^◌, min, OnOk};
-ghost use Rattle.std.specs.Io.KnownBytes.{Appends};
+ghost use Rattle.std.specs.Prelude.{◌≡◌, ◌+◌, ◌-◌, ◌^◌, min};
 ghost use Rattle.shred_world.specs.Worlds.{world_held};
 ghost use Rattle.script_text.specs.Place.{number_at};
-ghost use Rattle.script_text.specs.Report.{bytes_of_lines, resource_names, report, value_line};
+ghost use Rattle.script_text.specs.Report.{bytes_of_lines, report, report_of, resource_names, value_line};
 ghost use Rattle.script_text.specs.Value.{value_kind};
+ghost use Rattle.script_text.specs.Output.{Writes};
 
 use crate::outcome::{Outcome, write_outcome, write_value};
 use crate::step::Resources;
@@ -39,7 +39,7 @@ pub fn write_report<W: Write>(
     world: &World<Value>,
     outcome: Outcome,
 ) -> io::Result<()>
-    ensures { OnOk result (Appends (W.contents out.old) (W.contents out.new) (report (resource_names resources.now) (world_held value_kind world.now) outcome)) }
+    ensures { Writes W.contents out.old out.new (report_of resources.now world.now outcome) result }
 {
     for (place, name) in resources.keys().enumerate() {
         write_resource(out, name, place, world)?;
@@ -54,7 +54,7 @@ fn write_resource<W: Write>(
     place: usize,
     world: &World<Value>,
 ) -> io::Result<()>
-    ensures { OnOk result (Appends (W.contents out.old) (W.contents out.new) (value_line name.now (number_at (world_held value_kind world.now) place))) }
+    ensures { Writes W.contents out.old out.new (value_line name.now (number_at (world_held value_kind world.now) place)) result }
 {
     match world.try_fetch_by_id::<i64>(id_at(place)) {
         Ok(Some(value)) => write_value(out, name, *value),

@@ -1,5 +1,5 @@
 -- What a clause sees of a shared world and of what it lends.
-use Rattle.std.specs.Prelude.{Bool, Option}
+use Rattle.std.specs.Prelude.{◌≡◌, Bool, Option, is_some}
 use Rattle.shred_table.specs.declared.id.Kind.{Kind}
 use Rattle.shred_table.specs.declared.id.ResourceId.{ResourceId}
 use Rattle.shred_table.specs.declared.resource.Resource as resource
@@ -26,3 +26,7 @@ fetch_shows fetch = shown_by fetch.guard
 -- the resource that a guard has taken from its cell, to write
 abbrev pub resource_to_write : {V R : Type 0} {g : value.Ghosts V} {h : resource.Ghosts R V} → SharedFetchMut V R g h → R
 resource_to_write fetch = fetch.resource
+
+-- the ids that it shares are those under which a value is held
+abbrev pub SharesHeld : {V : Type 0} {g : value.Ghosts V} → SharedWorld V g → (ResourceId → Option V) → Type 0
+SharesHeld world held = (id : ResourceId) → shares world id ≡ is_some (held id)

@@ -1,4 +1,5 @@
 -- What may be kept with its lists has them as its own, at every depth.
+use Rattle.std.specs.Prelude.{None}
 use Rattle.std.proofs.Common.{ℕ, zero, suc, List, [], ◌∷◌, All, map, Option, sym, subst₂}
 use Rattle.std.specs.List.{AllByRecursion}
 use Rattle.std.proofs.lemmas.List.Elements.{recursion_from_All}
@@ -12,13 +13,13 @@ use Rattle.shred_run.specs.declared.work.Nested.{Nested}
 use Rattle.shred_run.specs.declared.work.Tier.{Tier}
 use Rattle.shred_run.specs.declared.work.Work.{Work}
 use Rattle.shred_run.specs.declared.work.Work.TheVariants.{System, Batch}
-use Rattle.shred_run.specs.Depths.{Declared, Owns, batch_of}
+use Rattle.shred_run.specs.Depths.{Declared, Owns, batch_of, depth_of}
 use Rattle.shred_run.specs.Entries.{entry_states, group_states}
 use Rattle.shred_run.specs.KeptControllers.{control_access}
 use Rattle.shred_run.specs.Occupants.{AgentState, Occupants, a_batch, a_system, inside_at, inside_each, by_path, of_controller, of_system, work_occupants, work_states}
-use Rattle.shred_run.specs.OwnDepth.{OwnsItself, depth_of}
 use Rattle.shred_run.specs.OwnLists.{IsEntryOf, IsGroupOf}
 use Rattle.shred_run.specs.PlanOf.{entry_plan, group_plan, groups_plan}
+use Rattle.shred_run.specs.Rules.{RuleOwns}
 use Rattle.shred_run.specs.Works.{IsTierWithin, tiers_plan}
 use Rattle.shred_run.proofs.Paths.Works.{by_path-batch}
 use Rattle.shred_run.proofs.Paths.Opened.{EachAt}
@@ -61,9 +62,9 @@ module _ {V S C : Type 0} (declared : Declared S C) where
       )
 
   -- so it is of the stages of a plan whose groups may be kept with their lists
-  pub own-plan : {Y : Type 0} (groups : Y → List (Group V (Work S (Nested V S C)))) → ((y : Y) → All (IsGroupOf (OwnsItself declared)) (groups y)) → (ys : List Y) (at : ℕ)
+  pub own-plan : {Y : Type 0} (groups : Y → List (Group V (Work S (Nested V S C)))) → ((y : Y) → All (IsGroupOf (RuleOwns declared None)) (groups y)) → (ys : List Y) (at : ℕ)
       → PlanOwns declared (OwnsAt declared at) (inside_each 3 work_occupants (listed_states (λ y. listed_states group_states (groups y)) ys)) (inside_each 3 work_states (listed_states (λ y. listed_states group_states (groups y)) ys)) (map (λ y. groups_plan (groups y)) ys)
-  own-plan {Y} groups owns ys at = stages-owned (OwnsItself declared) at (λ work. owns-owned (depth_of work) at work) groups ys (each ys) where
-    each : (ys : List Y) → AllByRecursion (λ y. All (IsGroupOf (OwnsItself declared)) (groups y)) ys
+  own-plan {Y} groups owns ys at = stages-owned (RuleOwns declared None) at (λ work. owns-owned (depth_of work) at work) groups ys (each ys) where
+    each : (ys : List Y) → AllByRecursion (λ y. All (IsGroupOf (RuleOwns declared None)) (groups y)) ys
     each [] = tt
     each (y ∷ ys) = (owns y, each ys)

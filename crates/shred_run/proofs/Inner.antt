@@ -1,4 +1,5 @@
 -- Inner plans: the lists that they are kept with, their setup, depth and disposal.
+use Rattle.std.specs.Prelude.{None}
 use Rattle.std.proofs.Common.{◌≡◌, ◌↔◌, ◌∙◌, Bool, true, false, List, Contains, sym, refl, ap, ℕ, zero, suc, None, ◌≤◌, subst, arith, ◌<◌, length, get_or, ◌++◌, ◌+◌, [], ◌∷◌, take, Some, max, take_all}
 use Rattle.shred_table.specs.declared.id.ResourceId.{ResourceId}
 use Rattle.shred_table.specs.Slots.{among}
@@ -6,15 +7,14 @@ use Rattle.shred_table.proofs.Tables.Ids.{among-true, among-contains, among-fals
 use Rattle.shred_run.specs.Kept.{AreOwnLists}
 use Rattle.std.specs.List.{All, flat_map}
 use Rattle.shred_run.specs.OwnLists.{declared_lists, IsGroupOf, IsEntryOf}
-use Rattle.shred_run.specs.Depths.{Declared, Owns, batch_of}
+use Rattle.shred_run.specs.Depths.{Declared, Owns, batch_of, depth_of}
 use Rattle.shred_run.specs.Works.{IsTierWithin, IsBatchWithin, tier_plan, tiers_plan, tier_numbers}
 use Rattle.shred_run.specs.declared.work.Nested.{Nested}
 use Rattle.shred_run.specs.declared.work.Tier.{Tier}
 use Rattle.shred_run.specs.declared.work.Work.{Work}
 use Rattle.shred_run.specs.declared.work.Work.TheVariants.{System, Batch}
 use Rattle.shred_run.specs.Nesting.{EachWork, IsNoDeeper}
-use Rattle.shred_run.specs.OwnDepth.{OwnsItself, depth_of}
-use Rattle.shred_run.specs.Rules.{GroupNests, TierNests}
+use Rattle.shred_run.specs.Rules.{GroupNests, RuleOwns, TierNests}
 use Rattle.shred_run.specs.declared.entry.Group.{Group}
 use Rattle.std.proofs.lemmas.List.Elements.{All-weaker, Contains-append_left, Contains-append_right, recursion_from_All, All-set, All-push}
 use Rattle.shred_run.specs.declared.entry.GroupEntry.{GroupEntry}
@@ -62,7 +62,7 @@ own_lists-of_same reads writes kept_reads kept_writes same_reads same_writes = r
 
 -- What stands in an entry of a plan with batches, to the depth that is noted of it.
 -- a system may be kept with what it declares
-pub system-owns : {S C : Type 0} (V : Type 0) (declared : Declared S C) (system : S) (reads writes : List ResourceId) → declared_lists declared.reads declared.writes system reads writes → OwnsItself {V = V} declared (System system) reads writes
+pub system-owns : {S C : Type 0} (V : Type 0) (declared : Declared S C) (system : S) (reads writes : List ResourceId) → declared_lists declared.reads declared.writes system reads writes → RuleOwns {V = V} declared None (System system) reads writes
 unfolding Owns
 system-owns V declared system reads writes own = own
 
@@ -80,7 +80,7 @@ module _ {V S C : Type 0} (declared : Declared S C) where
   no-deeper (suc less) (Batch nested) reads writes owns = λ k tier below. each-work (Owns declared less) (IsNoDeeper less) (no-deeper less) reads writes _ (owns.tiers k tier below)
 
   -- so it is in groups whose entries are followed to the depth that is noted of them
-  pub groups-nest : (groups : List (Group V (Work S (Nested V S C)))) → All (IsGroupOf (OwnsItself declared)) groups → All (GroupNests None) groups
+  pub groups-nest : (groups : List (Group V (Work S (Nested V S C)))) → All (IsGroupOf (RuleOwns declared None)) groups → All (GroupNests None) groups
   groups-nest groups owned = λ k group below. λ n entry under. no-deeper _ _ _ _ (owned k group below n entry under).lists
 
 -- What may be kept with its lists where batches nest to a depth may be where they nest deeper, and a batch is within them.
@@ -145,15 +145,15 @@ some-written groups room id some =
 
 module _ {V S C : Type 0} (declared : Declared S C) where
   -- where batches nest no deeper than this, what is kept with its lists at its own depth is kept with them at this one
-  owned-entry : (most : ℕ) (entry : GroupEntry V (Work S (Nested V S C))) → NotesAtMost most entry → IsEntryOf (OwnsItself declared) entry → IsEntryOf (Owns declared most) entry
+  owned-entry : (most : ℕ) (entry : GroupEntry V (Work S (Nested V S C))) → NotesAtMost most entry → IsEntryOf (RuleOwns declared None) entry → IsEntryOf (Owns declared most) entry
   owned-entry most entry nests one = record { lists = owns-deeper declared (depth_of entry.work) most entry.work entry.reads.items entry.writes.items nests one.lists; hand = one.hand }
 
-  owned-group : (most : ℕ) (group : Group V (Work S (Nested V S C))) → GroupNotesAtMost most group → IsGroupOf (OwnsItself declared) group → IsGroupOf (Owns declared most) group
+  owned-group : (most : ℕ) (group : Group V (Work S (Nested V S C))) → GroupNotesAtMost most group → IsGroupOf (RuleOwns declared None) group → IsGroupOf (Owns declared most) group
   owned-group most group nest owns = λ k d below. owned-entry most (get_or group.entries.items k d) (nest k d below) (owns k d below)
 
   module _ (reads writes : List ResourceId) where
     -- a tier is within lists that have what its entries read and what they write
-    tier-within : (most : ℕ) (tier : Tier V (Work S (Nested V S C))) → TierNotesAtMost most tier → IsTierOf (OwnsItself declared) tier
+    tier-within : (most : ℕ) (tier : Tier V (Work S (Nested V S C))) → TierNotesAtMost most tier → IsTierOf (RuleOwns declared None) tier
         → ((id : ResourceId) → Contains (stage_side Reads (tier_plan tier)) id → Contains reads id) → ((id : ResourceId) → Contains (stage_side Writes (tier_plan tier)) id → Contains writes id)
         → IsTierWithin (Owns declared most) reads writes tier
     tier-within most tier nest one read written = record {
@@ -166,9 +166,9 @@ module _ {V S C : Type 0} (declared : Declared S C) where
 
     -- A batch may be kept with lists that have all that its controller and its inner plan declare.
     pub batch-owned : (most : ℕ) (nested : Nested V S C) (batch : OneBatch V C (Work S (Nested V S C))) → batch_of nested ≡ batch → batch.depth ≡ suc most
-        → IsOwnControl declared.control_reads declared.control_writes batch.control → All (TierNotesAtMost most) batch.tiers.items → All (IsTierOf (OwnsItself declared)) batch.tiers.items
+        → IsOwnControl declared.control_reads declared.control_writes batch.control → All (TierNotesAtMost most) batch.tiers.items → All (IsTierOf (RuleOwns declared None)) batch.tiers.items
         → ((id : ResourceId) → Contains reads id ↔ Contains (batch.control.reads.items ++ plan_reads (tiers_plan batch.tiers.items)) id) → ((id : ResourceId) → Contains writes id ↔ Contains (batch.control.writes.items ++ plan_writes (tiers_plan batch.tiers.items)) id)
-        → OwnsItself declared (Batch nested) reads writes
+        → RuleOwns declared None (Batch nested) reads writes
     unfolding Owns
     batch-owned most nested batch is deep control nest tiers same_reads same_writes =
         let plan = tiers_plan batch.tiers.items in

@@ -13,14 +13,13 @@ use Rattle.shred_run.specs.Time.{time_count}
 use Rattle.shred_run.specs.declared.entry.Group.{Group}
 use Rattle.shred_run.specs.declared.entry.GroupEntry.{GroupEntry}
 use Rattle.shred_run.specs.declared.system.RunningTime.{RunningTime}
-use Rattle.shred_run.specs.Depths.{batch_of}
+use Rattle.shred_run.specs.Depths.{batch_of, depth_of}
 use Rattle.shred_run.specs.KeptControllers.{control_access}
 use Rattle.shred_run.specs.Works.{tier_plan}
 use Rattle.shred_run.specs.declared.work.Nested.{Nested}
 use Rattle.shred_run.specs.declared.work.Tier.{Tier}
 use Rattle.shred_run.specs.declared.work.Work.{Work}
 use Rattle.shred_run.specs.declared.work.Work.TheVariants.{Batch}
-use Rattle.shred_run.specs.OwnDepth.{depth_of}
 
 -- what a batch may touch: what its controller may, and what the entries of its inner plan may
 abbrev pub joined_access : Access ResourceId → model.Plan ResourceId → Access ResourceId

@@ -1,5 +1,5 @@
 -- What the functions say that run a plan's entries, groups and tiers: each over what its systems and controllers tell, and the depth to which batches are followed.
-use Rattle.std.specs.Prelude.{ℕ, List, [], Option, All}
+use Rattle.std.specs.Prelude.{ℕ, List, [], Option, All, None}
 use Rattle.shred_model.specs.Beside.{AllWent}
 use Rattle.shred_model.specs.Runs.{Answer}
 use Rattle.shred_table.specs.declared.id.Kind.{Kind}
@@ -14,8 +14,7 @@ use Rattle.shred_run.specs.Controls.{keeping}
 use Rattle.shred_run.specs.Depths.{Owns, WorkStep, lists_of, steps_of}
 use Rattle.shred_run.specs.KeptControllers.{control_access}
 use Rattle.shred_run.specs.Lanes.{GroupWent, IsReady}
-use Rattle.shred_run.specs.OwnDepth.{OwnStep, OwnsItself}
-use Rattle.shred_run.specs.OwnLists.{IsGroupOf}
+use Rattle.shred_run.specs.OwnLists.{IsEntryOf, IsGroupOf}
 use Rattle.shred_run.specs.OwnSlots.{lent_before}
 use Rattle.shred_run.specs.Parts.{ArePartsWithin, KeepsParts, KeepsTiers}
 use Rattle.shred_run.specs.Rounds.{Rounds}
@@ -59,14 +58,6 @@ module _ {V S C E A B : Type 0} (s : systems.Ghosts S V E A) (c : controllers.Gh
   abbrev pub GroupsOwn : Option ℕ → List (Group V (Work S (Nested V S C))) → Type 0
   GroupsOwn at groups = All (IsGroupOf (RuleOwns (lists_of s c) at)) groups
 
-  -- each entry of the groups may be kept with its lists, followed as deep as batches nest in it
-  abbrev pub StageOwns : List (Group V (Work S (Nested V S C))) → Type 0
-  StageOwns groups = All (IsGroupOf (OwnsItself (lists_of s c))) groups
-
-  -- so may each entry of the tiers, and the groups of a tier do not conflict and have their hands
-  abbrev pub TiersOwn : List (Tier V (Work S (Nested V S C))) → Type 0
-  TiersOwn tiers = All (IsTierOf (OwnsItself (lists_of s c))) tiers
-
   -- the group is ready to run over what the shelf lends
   abbrev pub GroupReady : Option ℕ → List (Shelf V) → Group V (Work S (Nested V S C)) → Type 0
   GroupReady at shelf group = IsReady (RuleOwns (lists_of s c) at) (lent_slot shelf) group
@@ -78,6 +69,23 @@ module _ {V S C E A B : Type 0} (s : systems.Ghosts S V E A) (c : controllers.Gh
   -- each of the groups is ready to run over the table
   abbrev pub GroupsReadyOver : Option ℕ → Table V → List (Group V (Work S (Nested V S C))) → Type 0
   GroupsReadyOver at table groups = All (IsReady (RuleOwns (lists_of s c) at) (lent_before table (lent_slot []))) groups
+
+module _ {V S C E F A B : Type 0} (s : systems.Ghosts S V E A) (c : controllers.Ghosts C V F B) where
+  -- each entry of the groups may be kept with its lists, followed as deep as batches nest in it
+  abbrev pub StageOwns : List (Group V (Work S (Nested V S C))) → Type 0
+  StageOwns groups = All (IsGroupOf (RuleOwns (lists_of s c) None)) groups
+
+  -- the entry may be kept with its lists, followed as deep as batches nest in it
+  abbrev pub EntryOwns : GroupEntry V (Work S (Nested V S C)) → Type 0
+  EntryOwns entry = IsEntryOf (RuleOwns (lists_of s c) None) entry
+
+  -- so may each entry of the tier, whose groups do not conflict and have their hands
+  abbrev pub TierOwns : Tier V (Work S (Nested V S C)) → Type 0
+  TierOwns tier = IsTierOf (RuleOwns (lists_of s c) None) tier
+
+  -- it is so of each of the tiers
+  abbrev pub TiersOwn : List (Tier V (Work S (Nested V S C))) → Type 0
+  TiersOwn tiers = All (IsTierOf (RuleOwns (lists_of s c) None)) tiers
 
 module _ {V S C E A B : Type 0} (kind : V → Kind) (s : systems.Ghosts S V E A) (c : controllers.Ghosts C V E B) where
   -- what stands in an entry made its step over what the shelf lends
@@ -110,7 +118,7 @@ module _ {V S C E A B : Type 0} (kind : V → Kind) (s : systems.Ghosts S V E A)
 
   -- the groups of a stage took their turn over the table, each entry followed as deep as batches nest in it
   abbrev pub StageTurned : List (Group V (Work S (Nested V S C))) → Table V → Answer (StageFault E) → List (Group V (Work S (Nested V S C))) → Table V → Type 0
-  StageTurned old before answer new after = TookTurn kind (OwnStep kind (steps_of s c)) (OwnsItself (lists_of s c)) old (held kind before) answer new (held kind after)
+  StageTurned old before answer new after = TookTurn kind (RuleStep kind (steps_of s c) None) (RuleOwns (lists_of s c) None) old (held kind before) answer new (held kind after)
 
   -- the group ran over what the shelf lends
   abbrev pub GroupRan : Option ℕ → List (Shelf V) → Group V (Work S (Nested V S C)) → Answer (StageFault E) → Group V (Work S (Nested V S C)) → Type 0

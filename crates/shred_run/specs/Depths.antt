@@ -50,6 +50,11 @@ steps_of s c = relations_of (lists_of s c) s.step c.begins c.asks
 abbrev pub batch_of : {V S C : Type 0} → Nested V S C → OneBatch V C (Work S (Nested V S C))
 batch_of {V} {S} {C} nested = (out-Nested V S C nested).batch
 
+-- the depth that is noted of what stands in an entry: 0 of a system
+abbrev pub depth_of : {V S C : Type 0} → Work S (Nested V S C) → ℕ
+depth_of (System system) = 0
+depth_of (Batch nested) = (batch_of nested).depth
+
 module _ {V S C : Type 0} (declared : Declared S C) where
   -- A system may be kept with the lists that it declares; a batch with any that its controller and its inner plan are within, whose batches nest less deep.
   unfoldable pub Owns : ℕ → Work S (Nested V S C) → List ResourceId → List ResourceId → Type 0

@@ -23,7 +23,6 @@ pub mod NestedRuns
 pub mod Nesting
 pub mod Occupants
 pub mod OneBatch
-pub mod OwnDepth
 pub mod OwnFacts
 pub mod OwnLists
 pub mod OwnSlots

@@ -1,15 +1,15 @@
 -- That what stands in an entry may be kept with two lists is a fact: there is one reason for it at most.
-use Rattle.std.specs.Prelude.{ℕ, zero, suc, List}
+use Rattle.std.specs.Prelude.{ℕ, zero, suc, List, None}
 use Rattle.std.proofs.Props.{props}
 use Rattle.shred_table.specs.declared.id.ResourceId.{ResourceId}
-use Rattle.shred_run.specs.Depths.{Declared, Owns, batch_of}
+use Rattle.shred_run.specs.Depths.{Declared, Owns, batch_of, depth_of}
 use Rattle.shred_run.specs.Works.{IsBatchWithin, IsTierWithin}
 use Rattle.shred_run.specs.declared.work.Batch.{Batch as OneBatch}
 use Rattle.shred_run.specs.declared.work.Nested.{Nested}
 use Rattle.shred_run.specs.declared.work.Tier.{Tier}
 use Rattle.shred_run.specs.declared.work.Work.{Work}
+use Rattle.shred_run.specs.Rules.{RuleOwns}
 use Rattle.shred_run.specs.declared.work.Work.TheVariants.{System, Batch}
-use Rattle.shred_run.specs.OwnDepth.{OwnsItself, depth_of}
 
 module _ {V X : Type 0} (is_set : IsSet V) (own : X → List ResourceId → List ResourceId → Type 0) (is_fact : (x : X) (reads writes : List ResourceId) → IsProp (own x reads writes)) where
   pub tier-is_fact : (reads writes : List ResourceId) (tier : Tier V X) → IsProp (IsTierWithin own reads writes tier)
@@ -26,5 +26,5 @@ module _ {V S C : Type 0} (is_set : IsSet V) (declared : Declared S C) where
   owns-is_fact (suc less) (Batch nested) reads writes = batch-is_fact is_set (Owns declared less) (owns-is_fact less) declared.control_reads declared.control_writes reads writes (batch_of nested)
 
   -- so it is at the own depth
-  pub owns_itself-is_fact : (work : Work S (Nested V S C)) (reads writes : List ResourceId) → IsProp (OwnsItself declared work reads writes)
+  pub owns_itself-is_fact : (work : Work S (Nested V S C)) (reads writes : List ResourceId) → IsProp (RuleOwns declared None work reads writes)
   owns_itself-is_fact work reads writes = owns-is_fact (depth_of work) work reads writes

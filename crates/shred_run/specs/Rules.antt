@@ -3,8 +3,7 @@ use Rattle.std.specs.Prelude.{ℕ, List, Option, Some, None, All}
 use Rattle.shred_table.specs.declared.id.Kind.{Kind}
 use Rattle.shred_table.specs.declared.id.ResourceId.{ResourceId}
 use Rattle.shred_world.specs.Worked.{Held}
-use Rattle.shred_run.specs.Depths.{Declared, Owns, Related, WorkStep}
-use Rattle.shred_run.specs.OwnDepth.{depth_of}
+use Rattle.shred_run.specs.Depths.{Declared, Owns, Related, WorkStep, depth_of}
 use Rattle.shred_run.specs.Nesting.{IsNoDeeper}
 use Rattle.shred_run.specs.Steps.{Outcome, Step}
 use Rattle.shred_run.specs.WorkSetups.{Setups, WorkSetup, WorkDisposal}

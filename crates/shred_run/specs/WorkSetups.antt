@@ -7,7 +7,6 @@ use Rattle.shred_run.specs.Controls.{keeping}
 use Rattle.shred_run.specs.Depths.{Declared, batch_of, lists_of}
 use Rattle.shred_run.specs.EntrySetups.{DisposedInOrder, SetUpInOrder, own_fault}
 use Rattle.shred_run.specs.KeptControllers.{control_access}
-use Rattle.shred_run.specs.OwnDepth.{depth_of}
 use Rattle.shred_run.specs.Steps.{Outcome, Step}
 use Rattle.shred_run.specs.Works.{tier_numbers, tier_states, tiers_plan}
 use Rattle.shred_run.specs.declared.controller.BatchController as controllers
@@ -57,17 +56,9 @@ module _ {V S C E : Type 0} (setups : Setups V S C E) where
   WorkSetup (suc less) (Batch nested) before outcome (Batch left) after = BatchSetup (WorkSetup less) setups.controllers (batch_of nested) before outcome (batch_of left) after
   WorkSetup depth work before outcome left after = ⊥
 
-  -- the setup of what stands in an entry, to the depth that is noted of it
-  abbrev pub OwnSetup : Step V (Work S (Nested V S C)) E
-  OwnSetup old before outcome new after = WorkSetup (depth_of old) old before outcome new after
-
 module _ {V S E : Type 0} (C : Type 0) (system : S → Held V → Outcome E → Held V → Type 0) where
   -- A disposal of a system lies in its relation; a disposal of a batch is that of the entries of its inner plan, whose batches nest less deep. Its controller has none.
   unfoldable pub WorkDisposal : ℕ → Work S (Nested V S C) → Held V → Outcome E → Held V → Type 0
   WorkDisposal depth (System one) before outcome after = system one before outcome after
   WorkDisposal (suc less) (Batch nested) before outcome after = BatchDisposal (WorkDisposal less) (batch_of nested) before outcome after
   WorkDisposal depth work before outcome after = ⊥
-
--- the disposal of what stands in an entry, to the depth that is noted of it
-abbrev pub OwnDisposal : {V S C E : Type 0} → (S → Held V → Outcome E → Held V → Type 0) → Work S (Nested V S C) → Held V → Outcome E → Held V → Type 0
-OwnDisposal {C = C} system work before outcome after = WorkDisposal C system (depth_of work) work before outcome after

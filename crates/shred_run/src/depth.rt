@@ -1,6 +1,6 @@
 //! How deep batches nest in what stands in an entry, and how deep they are followed.
 ghost use Rattle.std.specs.Prelude.{◌≡◌};
-ghost use Rattle.shred_run.specs.OwnDepth.{depth_of};
+ghost use Rattle.shred_run.specs.Depths.{depth_of};
 ghost use Rattle.shred_run.specs.Rules.{rule_depth};
 
 use crate::work::{Nested, Work};

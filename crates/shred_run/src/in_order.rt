@@ -8,12 +8,11 @@ ghost use Rattle.shred_run.specs.OwnLists.{IsEntryOf, IsGroupOf};
 ghost use Rattle.shred_run.specs.OwnSlots.{HasJustSlots, HasSlotsFor, LendsSome, LiesBefore};
 ghost use Rattle.shred_run.specs.PlanOf.{entry_plan, groups_plan};
 ghost use Rattle.shred_run.specs.Depths.{lists_of};
-ghost use Rattle.shred_run.specs.OwnDepth.{OwnsItself};
 ghost use Rattle.shred_run.specs.Rules.{RuleOwns};
 ghost use Rattle.shred_table.specs.declared.id.ResourceId.{ResourceId};
 ghost use Rattle.shred_table.specs.Shown.{HasOwnSlots, IsSameSlots};
 ghost use Rattle.shred_world.specs.Views.{lent_slot};
-ghost use Rattle.shred_run.specs.Circles.{BatchFits, PartsFit, TierFits, TiersFit, GroupsOwn, GroupReady, GroupsReady, GroupsReadyOver, WorkStepped, EntryStepped, BatchRan, RoundsRan, TiersRan, TierTurned, GroupsTurned, StageTurned, GroupRan, GroupsRan, GroupsRanOver, PartsStay, TiersStay};
+ghost use Rattle.shred_run.specs.Circles.{BatchFits, BatchRan, EntryStepped, GroupRan, GroupReady, GroupsOwn, GroupsRan, GroupsRanOver, GroupsReady, GroupsReadyOver, GroupsTurned, PartsFit, PartsStay, RoundsRan, StageOwns, StageTurned, TierFits, TierTurned, TiersFit, TiersRan, TiersStay, WorkStepped};
 
 use crate::calls::{Ask, Begin, Run, call_over};
 use crate::control::{KeptController, call_kept};
@@ -416,7 +415,7 @@ pub fn turn_in_order<
     groups: &mut [Group<V, Work<S, Nested<V, S, C>>>],
     table: &mut Table<V>,
 ) -> Result<(), StageFault<E>>
-    requires own_lists { All (IsGroupOf (OwnsItself (lists_of S.System C.BatchController))) groups.old }
+    requires own_lists { StageOwns S.System C.BatchController groups.old }
     requires room { All KeepsRoom groups.old }
     requires apart { AreApart group_access (groups_plan groups.old) }
     ensures took { StageTurned V.kind_of S.System C.BatchController groups.old table.old result groups.new table.new }

@@ -13,7 +13,7 @@ pub mod first;
 pub mod fork;
 pub mod hands;
 pub mod in_order;
-pub mod kept;
+pub mod kept_entries;
 pub mod loan;
 pub mod multi;
 pub mod no_batch;

@@ -1,12 +1,11 @@
 //! Setup of what stands in an entry: of a system, or of a batch, whose inner plan leads back here.
 ghost use Rattle.std.specs.Prelude.{◌≡◌, ◌-◌, All, map};
-ghost use Rattle.shred_run.specs.Depths.{Owns, lists_of};
+ghost use Rattle.shred_run.specs.Depths.{Owns, lists_of, depth_of};
 ghost use Rattle.shred_run.specs.KeptControllers.{IsOwnControl, control_access};
 ghost use Rattle.shred_run.specs.Hands.{IsSameButEntries, KeepsRoom};
 ghost use Rattle.shred_run.specs.OwnLists.{IsEntryOf, IsGroupOf};
 ghost use Rattle.shred_run.specs.PlanOf.{entry_plan, group_plan};
 ghost use Rattle.shred_run.specs.Rules.{RuleOwns};
-ghost use Rattle.shred_run.specs.OwnDepth.{depth_of};
 ghost use Rattle.shred_run.specs.Owned.{HasOwnGroups, IsOwned, StaysOwned, StayTiers};
 ghost use Rattle.shred_run.specs.SettingUp.{WorkSetUp, BatchSetUp, TiersSetUp, GroupsSetUp, GroupSetUp, EntriesSetUp, EntrySetUp, TiersOwnGroups, TiersStayOwn};
 

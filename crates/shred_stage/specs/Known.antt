@@ -1,5 +1,5 @@
 -- The names that a builder knows, as a function from a name's bytes to the number of its id.
-use Rattle.std.specs.Prelude.{◌≡◌, ℕ, ◌<◌, cond, List, [], ◌∷◌, map, Option, Some, None, IsSome, slice_get, unwrap_or}
+use Rattle.std.specs.Prelude.{◌≡◌, ℕ, ◌<◌, cond, List, [], ◌∷◌, map, Option, Some, None, IsSome, MatchOption, slice_get, unwrap_or}
 use Rattle.std.specs.Str.{bytes_eq}
 use denote.Ref.{Bor}
 
@@ -31,3 +31,7 @@ KnowsAll known names = (k : ℕ) (name : List ℕ) → slice_get names k ≡ Som
 -- the first of the names that is not known stands at this place
 abbrev pub IsFirstUnknown : Known → List (List ℕ) → ℕ → Type 0
 IsFirstUnknown known names place = (name : List ℕ) × (slice_get names place ≡ Some name) × (known name ≡ None) × KnowsBefore known names place
+
+-- the place of the first of the names that is not known, if one is
+abbrev pub FirstUnknownIs : Known → List (List ℕ) → Option ℕ → Type 0
+FirstUnknownIs known names place = MatchOption place (KnowsAll known names) (IsFirstUnknown known names)

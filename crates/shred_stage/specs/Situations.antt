@@ -1,5 +1,5 @@
 -- Stages and plans over the values of worlds, and what they answer.
-use Rattle.std.specs.Prelude.{◌≡◌, ℕ, List, [], ◌∷◌, Ok, Err}
+use Rattle.std.specs.Prelude.{◌≡◌, ℕ, List, [], ◌∷◌, Ok, Err, None}
 use Rattle.shred_model.specs.Runs.{Answer, Ran}
 use Rattle.shred_model.specs.States.{configuration_of}
 use Rattle.shred_table.specs.declared.id.Kind.{Kind}
@@ -10,8 +10,8 @@ use Rattle.shred_run.specs.Alone.{KeepsKinds}
 use Rattle.shred_run.specs.Depths.{Related}
 use Rattle.shred_run.specs.Dispatched.{Situation}
 use Rattle.shred_run.specs.Entries.{StageRun}
-use Rattle.shred_run.specs.OwnDepth.{OwnStep}
 use Rattle.shred_run.specs.declared.entry.StageFault.{StageFault}
+use Rattle.shred_run.specs.Rules.{RuleStep}
 use Rattle.shred_run.specs.declared.entry.StageFault.TheVariants.{System, Memory}
 use Rattle.shred_stage.specs.Plans.{plan_states, stage_states}
 use Rattle.shred_stage.specs.StagePlan.{plan_of, stage_plan}
@@ -54,6 +54,6 @@ module _ {V S C N A M B : Type 0} {vd : _} {sd : _} {ad : _} {cd : _} {bd : _} w
 
   -- The stage took its turn, each batch as one step of its entry; its plan stays, and the ids that are held with the kinds of their values.
   pub record StageTook {E : Type 0} (kind : V → Kind) (related : Related V S C E) (old : Stage V S C N A M B vd sd ad cd bd) (before : Held V) (answer : Answer (StageFault E)) (new : Stage V S C N A M B vd sd ad cd bd) (after : Held V) : Type 0 where
-    pub ran : Ran (StageRun kind (OwnStep kind related) (stage_plan old)) (configuration_of (stage_states old) before) answer (configuration_of (stage_states new) after)
+    pub ran : Ran (StageRun kind (RuleStep kind related None) (stage_plan old)) (configuration_of (stage_states old) before) answer (configuration_of (stage_states new) after)
     pub plan : stage_plan new ≡ stage_plan old
     pub kinds : KeepsKinds kind before after

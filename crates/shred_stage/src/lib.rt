@@ -3,7 +3,7 @@
 
 pub mod add_error;
 pub mod dispatch;
-pub mod look_up;
+pub mod known_names;
 
 pub use add_error::AddError;
 pub use dispatch::dispatch_error::DispatchError;

@@ -1,5 +1,4 @@
 -- Slots of tables, and values that move between them.
-pub mod Finite
 mod IdOrder
 pub mod InOrder
 pub mod Ids

@@ -64,12 +64,3 @@ restrict {V} kind trees more old new before after o in-reads in-writes run =
     (λ id w. ap (λ (c : Bool). cond c (after id) None) (within id (either-true (among (trees.reads old) id) (among (trees.writes old) id) w)))
     (λ id w i. cond (declares more id) (run.frame id w i) None)
     run
-
-module _ {V : Type 0} where
-  -- a view that has the ids of some lists has those of lists within them
-  pub covers-within : (view : View V) (reads writes more_reads more_writes : List ResourceId) → Within reads more_reads → Within writes more_writes → Covers view more_reads more_writes → Covers view reads writes
-  covers-within view reads writes more_reads more_writes in-reads in-writes covers = record {
-    reads_within = λ id e. covers.reads_within id (in-reads id e);
-    writes_within = λ id e. covers.writes_within id (in-writes id e);
-    nothing_out = covers.nothing_out;
-  }

@@ -1,4 +1,3 @@
-pub mod Tables
 pub mod Views
 pub mod Bundles
 pub mod Parted

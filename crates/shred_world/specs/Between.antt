@@ -22,10 +22,6 @@ module _ {V X A : Type 0} (kind : V → Kind) (relation : X → Held V → A →
   abbrev pub OverLocal : X → LocalWorld V → A → X → LocalWorld V → Type 0
   OverLocal before old answer after new = relation before (local_held kind old) answer after (local_held kind new)
 
-  -- the same of a table
-  abbrev pub OverTable : X → Table V → A → X → Table V → Type 0
-  OverTable before old answer after new = relation before (held kind old) answer after (held kind new)
-
 -- the relation leads from what the world holds to what it holds after
 abbrev pub LeavesWorld : {V A : Type 0} → (V → Kind) → (Held V → A → Held V → Type 0) → World V → A → World V → Type 0
 LeavesWorld kind relation old answer new = relation (world_held kind old) answer (world_held kind new)

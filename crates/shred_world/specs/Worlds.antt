@@ -1,5 +1,5 @@
 -- Worlds: finite maps from ids to values of their id's kind.
-use Rattle.std.specs.Prelude.{◌≡◌, false, List, Option, Some, None, MatchOption, Result, Ok, Err}
+use Rattle.std.specs.Prelude.{◌≡◌, List, Option, Some, None, MatchOption, Result, Ok, Err}
 use Rattle.shred_table.specs.declared.id.Kind.{Kind}
 use Rattle.shred_table.specs.declared.id.ResourceId.{ResourceId}
 use Rattle.shred_table.specs.declared.table.Slot.{Slot}
@@ -9,7 +9,7 @@ use Rattle.shred_world.specs.declared.world.World.{World}
 use Rattle.shred_world.specs.declared.world.local.LocalWorld.{LocalWorld}
 use Rattle.shred_world.specs.declared.world.WorldError.{WorldError}
 use Rattle.shred_world.specs.declared.world.WorldError.TheVariants.{OutOfMemory}
-use Rattle.shred_table.specs.Slots.{among, with_at}
+use Rattle.shred_table.specs.Slots.{with_at}
 use Rattle.shred_table.specs.Id.{id_of}
 
 -- what a world lends to be read and written while the ids stay
@@ -39,10 +39,6 @@ world_held kind w id = twin_held kind w.local.twin id
 -- the two worlds have the same slot for each id
 abbrev pub IsSameMap : {V : Type 0} → World V → World V → Type 0
 IsSameMap first later = (id : ResourceId) → world_slot later id ≡ world_slot first id
-
--- some list has every id under which a value is held
-abbrev pub IsFinite : {V : Type 0} → (ResourceId → Option V) → Type 0
-IsFinite held = (ids : List ResourceId) × ((id : ResourceId) → among ids id ≡ false → held id ≡ None)
 
 -- the resource is the one that was held, or else one of those that may be made
 abbrev pub IsKeptOrMade : {V R : Type 0} → (R → V) → Option V → (R → Type 0) → R → Type 0

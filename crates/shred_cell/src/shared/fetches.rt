@@ -1,9 +1,9 @@
 //! The fetches of a shared world.
-ghost use Rattle.std.specs.Prelude.{◌≡◌, ◌≢◌, ◌⊎◌, true, false, Err, IfErr, IfOk, IfSome, None, Ok, OnOk, Some, is_some};
+ghost use Rattle.std.specs.Prelude.{◌≡◌, ◌⊎◌, Err, IfErr, IfOk, IfSome, None, Ok, OnOk, Some, is_some};
 ghost use Rattle.shred_cell.specs.Cells.{tag_of};
 ghost use Rattle.shred_cell.specs.SharedWorlds.{cell_kind, shares};
 ghost use Rattle.shred_table.specs.Id.{id_kind, id_of};
-ghost use Rattle.shred_cell.specs.Refusals.{IsWrongSharedKind, IsBorrowed};
+ghost use Rattle.shred_cell.specs.Refusals.{IsBorrowed, IsWrongSharedKind, TellsBorrowed, TellsMissing, TellsWrongKind};
 
 use super::{CellRef, OfKind, SharedError, SharedFetch, SharedFetchMut, SharedWorld};
 use crate::cell::{InvalidBorrow, TrustCell};
@@ -68,8 +68,8 @@ impl<V: ResourceValue + Drop> SharedWorld<V> {
         &self,
         rt: &impl Wait,
     ) -> Result<SharedFetch<'_, V, R>, SharedError>
-        ensures missing { shares self.now (id_of R.KIND 0) ≡ false → result ≡ Err (SharedError.Missing (id_of R.KIND 0)) }
-        ensures borrowed { shares self.now (id_of R.KIND 0) ≡ true → IfErr result (λ e. e ≡ SharedError.InvalidBorrow) }
+        ensures missing { TellsMissing self.now (id_of R.KIND 0) result }
+        ensures borrowed { TellsBorrowed self.now (id_of R.KIND 0) result }
     {
         let id = ResourceId::new::<V, R>();
         expect(self.try_fetch_by_id(rt, id), id)
@@ -93,7 +93,7 @@ impl<V: ResourceValue + Drop> SharedWorld<V> {
         rt: &impl Wait,
         id: ResourceId,
     ) -> Result<Option<SharedFetch<'_, V, R>>, SharedError>
-        ensures wrong_kind { (R.KIND ≢ id_kind id) → result ≡ Err (SharedError.WrongKind R.KIND (id_kind id)) }
+        ensures wrong_kind { TellsWrongKind R.KIND id result }
         ensures held { IfOk result (λ found. (R.KIND ≡ id_kind id) × (is_some found ≡ shares self.now id)) }
         ensures borrowed { IfErr result (λ e. (R.KIND ≡ id_kind id) → IsBorrowed self.now id e) }
     {
@@ -112,8 +112,8 @@ impl<V: ResourceValue + Drop> SharedWorld<V> {
 
     /// The resource that is held, to write. `Missing` where none is; `InvalidBorrow` where it is borrowed.
     pub fn fetch_mut<R: Resource<V>>(&self) -> Result<SharedFetchMut<'_, V, R>, SharedError>
-        ensures missing { shares self.now (id_of R.KIND 0) ≡ false → result ≡ Err (SharedError.Missing (id_of R.KIND 0)) }
-        ensures borrowed { shares self.now (id_of R.KIND 0) ≡ true → IfErr result (λ e. e ≡ SharedError.InvalidBorrow) }
+        ensures missing { TellsMissing self.now (id_of R.KIND 0) result }
+        ensures borrowed { TellsBorrowed self.now (id_of R.KIND 0) result }
     {
         let id = ResourceId::new::<V, R>();
         expect(self.try_fetch_mut_by_id(id), id)
@@ -135,7 +135,7 @@ impl<V: ResourceValue + Drop> SharedWorld<V> {
         &self,
         id: ResourceId,
     ) -> Result<Option<SharedFetchMut<'_, V, R>>, SharedError>
-        ensures wrong_kind { (R.KIND ≢ id_kind id) → result ≡ Err (SharedError.WrongKind R.KIND (id_kind id)) }
+        ensures wrong_kind { TellsWrongKind R.KIND id result }
         ensures held { IfOk result (λ found. (R.KIND ≡ id_kind id) × (is_some found ≡ shares self.now id)) }
         ensures borrowed { IfErr result (λ e. (R.KIND ≡ id_kind id) → IsBorrowed self.now id e) }
     {

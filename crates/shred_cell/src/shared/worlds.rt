@@ -1,7 +1,7 @@
 //! From a world to a shared world, and back.
 ghost use Rattle.std.specs.Prelude.{◌≡◌, ◌||◌, IfErr, IfOk, is_some};
 ghost use Rattle.shred_cell.specs.Shared.{ArePlaced, has_cell};
-ghost use Rattle.shred_cell.specs.SharedWorlds.{shares};
+ghost use Rattle.shred_cell.specs.SharedWorlds.{SharesHeld, shares};
 ghost use Rattle.shred_table.specs.Slots.{among, held, slot_at};
 ghost use Rattle.shred_table.specs.declared.id.ResourceId.{ResourceId};
 ghost use Rattle.shred_table.specs.AsOne.{IsSettledBeside};
@@ -49,7 +49,7 @@ fn share_each<V: ResourceValue + Drop>(
 ) -> Result<SharedWorld<V>, World<V>>
     requires ids { (q : ResourceId) → among ids.items q ≡ is_some (slot_at twin.table q) }
     requires settled { IsSettledBeside twin.table twin.hand }
-    ensures ok { IfOk result (λ shared. (q : ResourceId) → shares shared q ≡ is_some (held V.kind_of twin.table q)) }
+    ensures ok { IfOk result (λ shared. SharesHeld shared (held V.kind_of twin.table)) }
     ensures err { IfErr result (λ back. (q : ResourceId) → world_slot back q ≡ twin_slot twin q) }
 {
     match empty_hand(twin.table.allocator(), ids.as_slice()) {
@@ -64,7 +64,7 @@ fn share_each<V: ResourceValue + Drop>(
 impl<V: ResourceValue + Drop> SharedWorld<V> {
     /// The world, with each of its values in a cell of its own; or the world as it was, where memory is refused.
     pub fn new(world: World<V>) -> Result<SharedWorld<V>, World<V>>
-        ensures ok { IfOk result (λ shared. (id : ResourceId) → shares shared id ≡ is_some (world_held V.kind_of world id)) }
+        ensures ok { IfOk result (λ shared. SharesHeld shared (world_held V.kind_of world)) }
         ensures err { IfErr result (IsSameMap world) }
     {
         let twin = into_twin(world);

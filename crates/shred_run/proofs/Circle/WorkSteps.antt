@@ -1,11 +1,11 @@
 -- Steps of what stands in entries, to a depth.
+use Rattle.std.specs.Prelude.{None}
 use Rattle.std.proofs.Common.{◌≡◌, ◌≤◌, ◌<◌, ℕ, List, Option, Some, None, refl, sym, subst, arith, zero, suc, Bool, true, false, cond, ◌||◌, [], ◌∷◌, Ok, Err, Contains, inl, inr, ap, subst₂, ◌-◌, ◌∙◌, map, ⊎_elim}
 use Rattle.shred_table.specs.declared.id.Kind.{Kind}
 use Rattle.shred_table.specs.declared.id.ResourceId.{ResourceId}
 use Rattle.shred_table.specs.declared.table.Table.{Table}
 use Rattle.shred_table.specs.Shown.{Lent, shown}
-use Rattle.shred_run.specs.Depths.{Declared, Owns, Related, WorkStep, batch_of}
-use Rattle.shred_run.specs.OwnDepth.{depth_of}
+use Rattle.shred_run.specs.Depths.{Declared, Owns, Related, WorkStep, batch_of, depth_of}
 use Rattle.shred_run.specs.Rules.{RuleOwns, RuleStep, bound_of, rule_depth}
 use Rattle.shred_run.specs.Steps.{Outcome, Step, Written, declared_of}
 use Rattle.shred_run.specs.Steppers.{IsStepBy}

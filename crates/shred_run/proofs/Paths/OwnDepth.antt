@@ -13,7 +13,7 @@ use Rattle.shred_run.specs.declared.entry.StageFault.{StageFault}
 use Rattle.shred_run.specs.Entries.{EntryRun, GroupRun, StageRun, StageRun, entry_states, group_states}
 use Rattle.shred_run.specs.Steps.{Outcome, Step, Written, IsStep}
 use Rattle.shred_run.specs.Controls.{Control}
-use Rattle.shred_run.specs.Depths.{BatchStep, Related, WorkStep, batch_of, Declared, Owns}
+use Rattle.shred_run.specs.Depths.{BatchStep, Declared, Owns, Related, WorkStep, batch_of, depth_of}
 use Rattle.shred_run.specs.KeptControllers.{control_access}
 use Rattle.shred_run.specs.Rounds.{Rounds, BatchRun}
 use Rattle.shred_run.specs.Works.{InnerRun, tier_states, tiers_plan, IsBatchWithin, IsTierWithin, tier_plan}
@@ -38,7 +38,7 @@ use Rattle.shred_run.proofs.Paths.Works.{expand, plan-nested, plan-same, by_path
 use Rattle.std.proofs.Math.Bool.{or-true}
 use Rattle.std.proofs.lemmas.List.Elements.{All-cons, All-nil, Contains-append_cases, recursion_from_All}
 use Rattle.std.specs.List.{AllByRecursion}
-use Rattle.std.specs.Prelude.{option_and_then}
+use Rattle.std.specs.Prelude.{option_and_then, None}
 use Rattle.std.proofs.lemmas.Bool.{or_cases}
 use Rattle.shred_model.proofs.Records.Framed.{AllByRecursion-weaker}
 use Rattle.shred_table.specs.Slots.{among}
@@ -48,8 +48,8 @@ use Rattle.shred_run.specs.PlanOf.{entry_plan, group_plan, groups_plan}
 use Rattle.shred_run.specs.Sides.{group_side, plan_reads, plan_writes, stage_side}
 use Rattle.shred_run.specs.declared.entry.Group.{Group}
 use Rattle.shred_run.specs.declared.entry.Side.TheVariants.{Reads, Writes}
+use Rattle.shred_run.specs.Rules.{RuleOwns, RuleStep}
 use Rattle.shred_run.specs.WithinEntries.{IsNoMore}
-use Rattle.shred_run.specs.OwnDepth.{OwnStep, OwnsItself, depth_of}
 
 -- Where each step lies also in another relation, so it is of each entry's, group's, stage's and inner plan's run, and of a batch's.
 
@@ -307,31 +307,31 @@ module _ {V S C E : Type 0} (kind : V → Kind) (related : Related V S C E) wher
   deeper : (d e : ℕ) → d ≤ e → (old : Work S (Nested V S C)) (m : Held V) (o : _) (new : Work S (Nested V S C)) (n : Held V) → WorkStep kind related d old m o new n → WorkStep kind related e old m o new n
   deeper d e le old m o new n one = step-deeper kind related d e old m o new n le one
 
-  entry-some : (n : ℕ) (entry : model.PlanEntry ResourceId) (list : List (Written V (Work S (Nested V S C)) E)) (a : Answer (StageFault E)) → EntryRun kind (OwnStep kind related) n entry list a → (d : ℕ) × EntryRun kind (WorkStep kind related d) n entry list a
+  entry-some : (n : ℕ) (entry : model.PlanEntry ResourceId) (list : List (Written V (Work S (Nested V S C)) E)) (a : Answer (StageFault E)) → EntryRun kind (RuleStep kind related None) n entry list a → (d : ℕ) × EntryRun kind (WorkStep kind related d) n entry list a
   entry-some n entry list a (r, is, at, one, answer) = (depth_of r.before, (r, is, at, record { declared = one.declared; lies = one.lies; sees_only = one.sees_only; keeps_kinds = one.keeps_kinds; frame = one.frame }, answer))
 
-  group-some : (n : ℕ) (group : model.Group ResourceId) (list : List (Written V (Work S (Nested V S C)) E)) (a : Answer (StageFault E)) → GroupRun kind (OwnStep kind related) n group list a → (d : ℕ) × GroupRun kind (WorkStep kind related d) n group list a
-  group-some n group list a run = UpToFault-some (EntryRun kind (OwnStep kind related)) (λ d. EntryRun kind (WorkStep kind related d)) (λ d e le. EntryRun-weaker kind (WorkStep kind related d) (WorkStep kind related e) (deeper d e le)) entry-some 0 group list a run
+  group-some : (n : ℕ) (group : model.Group ResourceId) (list : List (Written V (Work S (Nested V S C)) E)) (a : Answer (StageFault E)) → GroupRun kind (RuleStep kind related None) n group list a → (d : ℕ) × GroupRun kind (WorkStep kind related d) n group list a
+  group-some n group list a run = UpToFault-some (EntryRun kind (RuleStep kind related None)) (λ d. EntryRun kind (WorkStep kind related d)) (λ d e le. EntryRun-weaker kind (WorkStep kind related d) (WorkStep kind related e) (deeper d e le)) entry-some 0 group list a run
 
-  pub stage-some : (stage : model.Stage ResourceId) (list : List (Written V (Work S (Nested V S C)) E)) (a : Answer (StageFault E)) → StageRun kind (OwnStep kind related) stage list a → (d : ℕ) × StageRun kind (WorkStep kind related d) stage list a
-  stage-some stage list a run = Each-some (GroupRun kind (OwnStep kind related)) (λ d. GroupRun kind (WorkStep kind related d)) (λ d e le. GroupRun-weaker kind (WorkStep kind related d) (WorkStep kind related e) (deeper d e le)) group-some 0 stage list a run
+  pub stage-some : (stage : model.Stage ResourceId) (list : List (Written V (Work S (Nested V S C)) E)) (a : Answer (StageFault E)) → StageRun kind (RuleStep kind related None) stage list a → (d : ℕ) × StageRun kind (WorkStep kind related d) stage list a
+  stage-some stage list a run = Each-some (GroupRun kind (RuleStep kind related None)) (λ d. GroupRun kind (WorkStep kind related d)) (λ d e le. GroupRun-weaker kind (WorkStep kind related d) (WorkStep kind related e) (deeper d e le)) group-some 0 stage list a run
 
   module _ {F : Type 0} (answers : ℕ → Answer (StageFault E) → Answer F) where
-    told-some : (n : ℕ) (stage : model.Stage ResourceId) (list : List (Written V (Work S (Nested V S C)) E)) (told : Answer F) → ToldTurn kind (OwnStep kind related) answers n stage list told → (d : ℕ) × ToldTurn kind (WorkStep kind related d) answers n stage list told
+    told-some : (n : ℕ) (stage : model.Stage ResourceId) (list : List (Written V (Work S (Nested V S C)) E)) (told : Answer F) → ToldTurn kind (RuleStep kind related None) answers n stage list told → (d : ℕ) × ToldTurn kind (WorkStep kind related d) answers n stage list told
     told-some n stage list told (x, turn, is) = let at = stage-some stage list x turn in (at.0, (x, at.1, is))
 
     told-deeper : (d e : ℕ) → d ≤ e → (n : ℕ) (stage : model.Stage ResourceId) (list : List (Written V (Work S (Nested V S C)) E)) (told : Answer F) → ToldTurn kind (WorkStep kind related d) answers n stage list told → ToldTurn kind (WorkStep kind related e) answers n stage list told
     told-deeper d e le n stage list told (x, turn, is) = (x, StageRun-weaker kind (WorkStep kind related d) (WorkStep kind related e) (deeper d e le) stage list x turn, is)
 
     -- A plan's run, whose batches are as deep as is noted of them, leaves what a dispatch promises.
-    pub own-plan-dispatched : TellsDone answers → (a b : Agent → Option (Work S (Nested V S C))) (m n : Held V) (plan new : model.Plan ResourceId) (answer : Answer F) → Ran (RunsUpToFault (ToldTurn kind (OwnStep kind related) answers) 0 plan) (configuration_of a m) answer (configuration_of b n)
+    pub own-plan-dispatched : TellsDone answers → (a b : Agent → Option (Work S (Nested V S C))) (m n : Held V) (plan new : model.Plan ResourceId) (answer : Answer F) → Ran (RunsUpToFault (ToldTurn kind (RuleStep kind related None) answers) 0 plan) (configuration_of a m) answer (configuration_of b n)
         → PlanFitsThroughout (inside_each 3 work_occupants a) plan → All (AreApart model.group_access) plan → new ≡ plan → KeepsKinds kind m n → Dispatched kind related answers (record { plan = plan; works = a; values = m }) answer (record { plan = new; works = b; values = n })
     own-plan-dispatched tells a b m n plan new answer ran fits apart same kinds =
-        let at = UpToFault-some (ToldTurn kind (OwnStep kind related) answers) (λ d. ToldTurn kind (WorkStep kind related d) answers) told-deeper told-some 0 plan ran.list answer ran.run in
+        let at = UpToFault-some (ToldTurn kind (RuleStep kind related None) answers) (λ d. ToldTurn kind (WorkStep kind related d) answers) told-deeper told-some 0 plan ran.list answer ran.run in
         plan-dispatched kind related at.0 a b m n answers tells plan new answer (record { list = ran.list; run = at.1; replays = ran.replays }) fits apart same kinds
 
 module _ {V S C : Type 0} (declared : Declared S C) where
   -- the stages of a plan whose groups may be kept with their lists fit them
-  pub own-plan-fits : {Y : Type 0} (groups : Y → List (Group V (Work S (Nested V S C)))) → ((y : Y) → All (IsGroupOf (OwnsItself declared)) (groups y)) → (ys : List Y)
+  pub own-plan-fits : {Y : Type 0} (groups : Y → List (Group V (Work S (Nested V S C)))) → ((y : Y) → All (IsGroupOf (RuleOwns declared None)) (groups y)) → (ys : List Y)
       → PlanFitsThroughout (inside_each 3 work_occupants (listed_states (λ y. listed_states group_states (groups y)) ys)) (map (λ y. groups_plan (groups y)) ys)
-  own-plan-fits groups owns ys at = stages-fit (OwnsItself declared) at (λ work. owns-fits declared (depth_of work) at work) groups owns ys
+  own-plan-fits groups owns ys at = stages-fit (RuleOwns declared None) at (λ work. owns-fits declared (depth_of work) at work) groups owns ys

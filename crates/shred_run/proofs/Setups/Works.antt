@@ -1,6 +1,6 @@
 -- Setups and disposals of entries, groups and tiers go through the entries in them in order, and what stands at each path stays.
 use Rattle.std.proofs.Common.{◌≡◌, ℕ, zero, suc, List, [], ◌∷◌, Option, Some, None, Ok, Err, refl, sym, ◌∙◌, ap, subst}
-use Rattle.std.specs.Prelude.{option_and_then}
+use Rattle.std.specs.Prelude.{option_and_then, None}
 use Rattle.std.specs.Result.{MatchResult}
 use Rattle.std.specs.List.{AllByRecursion}
 use Rattle.shred_model.specs.Plan as model
@@ -11,19 +11,18 @@ use Rattle.shred_model.specs.States.{listed_states, own_state}
 use Rattle.shred_table.specs.declared.id.ResourceId.{ResourceId}
 use Rattle.shred_world.specs.Worked.{Held}
 use Rattle.shred_run.specs.AdditionOrder.{entry_alone, group_entries, plan_entries, stage_entries}
-use Rattle.shred_run.specs.Depths.{batch_of}
+use Rattle.shred_run.specs.Depths.{batch_of, depth_of}
 use Rattle.shred_run.specs.Dispatched.{Situation}
 use Rattle.shred_run.specs.Entries.{entry_states, group_states}
 use Rattle.shred_run.specs.EntrySetups.{DisposedInOrder, SetUpInOrder, own_fault, stage_fault}
 use Rattle.shred_run.specs.KeptControllers.{control_access}
 use Rattle.shred_run.specs.Occupants.{a_batch, a_system, by_path, inside_each, work_occupants}
-use Rattle.shred_run.specs.OwnDepth.{depth_of}
 use Rattle.shred_run.specs.PlanOf.{entry_plan, group_plan, groups_plan}
 use Rattle.shred_run.specs.PlanSetups.{SetUp}
 use Rattle.shred_run.specs.Rounds.{fault_within}
 use Rattle.shred_run.specs.Setups.{EntryDisposal, EntrySetup, GroupDisposal, GroupSetup, GroupsDisposal, GroupsSetup, TierDisposal, TierSetup, TiersDisposal, TiersSetup}
 use Rattle.shred_run.specs.Steps.{Outcome, Step}
-use Rattle.shred_run.specs.WorkSetups.{BatchSetup, OwnSetup, Setups, WorkSetup}
+use Rattle.shred_run.specs.WorkSetups.{BatchSetup, Setups, WorkSetup}
 use Rattle.shred_run.specs.Works.{tier_plan, tier_states, tiers_plan}
 use Rattle.shred_run.specs.declared.entry.Group.{Group}
 use Rattle.shred_run.specs.declared.entry.GroupEntry.{GroupEntry}
@@ -33,6 +32,7 @@ use Rattle.shred_run.specs.declared.work.Batch.{Batch as OneBatch}
 use Rattle.shred_run.specs.declared.work.Nested.{Nested}
 use Rattle.shred_run.specs.declared.work.Tier.{Tier}
 use Rattle.shred_run.specs.declared.work.Work.{Work}
+use Rattle.shred_run.specs.Rules.{RuleSetup}
 use Rattle.shred_run.specs.declared.work.Work.TheVariants.{Batch, System}
 use Rattle.shred_run.proofs.Paths.Works.{by_path-batch, inner_occupants, with_own}
 use Rattle.shred_run.proofs.Setups.InOrder.{all-disposed, all-set_up, disposed-retold, entries-mapped, set_up-retold}
@@ -160,11 +160,11 @@ module _ {V S C E : Type 0} (setups : Setups V S C E) where
         opened = by_path-batch (λ s. a_system) (λ b. a_batch (control_access b.control) (tiers_plan b.tiers.items))
 
   -- a plan whose entries were set up in order was set up
-  pub is-set_up : {F : Type 0} (told : ℕ → Fault E → F) (before after : Situation V S C) (a : Answer F) → SetUpInOrder told (OwnSetup setups) before.works after.works (plan_entries before.plan) before.values a after.values
+  pub is-set_up : {F : Type 0} (told : ℕ → Fault E → F) (before after : Situation V S C) (a : Answer F) → SetUpInOrder told (RuleSetup setups None) before.works after.works (plan_entries before.plan) before.values a after.values
       → ((path : Agent) → entry_at before.plan path ≡ None → (before.works path ≡ None) × (after.works path ≡ None)) → after.plan ≡ before.plan → SetUp setups told before a after
   is-set_up told before after a walk nowhere same = record {
     in_order = walk;
     nowhere_else = nowhere;
     plan = same;
-    occupants = occupants-stay told (OwnSetup setups) (λ was h o is k own. setup-stays (depth_of was) was h o is k own) before.plan before.works after.works before.values after.values a nowhere walk;
+    occupants = occupants-stay told (RuleSetup setups None) (λ was h o is k own. setup-stays (depth_of was) was h o is k own) before.plan before.works after.works before.values after.values a nowhere walk;
   }

@@ -49,9 +49,8 @@ pub known-some : (found : Option SystemId) (stands : Option ℕ) → is_some fou
 known-some None stands is e = absurd (let f : false ≡ true = is in cc)
 known-some (Some id) stands is e = subst IsSome e refl
 
-pub known-number : (found : Option SystemId) (stands : Option ℕ) (id : SystemId) → id ≡ unwrap_or found (record { 0 = 0 }) → option_map (λ id. id.0) found ≡ stands → id.0 ≡ unwrap_or stands 0
-known-number None stands id is e = ap (λ i. i.0) is ∙ ap (λ o. unwrap_or o 0) e
-known-number (Some found) stands id is e = ap (λ i. i.0) is ∙ ap (λ o. unwrap_or o 0) e
+pub known-number : (found : Option SystemId) (stands : Option ℕ) (id : SystemId) → found ≡ Some id → option_map (λ id. id.0) found ≡ stands → id.0 ≡ unwrap_or stands 0
+known-number found stands id is e = ap (λ o. unwrap_or o 0) (ap (option_map (λ (i : SystemId). i.0)) (sym is) ∙ e)
 
 -- one more id was looked up
 pub ids-next : (known : Known) (names : List (List ℕ)) (place : ℕ) (name : List ℕ) (ids next : List SystemId) (id : SystemId) → slice_get names place ≡ Some name → numbers_of ids ≡ known_ids known (take place names) → id.0 ≡ unwrap_or (known name) 0

@@ -7,10 +7,6 @@ use Rattle.std.proofs.lemmas.Option.{slice_get_within, get_or_from_slice_get}
 use Rattle.std.specs.Io.KnownBytes.{Appends, Keeps}
 use Rattle.shred_stage.specs.Sinks.{IsCounted, IsPut}
 
-pub Appends-nothing : (old : Option (List ℕ)) → Appends old old []
-Appends-nothing None = tt
-Appends-nothing (Some xs) = sym (append-nil xs)
-
 pub Appends-kept : (old new : Option (List ℕ)) → Keeps old new → Appends old new []
 Appends-kept None new h = tt
 Appends-kept (Some xs) None h = absurd h

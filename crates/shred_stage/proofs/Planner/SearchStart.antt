@@ -65,9 +65,3 @@ start-all plan barrier access start place all so_far = record {
 pub start-from_barrier : {I : Type 0} (rule : Rule) (plan : Plan I) (barrier : ℕ) (access : Access I) (start : ℕ) → IsSearchStart rule plan barrier access start → barrier ≤ start
 start-from_barrier First plan barrier access start is = omega (arith, is)
 start-from_barrier Ordered plan barrier access start is = is.from_barrier
-
--- under First the search begins at the barrier
-pub placed-first : {I : Type 0} (rule : Rule) (plan : Plan I) (barrier : ℕ) (dependencies : List ℕ) (entry : PlanEntry I) (placed : Plan I) → rule ≡ First → IsPlacedBy rule plan barrier dependencies entry placed → IsPlaced plan barrier barrier dependencies entry placed
-placed-first rule plan barrier dependencies entry placed is by =
-    let begins : IsSearchStart First plan barrier entry.access by.start = subst (λ r. IsSearchStart r plan barrier entry.access by.start) is by.begins in
-    subst (λ start. IsPlaced plan barrier start dependencies entry placed) begins by.placed

@@ -1,10 +1,10 @@
 //! Plans of systems, and the runs of their stages.
 
 pub mod dispatch_error;
-pub mod inner;
 pub mod plan;
 pub mod printing;
 pub mod rule;
 pub mod sink;
 pub mod stage;
 pub mod stages_builder;
+pub mod tiers;

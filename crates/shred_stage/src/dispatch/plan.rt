@@ -1,16 +1,11 @@
 //! The plan that a dispatcher runs: stages, one after the other.
-ghost use Rattle.std.specs.Prelude.{◌≡◌, ◌++◌, Err};
-ghost use Rattle.shred_model.specs.Plan.{plan_ids};
-ghost use Rattle.shred_run.specs.Depths.{steps_of};
-ghost use Rattle.shred_run.specs.Dispatched.{Dispatched};
-ghost use Rattle.shred_stage.specs.Names.{first_unnamed, named_ids};
-ghost use Rattle.shred_stage.specs.Printed.{plan_text};
-ghost use Rattle.shred_stage.specs.Prints.{PrintsPlan};
+ghost use Rattle.std.specs.Prelude.{◌≡◌, Err};
+ghost use Rattle.shred_stage.specs.SinkTexts.{PutsPlan};
 ghost use Rattle.shred_stage.specs.Setups.{StageDisposalAt};
-ghost use Rattle.shred_stage.specs.Situations.{dispatch_answer, plan_over_local};
+ghost use Rattle.shred_stage.specs.Situations.{dispatch_answer};
 ghost use Rattle.shred_stage.specs.StagePlan.{plan_of, widest};
 ghost use Rattle.shred_world.specs.Between.{LeavesWorld};
-ghost use Rattle.shred_stage.specs.OverWorlds.{PlanSetUp, PlanDisposed};
+ghost use Rattle.shred_stage.specs.OverWorlds.{PlanDispatchedLocally, PlanDisposed, PlanSetUp};
 
 use crate::dispatch::dispatch_error::DispatchError;
 use crate::dispatch::printing::{PrintError, print};
@@ -65,8 +60,7 @@ impl<V: ResourceValue, S: System<V>, C: BatchController<V>> Plan<V, S, C> {
         names: &HashMap<String, SystemId>,
         end: &[u8],
     ) -> Result<(), PrintError>
-        ensures { let plan = plan_of self.now.stages.items in let pairs = named_ids names.now in
-            PrintsPlan W.told W.failures sink.old sink.new (first_unnamed pairs (plan_ids plan)) (plan_text pairs plan ++ end.now) result }
+        ensures { PutsPlan W.PlanSink names.now (plan_of self.now.stages.items) end.now sink.old sink.new result }
     {
         print(sink, names, &self.stages, end)
     }
@@ -80,7 +74,7 @@ impl<
 > Plan<V, S, C> {
     /// Runs the stages, one after the other, up to the first that is not Done, on the caller's thread.
     pub fn run_in_order(&mut self, world: &mut LocalWorld<V>) -> Result<(), DispatchError<E>>
-        ensures { Dispatched V.kind_of (steps_of S.System C.BatchController) dispatch_answer (plan_over_local V.kind_of self.old world.old) result (plan_over_local V.kind_of self.new world.new) }
+        ensures { PlanDispatchedLocally self.old world.old result self.new world.new }
     {
         for place in 0..self.stages.len() {
             if let Err(fault) = self.stages[place].turn_in_order(world) {
@@ -109,7 +103,7 @@ where
         world: &mut LocalWorld<V>,
         workers: usize,
     ) -> Result<(), DispatchError<E>>
-        ensures { Dispatched V.kind_of (steps_of S.System C.BatchController) dispatch_answer (plan_over_local V.kind_of self.old world.old) result (plan_over_local V.kind_of self.new world.new) }
+        ensures { PlanDispatchedLocally self.old world.old result self.new world.new }
     {
         for place in 0..self.stages.len() {
             if let Err(fault) = self.stages[place].turn_beside(rt, world, workers) {
@@ -133,7 +127,7 @@ impl<
         crew: &mut StageCrew<R, V, S, C>,
         world: &mut LocalWorld<V>,
     ) -> Result<(), DispatchError<E>>
-        ensures { Dispatched V.kind_of (steps_of S.System C.BatchController) dispatch_answer (plan_over_local V.kind_of self.old world.old) result (plan_over_local V.kind_of self.new world.new) }
+        ensures { PlanDispatchedLocally self.old world.old result self.new world.new }
     {
         for place in 0..self.stages.len() {
             if let Err(fault) = self.stages[place].turn_kept(crew, world) {

@@ -7,8 +7,7 @@ ghost use Rattle.shred_stage.specs.BuilderPlan.{planned};
 ghost use Rattle.shred_stage.specs.Names.{first_unnamed, least_name, lesser, named_ids};
 ghost use Rattle.shred_run.specs.PlanOf.{numbers_of};
 ghost use Rattle.shred_stage.specs.Printed.{cleaned, group_text, ids_text, plan_text, printed_name, stage_text, system_line};
-ghost use Rattle.shred_stage.specs.Prints.{PrintsPlan};
-ghost use Rattle.shred_stage.specs.SinkTexts.{PutsText};
+ghost use Rattle.shred_stage.specs.SinkTexts.{PutsPlan, PutsText};
 ghost use Rattle.shred_stage.specs.StagePlan.{plan_of, stage_plan};
 
 use crate::dispatch::sink::{PlanSink, SinkFailed, put_all};
@@ -251,8 +250,7 @@ pub(crate) fn print<W: PlanSink, V: ResourceValue, S: System<V>, C: BatchControl
     stages: &Vec<Stage<V, S, C>>,
     end: &[u8],
 ) -> Result<(), PrintError>
-    ensures { let plan = plan_of stages.now.items in let pairs = named_ids names.now in
-        PrintsPlan W.told W.failures sink.old sink.new (first_unnamed pairs (plan_ids plan)) (plan_text pairs plan ++ end.now) result }
+    ensures { PutsPlan W.PlanSink names.now (plan_of stages.now.items) end.now sink.old sink.new result }
 {
     if let Some(id) = first_unnamed(stages, names) {
         return Err(PrintError::Unnamed(id));
@@ -284,8 +282,7 @@ pub fn print_with_end<V: ResourceValue, S: System<V>, C: BatchController<V>, W: 
     names: &HashMap<String, SystemId>,
     end: &[u8],
 ) -> Result<(), PrintError>
-    ensures { let pairs = named_ids names.now in
-        PrintsPlan W.told W.failures sink.old sink.new (first_unnamed pairs (plan_ids (planned builder.now))) (plan_text pairs (planned builder.now) ++ end.now) result }
+    ensures { PutsPlan W.PlanSink names.now (planned builder.now) end.now sink.old sink.new result }
 {
     print(sink, names, &builder.stages, end)
 }

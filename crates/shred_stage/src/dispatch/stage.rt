@@ -6,17 +6,16 @@ ghost use Rattle.shred_model.specs.Access.{Conflicts};
 ghost use Rattle.shred_model.specs.Beside.{AreApart};
 ghost use Rattle.shred_table.specs.Id.{same_id};
 ghost use Rattle.shred_stage.specs.Placement.{greatest_time};
+ghost use Rattle.shred_run.specs.Circles.{EntryOwns, StageOwns, TierOwns};
 ghost use Rattle.shred_run.specs.Left.{difference};
 ghost use Rattle.shred_run.specs.Hands.{KeepsRoom};
-ghost use Rattle.shred_run.specs.OwnLists.{IsEntryOf, IsGroupOf};
 ghost use Rattle.shred_run.specs.PlanOf.{entry_access, entry_plan, groups_plan, numbers_of, HasEntryIds};
 ghost use Rattle.shred_stage.specs.Search.{may_end, OthersDoNotConflict, SpotIs, TouchedIs};
 ghost use Rattle.shred_run.specs.Touching.{group_conflicts, is_touched};
 ghost use Rattle.std.specs.List.{list_any};
 ghost use Rattle.shred_run.specs.Sides.{stage_side};
 ghost use Rattle.shred_stage.specs.Soundness.{IsSmallGroup};
-ghost use Rattle.shred_run.specs.Depths.{lists_of, steps_of};
-ghost use Rattle.shred_run.specs.OwnDepth.{OwnsItself};
+ghost use Rattle.shred_run.specs.Depths.{lists_of};
 ghost use Rattle.shred_run.specs.OwnFacts.{owns_itself-is_fact};
 ghost use Rattle.std.specs.Coded.{Coded-set};
 
@@ -62,12 +61,11 @@ pub struct Stage<
     ghost apart: { AreApart group_access (groups_plan groups.items) },
     ghost keep_ids: { All HasEntryIds groups.items },
     ghost keep_room: { All KeepsRoom groups.items },
-    ghost own_lists: { All (IsGroupOf (OwnsItself (lists_of S.System C.BatchController))) groups.items } by { Prim.hlevel (props, owns_itself-is_fact (Coded-set V.code) (lists_of S.System C.BatchController)) },
+    ghost own_lists: { StageOwns S.System C.BatchController groups.items } by { Prim.hlevel (props, owns_itself-is_fact (Coded-set V.code) (lists_of S.System C.BatchController)) },
 }
 
 impl<V: ResourceValue, S: System<V>, C: BatchController<V>> Stage<V, S, C> {
     ghost use Rattle.shred_model.specs.Record.{Agent};
-    ghost use Rattle.shred_run.specs.Batches.{IsTierOf};
     ghost use Rattle.shred_run.specs.Works.{tier_plan, tier_states};
     ghost use Rattle.shred_stage.specs.Added.{nothing_at, AreSame, IsNew};
     ghost use Rattle.shred_stage.specs.EntriesAt.{stage_entry_at};
@@ -83,7 +81,7 @@ impl<V: ResourceValue, S: System<V>, C: BatchController<V>> Stage<V, S, C> {
         V: Drop,
         S: Drop,
         C: Drop,
-        requires own_lists { IsEntryOf (OwnsItself (lists_of S.System C.BatchController)) entry }
+        requires own_lists { EntryOwns S.System C.BatchController entry }
         ensures plan { IfOk result (λ stage. stage_plan stage ≡ (entry_plan entry ∷ []) ∷ []) }
         ensures added { IfOk result (λ stage. IsNew nothing_at (stage_entry_at stage) entry) }
     {
@@ -213,7 +211,7 @@ impl<V: ResourceValue, S: System<V>, C: BatchController<V>> Stage<V, S, C> {
         S: Drop,
         C: Drop,
         requires free { All (λ group. Conflicts (group_access group) (entry_access entry) → ⊥) (stage_plan self.old) }
-        requires own_lists { IsEntryOf (OwnsItself (lists_of S.System C.BatchController)) entry }
+        requires own_lists { EntryOwns S.System C.BatchController entry }
         ensures ok { OnOk result (stage_plan self.new ≡ stage_plan self.old ++ (entry_plan entry ∷ []) ∷ []) }
         ensures err { OnErr result (stage_plan self.new ≡ stage_plan self.old) }
         ensures added { OnOk result (IsNew (stage_entry_at self.old) (stage_entry_at self.new) entry) }
@@ -238,7 +236,7 @@ impl<V: ResourceValue, S: System<V>, C: BatchController<V>> Stage<V, S, C> {
         requires within { group < length (stage_plan self.old) }
         requires room { length (slice_index_or (stage_plan self.old) group []) < 4 }
         requires others { OthersDoNotConflict (stage_plan self.old) group (entry_access entry) }
-        requires own_lists { IsEntryOf (OwnsItself (lists_of S.System C.BatchController)) entry }
+        requires own_lists { EntryOwns S.System C.BatchController entry }
         ensures ok { OnOk result (stage_plan self.new ≡ slice_set (stage_plan self.old) group (slice_index_or (stage_plan self.old) group [] ++ entry_plan entry ∷ [])) }
         ensures err { OnErr result (stage_plan self.new ≡ stage_plan self.old) }
         ensures added { OnOk result (IsNew (stage_entry_at self.old) (stage_entry_at self.new) entry) }
@@ -255,7 +253,7 @@ impl<V: ResourceValue, S: System<V>, C: BatchController<V>> Stage<V, S, C> {
         C: Drop,
         ensures plan { tier_plan result ≡ stage_plan self }
         ensures states { (path : Agent) → tier_states result path ≡ stage_states self path }
-        ensures own { IsTierOf (OwnsItself (lists_of S.System C.BatchController)) result }
+        ensures own { TierOwns S.System C.BatchController result }
     {
         Tier {
             groups: self.groups,
@@ -269,9 +267,7 @@ impl<
     C: BatchController<V, Error = E>,
     E: Drop,
 > Stage<V, S, C> {
-    ghost use Rattle.shred_run.specs.Dispatched.{Dispatched};
-    ghost use Rattle.shred_stage.specs.Situations.{stage_answer, stage_over};
-    ghost use Rattle.shred_stage.specs.OverWorlds.{StageTookOver};
+    ghost use Rattle.shred_stage.specs.OverWorlds.{StageDispatched, StageTookOver};
 
     // The turn of its groups, one after the other, over what a world holds.
     pub(crate) fn turn_in_order(&mut self, world: &mut LocalWorld<V>) -> Result<(), StageFault<E>>
@@ -287,7 +283,7 @@ impl<
     /// Runs every group, one after the other, each up to the first entry that is not Done, on the caller's thread, and so the
     /// groups of inner plans. The answer is that of the first group, in order, that is not Done; it is never `Memory`.
     pub fn execute_seq(&mut self, world: &mut World<V>) -> Result<(), StageFault<E>>
-        ensures { Dispatched V.kind_of (steps_of S.System C.BatchController) stage_answer (stage_over V.kind_of self.old world.old) result (stage_over V.kind_of self.new world.new) }
+        ensures { StageDispatched self.old world.old result self.new world.new }
     {
         self.turn_in_order(world.local())
     }
@@ -303,9 +299,7 @@ where
     S::Accessor: Send,
     C::Accessor: Send,
 {
-    ghost use Rattle.shred_run.specs.Dispatched.{Dispatched};
-    ghost use Rattle.shred_stage.specs.Situations.{stage_answer, stage_over};
-    ghost use Rattle.shred_stage.specs.OverWorlds.{StageTookOver};
+    ghost use Rattle.shred_stage.specs.OverWorlds.{StageDispatched, StageTookOver};
 
     // The turn of its groups, beside each other on threads, over what a world holds.
     pub(crate) fn turn_beside<R: Threads + Sync>(
@@ -334,7 +328,7 @@ where
         world: &mut World<V>,
         workers: usize,
     ) -> Result<(), StageFault<E>>
-        ensures { Dispatched V.kind_of (steps_of S.System C.BatchController) stage_answer (stage_over V.kind_of self.old world.old) result (stage_over V.kind_of self.new world.new) }
+        ensures { StageDispatched self.old world.old result self.new world.new }
     {
         self.turn_beside(rt, world.local(), workers)
     }

@@ -6,15 +6,13 @@ ghost use Rattle.shred_table.specs.declared.id.ResourceId.{ResourceId};
 ghost use Rattle.shred_model.specs.Plan as model;
 ghost use Rattle.shred_model.specs.Plan.{plan_ids};
 ghost use Rattle.shred_stage.specs.Earlier.{AllBeforeBarrier};
+ghost use Rattle.shred_run.specs.Circles.{EntryOwns};
 ghost use Rattle.shred_run.specs.Kept.{IsKept, HaveSameIds};
 ghost use Rattle.shred_stage.specs.Names.{first_unnamed, named_ids};
 ghost use Rattle.shred_stage.specs.SearchStart.{IsOrderedStart, IsSearchStart};
 ghost use Rattle.shred_stage.specs.declared.dispatch.rule.Rule.TheVariants.{First};
 ghost use Rattle.shred_stage.specs.Printed.{plan_text};
 ghost use Rattle.shred_stage.specs.Prints.{PrintsPlan};
-ghost use Rattle.shred_run.specs.Depths.{lists_of};
-ghost use Rattle.shred_run.specs.OwnDepth.{OwnsItself};
-ghost use Rattle.shred_run.specs.OwnLists.{IsEntryOf};
 ghost use Rattle.shred_run.specs.PlanOf.{entry_access, entry_plan, numbers_of};
 ghost use Rattle.shred_stage.specs.Search.{PlaceIs};
 ghost use Rattle.shred_run.specs.Sides.{stage_side, plan_reads, plan_writes};
@@ -25,7 +23,7 @@ use crate::dispatch::rule::Rule;
 use crate::dispatch::sink::PlanSink;
 use crate::dispatch::stage::{Spot, Stage};
 use shred_run::entry::{GroupEntry, Side, push_or_drop};
-use shred_run::kept::system_entry;
+use shred_run::kept_entries::system_entry;
 use shred_run::sorted::sort_without_doubles;
 use shred_run::{BatchController, Nested, NoBatch, System, SystemId, Work};
 use shred_world::{OutOfMemory, ResourceId, ResourceValue};
@@ -195,7 +193,7 @@ impl<V: ResourceValue, S: System<V>, C: BatchController<V>> StagesBuilder<V, S, 
         S: Drop,
         C: Drop,
         requires start { barrier_of self.old ≤ start }
-        requires own_lists { IsEntryOf (OwnsItself (lists_of S.System C.BatchController)) entry }
+        requires own_lists { EntryOwns S.System C.BatchController entry }
         ensures placed { OnOk result (PlacesEntry self.old self.new start (numbers_of dependencies.now) (entry_plan entry)) }
         ensures err { OnErr result (planned self.new ≡ planned self.old) }
         ensures added { OnOk result (IsNew (builder_entries self.old) (builder_entries self.new) entry) }
@@ -221,7 +219,7 @@ impl<V: ResourceValue, S: System<V>, C: BatchController<V>> StagesBuilder<V, S, 
         V: Drop,
         S: Drop,
         C: Drop,
-        requires own_lists { IsEntryOf (OwnsItself (lists_of S.System C.BatchController)) entry }
+        requires own_lists { EntryOwns S.System C.BatchController entry }
         ensures ok { OnOk result (planned self.new ≡ planned self.old ++ ((entry_plan entry ∷ []) ∷ []) ∷ []) }
         ensures err { OnErr result (planned self.new ≡ planned self.old) }
         ensures added { OnOk result (IsNew (builder_entries self.old) (builder_entries self.new) entry) }
@@ -299,7 +297,7 @@ impl<V: ResourceValue + Drop, S: System<V> + Drop, C: BatchController<V> + Drop>
         dependencies: &[SystemId],
         entry: GroupEntry<V, Work<S, Nested<V, S, C>>>,
     ) -> Result<(), OutOfMemory>
-        requires own_lists { IsEntryOf (OwnsItself (lists_of S.System C.BatchController)) entry }
+        requires own_lists { EntryOwns S.System C.BatchController entry }
         ensures inserted { OnOk result (InsertsEntry self.old self.new (numbers_of dependencies.now) (entry_plan entry) entry.work) }
         ensures err { OnErr result (planned self.new ≡ planned self.old) }
         ensures states { OnErr result (AreSame (builder_states self.old) (builder_states self.new)) }

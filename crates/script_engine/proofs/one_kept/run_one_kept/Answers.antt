@@ -5,7 +5,7 @@ use Rattle.script_text.specs.Change.{change_left}
 use Rattle.script_text.specs.Declares.{is_among}
 use Rattle.script_text.specs.Place.{id_at, number_at}
 use Rattle.script_text.proofs.Changed.{changed-set, put-same}
-use Rattle.script_engine.specs.declared.kept.KeptNumber.{KeptNumber}
+use Rattle.script_engine.specs.declared.kept_numbers.KeptNumber.{KeptNumber}
 use Rattle.script_engine.specs.Overlaid.{of_number, overlaid}
 use Rattle.script_engine.specs.Steps.{steps_left}
 use Rattle.script_engine.proofs.Declares.{each-step, every-place, only-place}

@@ -1,12 +1,12 @@
 use Rattle.std.proofs.Common.{arith}
 use Rattle.std.proofs.KnownBytes.{Keeps-refl}
-use Rattle.shred_stage.proofs.Names.Sinks.{Appends-nothing}
+use Rattle.shred_stage.proofs.Names.Sinks.{Appends-kept}
 use Rattle.script_text.proofs.Written.{written-more, written-same, written-beginning, written-none, written-all}
 use Rattle.script_text.proofs.output.write_whole.Goals as goal
 use Rattle.script_text.proofs.output.write_whole.Goals.{in-Ok, in-Err}
 
 pub loop-init : goal.loop-init
-loop-init g c = record { within = omega arith; so_far = Appends-nothing _ }
+loop-init g c = record { within = omega arith; so_far = Appends-kept _ _ (Keeps-refl _) }
 
 pub returns-then-done-text-clause-whole : goal.returns-then-done-text-clause-whole
 returns-then-done-text-clause-whole g c = written-all _ _ c.args.text.now c.loop.done (omega arith) c.loop.invariant.so_far

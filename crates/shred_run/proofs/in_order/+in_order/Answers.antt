@@ -1,3 +1,4 @@
+use Rattle.std.specs.Prelude.{None}
 use Rattle.std.proofs.Common.{◌≡◌, ℕ, ◌≤◌, ◌==◌, ◌+◌, ◌-◌, Ok, List, length, refl, sym, ◌∙◌, ap, subst, subst₂, get_or, arith, rules, All, None, true, Err, ◌∷◌, []}
 use Rattle.shred_run.proofs.Runs.Handed.{handed}
 use Rattle.shred_run.proofs.Circle.Tiers.{tiers-end, tiers-fault, tiers-next, tiers-start, groups-back, groups-ready, groups-took, out-slots}

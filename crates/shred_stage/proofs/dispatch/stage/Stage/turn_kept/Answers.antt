@@ -1,9 +1,10 @@
+use Rattle.std.specs.Prelude.{None}
 use Rattle.shred_table.specs.Slots.{held}
 use Rattle.shred_world.proofs.Views.Settled.{over-kept, same-settled}
-use Rattle.shred_run.specs.OwnDepth.{OwnStep, OwnsItself}
 use Rattle.shred_run.specs.Turns.{TookTurn}
 use Rattle.shred_stage.proofs.Planner.StageKeeps.{stays}
 use Rattle.shred_stage.proofs.dispatch.stage.Stage.turn_kept.Goals as goal
+use Rattle.shred_run.specs.Rules.{RuleOwns, RuleStep}
 use Rattle.shred_run.specs.Depths.{lists_of, steps_of}
 
 pub turn_kept-answer-requires-clause-apart : goal.turn_kept-answer-requires-clause-apart
@@ -13,7 +14,7 @@ pub invariant_of-self : goal.invariant_of-self
 invariant_of-self g c =
     let old = c.args.self.now in
     let took = c.turn_kept-answer.ensures.took in
-    stays (OwnsItself (lists_of g.S.System g.C.BatchController)) c.turn_kept-answer.new.groups.items old.groups.items took.plan took.ids took.room took.own_lists
+    stays (RuleOwns (lists_of g.S.System g.C.BatchController) None) c.turn_kept-answer.new.groups.items old.groups.items took.plan took.ids took.room took.own_lists
     (record { some_group = old.some_group; small_groups = old.small_groups; apart = old.apart; keep_ids = old.keep_ids; keep_room = old.keep_room; own_lists = old.own_lists })
 
 pub keep-requires : goal.keep-requires
@@ -24,6 +25,6 @@ returns g c =
     let kind = g.V.ResourceValue.kind_of in
     let old = c.args.self.now in
     let first = c.twin_of_local-twin.result.now in
-    let Took = TookTurn kind (OwnStep kind (steps_of g.S.System g.C.BatchController)) (OwnsItself (lists_of g.S.System g.C.BatchController)) in
+    let Took = TookTurn kind (RuleStep kind (steps_of g.S.System g.C.BatchController) None) (RuleOwns (lists_of g.S.System g.C.BatchController) None) in
     let ran = over-kept kind (λ before after. Took old.groups.items before c.turn_kept-answer.result c.turn_kept-answer.new.groups.items after) first c.turn_kept-answer.new.table c.args.world.now c.keep.new.local c.twin_of_local-twin.ensures.table c.twin_of_local-twin.ensures.settled c.turn_kept-answer.ensures.slots c.keep.ensures c.turn_kept-answer.ensures.took in
     record { ran = ran.ran; plan = ran.plan; kinds = ran.kinds }

@@ -1,7 +1,0 @@
-use Rattle.std.proofs.Common.{take}
-use Rattle.shred_run.specs.Batches.{GroupNotesAtMost}
-use Rattle.shred_run.proofs.Inner.{IsLeast}
-use Rattle.shred_run.proofs.kept.deepest_group.Given as goal
-
-abbrev pub invariant-loop-group : goal.invariant-loop-group
-invariant-loop-group g l = IsLeast GroupNotesAtMost l.most (take l.group-index l.tier.groups.items)

@@ -1,2 +1,0 @@
--- Tables behind worlds.
-pub mod Finite

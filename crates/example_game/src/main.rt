@@ -1,12 +1,7 @@
 //! A frame of a game: four sub-steps of moving and bouncing, then the score, which is printed on the caller's thread.
 #![tactic(auto)]
 
-use shred::{
-    AddError, DataError, Dispatcher, DispatcherBuilder, Fault, First, Now, OneOf3, Rounds, Rule,
-    Second, SystemNames, Systems3, Third, Told, Typed, TypedSystem, View, World, WorldError,
-    first_system, second_system, third_system,
-};
-use std::alloc::Global;
+use shred::prelude::*;
 use thiserror::Error;
 
 type Position = First<i64>;
@@ -32,16 +27,9 @@ enum Stopped {
 #[derive(Drop)]
 struct Moves;
 
-impl TypedSystem<Value> for Moves {
-    type Error = Stopped;
-
-    type Reads = Velocity;
-
-    type Writes = Position;
-
-    fn run(&mut self, view: &View<Value>, position: &mut Position) -> Result<(), Fault<Stopped>> {
-        position.0 = position.0.wrapping_add(view.fetch::<Velocity>()?.0);
-        Ok(())
+impl ReadsWrites<Velocity, Position> for Moves {
+    fn run(&mut self, velocity: &Velocity, position: &mut Position) {
+        position.0 = position.0.wrapping_add(velocity.0);
     }
 }
 
@@ -49,19 +37,11 @@ impl TypedSystem<Value> for Moves {
 #[derive(Drop)]
 struct Bounces;
 
-impl TypedSystem<Value> for Bounces {
-    type Error = Stopped;
-
-    type Reads = Position;
-
-    type Writes = Velocity;
-
-    fn run(&mut self, view: &View<Value>, velocity: &mut Velocity) -> Result<(), Fault<Stopped>> {
-        let position = view.fetch::<Position>()?.0;
-        if position >= 10 && velocity.0 > 0 || position <= 0 && velocity.0 < 0 {
+impl ReadsWrites<Position, Velocity> for Bounces {
+    fn run(&mut self, position: &Position, velocity: &mut Velocity) {
+        if position.0 >= 10 && velocity.0 > 0 || position.0 <= 0 && velocity.0 < 0 {
             velocity.0 = velocity.0.wrapping_neg();
         }
-        Ok(())
     }
 }
 
@@ -73,13 +53,9 @@ struct Scores {
 }
 
 impl TypedSystem<Value> for Scores {
-    type Error = Stopped;
+    type Data = Uses<Position, Score, Stopped>;
 
-    type Reads = Position;
-
-    type Writes = Score;
-
-    fn run(&mut self, view: &View<Value>, score: &mut Score) -> Result<(), Fault<Stopped>> {
+    fn run(&mut self, view: &View<Value>, score: &mut Score) -> Ran<Stopped> {
         self.frame = self.frame.wrapping_add(1);
         if self.frame >= self.last {
             return Err(Fault::Refused(Stopped::Over(self.frame)));
@@ -93,67 +69,41 @@ impl TypedSystem<Value> for Scores {
 
 /// Prints the score.
 #[derive(Drop)]
-struct Prints<R> {
-    rt: R,
-}
+struct Prints<R>(R);
 
 impl<R: Print> TypedSystem<Value> for Prints<R> {
-    type Error = Stopped;
+    type Data = Uses<Score, (), Stopped>;
 
-    type Reads = Score;
-
-    type Writes = ();
-
-    fn run(&mut self, view: &View<Value>, _written: &mut ()) -> Result<(), Fault<Stopped>> {
+    fn run(&mut self, view: &View<Value>, _written: &mut ()) -> Ran<Stopped> {
         let score = view.fetch::<Score>()?.0;
-        match println!(self.rt; "score {score}") {
-            Ok(()) => Ok(()),
-            Err(_) => Err(Fault::Refused(Stopped::Closed)),
-        }
+        println!(self.0; "score {score}").map_err(|_| Fault::Refused(Stopped::Closed))
     }
-}
-
-type Staged = Systems3<Typed<Moves>, Typed<Bounces>, Typed<Scores>>;
-
-type Game<P> = Dispatcher<Value, Staged, Rounds<Stopped>, Now<Typed<Prints<P>>>>;
-
-/// Moving and bouncing four times a frame, then the score, then its print.
-fn planned<P: Print + Drop>(rt: P, alloc: Global) -> Result<(Game<P>, SystemNames), AddError> {
-    let inner = DispatcherBuilder::new(alloc)
-        .with_rule(Rule::Ordered)?
-        .with(first_system(Typed(Moves)), "moves", &[])?
-        .with(second_system(Typed(Bounces)), "bounces", &[])?;
-    let scores = third_system(Typed(Scores { frame: 0, last: 7 }));
-    let outer = DispatcherBuilder::new(alloc)
-        .with_rule(Rule::Ordered)?
-        .with_batch(Rounds::new(4), inner, "sub-steps", &[])?
-        .with(scores, "scores", &[])?
-        .with_thread_local(Now(Typed(Prints { rt })))?;
-    Ok(outer.build_with_names())
-}
-
-fn starting(alloc: Global) -> Result<World<Value>, WorldError> {
-    let mut world = World::empty(alloc);
-    world.insert(First(0))?;
-    world.insert(Second(1))?;
-    world.insert(Third(0))?;
-    Ok(world)
 }
 
 fn main(rt: HostRuntime) -> anyhow::Result<()> {
-    let (mut game, names) = planned(&rt, rt.alloc())?;
-    let mut world = starting(rt.alloc())?;
+    let moves = first_system(Moves.into_system_with_error::<Stopped>());
+    let bounces = second_system(Bounces.into_system_with_error::<Stopped>());
+    let steps = DispatcherBuilder::new(rt.alloc())
+        .with_rule(Rule::Ordered)?
+        .with(moves, "moves", &[])?
+        .with(bounces, "bounces", &[])?;
+    let scores = Scores { frame: 0, last: 7 };
+    let frame: DispatcherBuilder<_, Systems3<_, _, _>, _, _> = DispatcherBuilder::new(rt.alloc())
+        .with_rule(Rule::Ordered)?
+        .with_batch(Rounds::new(4), steps, "sub-steps", &[])?
+        .with(third_system(scores.into_system()), "scores", &[])?
+        .with_thread_local(Now(Prints(&rt).into_system()))?;
+    let (mut game, names) = frame.build_with_names();
+    let mut world = World::empty(rt.alloc());
+    world.insert(First(0))?;
+    world.insert(Second(1))?;
+    world.insert(Third(0))?;
     for _ in 0..10 {
         if let Err(error) = game.dispatch(&rt, &mut world) {
-            let told = Told {
-                names: &names,
-                error: &error,
-            };
-            println!(rt; "{told}")?;
+            println!(rt; "{}", names.told(&error))?;
             break;
         }
     }
-    let position = world.fetch::<Position>()?.0;
-    println!(rt; "position {position}")?;
+    println!(rt; "position {}", world.fetch::<Position>()?.0)?;
     Ok(())
 }

@@ -2,10 +2,8 @@
 #![tactic(auto)]
 
 use shred::cell::TrustCell;
-use shred::{
-    DataError, DispatcherBuilder, Fault, First, MetaTable, Now, OneOf3, ParSeq, Second,
-    SharedWorld, Third, Typed, TypedSystem, View, World, par, seq,
-};
+use shred::prelude::*;
+use shred::{MetaTable, ParSeq, SharedWorld, par, seq};
 
 type Hour = First<u32>;
 
@@ -19,16 +17,9 @@ type Value = OneOf3<u32, u32, u32>;
 #[derive(Drop)]
 struct Turns;
 
-impl TypedSystem<Value> for Turns {
-    type Error = DataError;
-
-    type Reads = ();
-
-    type Writes = Hour;
-
-    fn run(&mut self, _view: &View<Value>, hour: &mut Hour) -> Result<(), Fault<DataError>> {
+impl Writes<Hour> for Turns {
+    fn run(&mut self, hour: &mut Hour) {
         hour.0 = (hour.0 % 24 + 1) % 24;
-        Ok(())
     }
 }
 
@@ -36,17 +27,9 @@ impl TypedSystem<Value> for Turns {
 #[derive(Drop)]
 struct Shines;
 
-impl TypedSystem<Value> for Shines {
-    type Error = DataError;
-
-    type Reads = Hour;
-
-    type Writes = Light;
-
-    fn run(&mut self, view: &View<Value>, light: &mut Light) -> Result<(), Fault<DataError>> {
-        let hour = view.fetch::<Hour>()?.0;
-        light.0 = if hour >= 6 && hour < 18 { 1 } else { 0 };
-        Ok(())
+impl ReadsWrites<Hour, Light> for Shines {
+    fn run(&mut self, hour: &Hour, light: &mut Light) {
+        light.0 = if hour.0 >= 6 && hour.0 < 18 { 1 } else { 0 };
     }
 }
 
@@ -54,16 +37,9 @@ impl TypedSystem<Value> for Shines {
 #[derive(Drop)]
 struct Warms;
 
-impl TypedSystem<Value> for Warms {
-    type Error = DataError;
-
-    type Reads = Hour;
-
-    type Writes = Warmth;
-
-    fn run(&mut self, view: &View<Value>, warmth: &mut Warmth) -> Result<(), Fault<DataError>> {
-        warmth.0 = 20u32.saturating_sub(view.fetch::<Hour>()?.0.abs_diff(15));
-        Ok(())
+impl ReadsWrites<Hour, Warmth> for Warms {
+    fn run(&mut self, hour: &Hour, warmth: &mut Warmth) {
+        warmth.0 = 20u32.saturating_sub(hour.0.abs_diff(15));
     }
 }
 
@@ -74,8 +50,8 @@ fn main(rt: HostRuntime) -> anyhow::Result<()> {
     world.insert(Third(0))?;
 
     // Two hours go by, and then it gets light and warm at once.
-    let both = par![rt.alloc(); Now(Typed(Shines)), Now(Typed(Warms)),]?;
-    let tree = seq![Now(Typed(Turns)), Now(Typed(Turns)), both,];
+    let both = par![rt.alloc(); Now(Shines.into_system()), Now(Warms.into_system()),]?;
+    let tree = seq![Now(Turns.into_system()), Now(Turns.into_system()), both,];
     let mut dawn = ParSeq::new(tree, 2);
     dawn.setup(&mut world)?;
     dawn.dispatch(&rt, &mut world)?;
@@ -90,8 +66,9 @@ fn main(rt: HostRuntime) -> anyhow::Result<()> {
     }
 
     // The hours go by on another thread.
-    let builder: DispatcherBuilder<Value, Typed<Turns>> = DispatcherBuilder::new(rt.alloc());
-    let mut apart = builder.with(Typed(Turns), "turns", &[])?.build_async(world);
+    let builder: DispatcherBuilder<_, _> = DispatcherBuilder::new(rt.alloc());
+    let turns = builder.with(Turns.into_system(), "turns", &[])?;
+    let mut apart = turns.build_async(world);
     apart.dispatch(&rt)?;
     println!(rt; "meanwhile")?;
     apart.wait(&rt)?;

@@ -1,4 +1,5 @@
 -- The setup of a dispatcher of one system.
+use Rattle.std.specs.Prelude.{None}
 use Rattle.std.proofs.Common.{◌≡◌, List, [], ◌∷◌, Option, Some, Ok, Err, refl, sym, ◌∙◌, subst₂}
 use Rattle.std.specs.Result.{MatchResult}
 use Rattle.shred_model.specs.Plan as model
@@ -10,9 +11,10 @@ use Rattle.shred_world.specs.Worked.{Held}
 use Rattle.shred_run.specs.AdditionOrder.{plan_entries}
 use Rattle.shred_run.specs.EntrySetups.{SetUpInOrder}
 use Rattle.shred_run.specs.Steps.{Step}
-use Rattle.shred_run.specs.WorkSetups.{OwnSetup, Setups, WorkSetup}
+use Rattle.shred_run.specs.WorkSetups.{Setups, WorkSetup}
 use Rattle.shred_run.specs.declared.work.Nested.{Nested}
 use Rattle.shred_run.specs.declared.work.Work.{Work}
+use Rattle.shred_run.specs.Rules.{RuleSetup}
 use Rattle.shred_run.specs.declared.work.Work.TheVariants.{Batch, System}
 use Rattle.shred_stage.specs.Setups.{dispatch_fault}
 use Rattle.shred_stage.specs.declared.dispatch.dispatch_error.DispatchError.{DispatchError}
@@ -32,7 +34,7 @@ module _ {V S C L E : Type 0} (setups : Setups V S C E) (local : Step V L E) whe
 
   -- the setup of a plan of one system is that system's own
   in-order : (old new : Agent → Option (Work S (Nested V S C))) (entry : PlanEntry ResourceId) (one : S) (before after : Held V) (answer : Answer (DispatchError E)) → old first_path ≡ Some (System one) → answer ≡ Ok tt
-      → SetUpInOrder dispatch_fault (OwnSetup setups) old new (plan_entries (((entry ∷ []) ∷ []) ∷ [])) before answer after → (its : S) × (new first_path ≡ Some (System its)) × setups.systems one before (Ok tt) its after
+      → SetUpInOrder dispatch_fault (RuleSetup setups None) old new (plan_entries (((entry ∷ []) ∷ []) ∷ [])) before answer after → (its : S) × (new first_path ≡ Some (System its)) × setups.systems one before (Ok tt) its after
   unfolding WorkSetup
   in-order old new entry one before after answer stands done (System s, System t, Ok ended, m, here, there, own, (told, same)) =
       let one_is : s ≡ one = (let both : Some (System s) ≡ Some (System one) = sym here ∙ stands in cc) in
@@ -47,4 +49,4 @@ module _ {V S C L E : Type 0} (setups : Setups V S C E) (local : Step V L E) whe
   one-set_up before after entry one answer plan stands none done set =
       let ended = of-plan set.of_plan before.locals after.locals set.middle after.staged.values answer none done set.locals in
       in-order before.staged.works after.staged.works entry one before.staged.values after.staged.values set.of_plan stands ended.0
-      (subst₂ (λ (p : model.Plan ResourceId) (h : Held V). SetUpInOrder dispatch_fault (OwnSetup setups) before.staged.works after.staged.works (plan_entries p) before.staged.values set.of_plan h) plan (sym ended.1) set.staged.in_order)
+      (subst₂ (λ (p : model.Plan ResourceId) (h : Held V). SetUpInOrder dispatch_fault (RuleSetup setups None) before.staged.works after.staged.works (plan_entries p) before.staged.values set.of_plan h) plan (sym ended.1) set.staged.in_order)

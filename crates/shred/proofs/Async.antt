@@ -1,4 +1,3 @@
 pub mod AtHome
-pub mod Begun
 pub mod Shown
 pub mod Stepped

@@ -1,3 +1,2 @@
 -- What plans keep.
-pub mod Addition
 pub mod Standing

@@ -19,9 +19,12 @@ pub mod KeptDispatchers
 pub mod LocalRuns
 pub mod Made
 pub mod Typed
+pub mod Passed
+pub mod Counted
 pub mod Rounds
 pub mod Setups
 pub mod OverWorlds
+pub mod PrintedPlans
 pub mod SystemNames
 pub mod ThreadLocals
 pub mod Places

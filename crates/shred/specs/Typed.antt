@@ -4,7 +4,7 @@ use Rattle.shred_table.specs.declared.id.Kind.{Kind}
 use Rattle.shred_table.specs.declared.id.ResourceId.{ResourceId}
 use Rattle.shred_world.specs.declared.world.view.DataError.{DataError}
 use Rattle.shred_world.specs.declared.world.view.View.{View}
-use Rattle.shred_world.specs.Bundles.{Part, IsRefused}
+use Rattle.shred_world.specs.Bundles.{Part, IsRefused, bundle_refusal}
 use Rattle.shred_table.specs.Slots.{among}
 use Rattle.shred_world.specs.Grants.{Moved, given_back, grant_of}
 use Rattle.shred_world.specs.OwnViews.{IsLent}
@@ -42,7 +42,16 @@ pub record IsUntaken {V S E : Type 0} (kind : V → Kind) (reads writes : List R
   pub state : after ≡ before
   pub values : left ≡ seen
 
+-- Nothing was refused before the run, as a view that shows this passes the parts, and the run is the system's own step.
+pub record IsOwnRun {V S E : Type 0} (kind : V → Kind) (step : Step V S E) (reads writes : List ResourceId) (parts : List Part)
+    (before : S) (seen : Held V) (outcome : Outcome E) (after : S) (left : Held V) : Type 0 where
+  pub view : View V
+  pub lent : IsLent view reads writes
+  pub shown : declared_held kind view ≡ seen
+  pub passed : bundle_refusal (grant_of kind view) parts ≡ None
+  pub lies : step before seen outcome after left
+
 -- the run was refused before it began, or it is the system's own step
 abbrev pub StepsTyped : {V S E : Type 0} → (V → Kind) → Step V S E → (reads writes : List ResourceId) → List Part → (DataError → E → Type 0) → Step V (Typed S) E
 StepsTyped kind step reads writes parts gives before seen outcome after left =
-    IsUntaken kind reads writes parts gives before seen outcome after left ⊎ step before.0 seen outcome after.0 left
+    IsUntaken kind reads writes parts gives before seen outcome after left ⊎ IsOwnRun kind step reads writes parts before.0 seen outcome after.0 left

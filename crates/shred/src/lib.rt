@@ -6,15 +6,18 @@
 //! other on threads, and then the thread-local systems. What it leaves is `FullyDispatched`, of `specs/FullRuns.antt`.
 //! A `ParSeq` runs a tree of systems, an `AsyncDispatcher` a plan on a thread of its own.
 //!
-//! The builder, the dispatchers, lists of thread-local systems, systems that are made of simpler ones (`Plain`, `Typed`, `OneOf`)
-//! and values of worlds of two, three and four types of resources stand here; what else a user needs is given again of
-//! the crates below.
+//! The builder, the dispatchers, lists of thread-local systems, systems that are made of simpler ones (`Typed`, `Plain`, `OneOf`,
+//! `Counted`) and values of worlds of two, three and four types of resources stand here; what else a user needs is given
+//! again of the crates below. What a first program needs is in `prelude`.
 #![tactic(auto)]
 
+pub mod counted;
 pub mod dispatch;
 mod macros;
 pub mod one_of;
+pub mod passed;
 pub mod plain;
+pub mod prelude;
 pub mod rounds;
 pub mod spelled;
 pub mod systems;
@@ -22,6 +25,7 @@ pub mod thread_local;
 pub mod typed;
 pub mod values;
 
+pub use counted::Counted;
 pub use dispatch::async_dispatcher::{AsyncDispatcher, new_async};
 pub use dispatch::async_error::AsyncError;
 pub use dispatch::builder::DispatcherBuilder;
@@ -30,6 +34,7 @@ pub use dispatch::kept_dispatcher::KeptDispatcher;
 pub use dispatch::names::SystemNames;
 pub use dispatch::told::Told;
 pub use one_of::OneOf;
+pub use passed::{OfReadsWrites, OfWrites, ReadsWrites, ReadsWritesSystem, Writes, WritesSystem};
 pub use plain::{Plain, PlainSystem};
 pub use rounds::Rounds;
 pub use spelled::{KindNames, Spelled};
@@ -39,7 +44,7 @@ pub use systems::{
     third_system,
 };
 pub use thread_local::ThreadLocal;
-pub use typed::{Typed, TypedSystem};
+pub use typed::{Ran, SystemTypes, Typed, TypedSystem, Uses};
 pub use values::{
     First, Fourth, OneOf2, OneOf3, OneOf4, Second, Third, first_id, fourth_id, second_id, third_id,
 };
@@ -50,12 +55,12 @@ pub use shred_cell::{
     word,
 };
 pub use shred_meta::{Common, MetaIter, MetaIterMut, MetaMut, MetaTable};
-pub use shred_run::kept::batch_entry;
+pub use shred_run::kept_entries::batch_entry;
 pub use shred_run::{
     BatchController, Fault, MultiDispatchController, MultiDispatcher, NoBatch, Now, RunNow,
     RunningTime, StageFault, System, SystemId,
 };
-pub use shred_stage::dispatch::inner::tiers_of;
+pub use shred_stage::dispatch::tiers::tiers_of;
 pub use shred_stage::{
     AddError, DispatchError, Plan, PlanSink, PrintError, Rule, SinkFailed, Stage, StagesBuilder,
     ToWriter,

@@ -23,10 +23,6 @@ module _ {X E : Type 0} where
   begun-out x y (Ok none) rests same = inl (refl, ap out same)
   begun-out x y (Err refusal) rests same = absurd rests
 
-  pub begun-lost : (x : X) (untold : Answer (DispatchError E)) → IsAtRest (home x untold) → OnceJoined (TellsOr Begins) (home x untold) (Err error.Lost) lost
-  begun-lost x (Ok none) rests = inr (refl, refl)
-  begun-lost x (Err refusal) rests = absurd rests
-
   pub sets-up-home : (Run Setup : Runs X E) (before joined : AsyncState X E) → Joins Run before joined → (x y : X) (untold left ended : Answer (DispatchError E)) (answer : AsyncAnswer E) → home x untold ≡ joined → Setup x ended y → answer ≡ told ended → left ≡ untold → SetsUp Run Setup before answer (home y left)
   sets-up-home Run Setup before joined joins x y untold left ended answer is set_up told-is same =
       (joined, joins, subst (λ (s : AsyncState X E). OnceJoined (λ x untold answer after. (y : X) × (ended : Answer (DispatchError E)) × Setup x ended y × (answer ≡ told ended) × (after ≡ home y untold)) s answer (home y left)) is (y, ended, set_up, told-is, ap (home y) same))

@@ -1,9 +1,6 @@
 //! A run of a plan on a thread of its own.
 ghost use Rattle.std.specs.Prelude.{◌≡◌, IfSome};
-ghost use Rattle.shred_run.specs.Depths.{steps_of};
-ghost use Rattle.shred_run.specs.Dispatched.{Dispatched};
-ghost use Rattle.shred_stage.specs.Situations.{dispatch_answer, plan_with, plan_over};
-ghost use Rattle.shred_world.specs.Worlds.{world_held};
+ghost use Rattle.shred_stage.specs.OverWorlds.{PlanDispatched};
 
 use shred_run::{BatchController, NoBatch, System};
 use shred_stage::{DispatchError, Plan};
@@ -41,7 +38,7 @@ pub(crate) struct RunFrom<
 impl<V: ResourceValue, S: System<V, Error = E>, C: BatchController<V, Error = E>, E> Promise<
     (World<V>, Plan<V, S, C>, Result<(), DispatchError<E>>),
 > for RunFrom<V, S, C> {
-    ghost kept_by = { λ from left. Dispatched V.kind_of (steps_of S.System C.BatchController) dispatch_answer (plan_with from.plan.value (world_held V.kind_of from.world.value)) left.2 (plan_with left.1 (world_held V.kind_of left.0)) };
+    ghost kept_by = { λ from left. PlanDispatched from.plan.value from.world.value left.2 left.1 left.0 };
 }
 
 /// A run that was begun, and whether it has come to its end.
@@ -79,7 +76,7 @@ fn run_plan<
 where
     S::Accessor: Send,
     C::Accessor: Send,
-    ensures { Dispatched V.kind_of (steps_of S.System C.BatchController) dispatch_answer (plan_over V.kind_of plan world) result.2 (plan_over V.kind_of result.1 result.0) }
+    ensures { PlanDispatched plan world result.2 result.1 result.0 }
 {
     let mut world = world;
     let mut plan = plan;
@@ -120,7 +117,7 @@ where
         rt,
         promise,
         move || -> (World<V>, Plan<V, S, C>, Result<(), DispatchError<E>>)
-            ensures { Dispatched V.kind_of (steps_of S.System C.BatchController) dispatch_answer (plan_over V.kind_of plan world) result.2 (plan_over V.kind_of result.1 result.0) }
+            ensures { PlanDispatched plan world result.2 result.1 result.0 }
         { run_plan(&runtime, world, plan, workers, &tells) },
     )
     .ok()?;
@@ -135,7 +132,8 @@ pub(crate) fn join_run<
     C: BatchController<V, Error = E> + Drop,
     E: Drop,
 >(rt: &R, run: Running<V, S, C>) -> Home<V, S, C>
-    ensures { Dispatched V.kind_of (steps_of S.System C.BatchController) dispatch_answer (plan_over V.kind_of run.handle.promise.plan.value run.handle.promise.world.value) result.untold (plan_over V.kind_of result.plan result.world) }
+    ensures { let begun = run.handle.promise in
+        PlanDispatched begun.plan.value begun.world.value result.untold result.plan result.world }
 {
     let Running { handle, is_done: _ } = run;
     let (world, plan, untold) = handle.join(rt);

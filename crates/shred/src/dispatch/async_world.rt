@@ -1,8 +1,6 @@
 //! The world of an asynchronous dispatcher.
 ghost use Rattle.std.specs.Borrow.{sem};
-ghost use Rattle.shred_run.specs.Depths.{steps_of};
 ghost use Rattle.shred.specs.AsyncLent.{LendsShown, LendsJoined};
-ghost use Rattle.shred.specs.AsyncRuns.{PlanRan};
 ghost use Rattle.shred.specs.AsyncShown.{IsHome, Shows};
 ghost use Rattle.shred.specs.AsyncDispatchers.{state_of};
 ghost use Rattle.shred_world.specs.Worlds.{world_held};
@@ -41,7 +39,7 @@ impl<
     /// run could not be started before.
     pub fn world<R: Threads>(&mut self, rt: &R) -> Result<&World<V>, AsyncError<Infallible>>
         ensures shown { AsyncShows self.old result }
-        ensures* after { sem 𝓛 (LendsShown V.row S.row C.row L.row E.row A.row B.row V.ResourceValue S.System A.Accessor C.BatchController B.Accessor V.kind_of (PlanRan V.kind_of (steps_of S.System C.BatchController)) self.entry result) }
+        ensures* after { sem 𝓛 (LendsShown V.row S.row C.row L.row E.row A.row B.row V.ResourceValue S.System A.Accessor C.BatchController B.Accessor self.entry result) }
     {
         self.join(rt);
         self.shown()
@@ -50,7 +48,7 @@ impl<
     /// Another name of `world`.
     pub fn res<R: Threads>(&mut self, rt: &R) -> Result<&World<V>, AsyncError<Infallible>>
         ensures shown { AsyncShows self.old result }
-        ensures* after { sem 𝓛 (LendsShown V.row S.row C.row L.row E.row A.row B.row V.ResourceValue S.System A.Accessor C.BatchController B.Accessor V.kind_of (PlanRan V.kind_of (steps_of S.System C.BatchController)) self.entry result) }
+        ensures* after { sem 𝓛 (LendsShown V.row S.row C.row L.row E.row A.row B.row V.ResourceValue S.System A.Accessor C.BatchController B.Accessor self.entry result) }
     {
         self.world(rt)
     }
@@ -59,7 +57,7 @@ impl<
     /// so. `Lost` where a run could not be started before.
     pub fn world_mut<R: Threads>(&mut self, rt: &R) -> Result<&mut World<V>, AsyncError<E>>
         ensures shown { AsyncLends self.old result }
-        ensures* after { sem 𝓛 (LendsJoined V.row S.row C.row L.row E.row A.row B.row V.ResourceValue S.System A.Accessor C.BatchController B.Accessor V.kind_of (PlanRan V.kind_of (steps_of S.System C.BatchController)) self.entry result) }
+        ensures* after { sem 𝓛 (LendsJoined V.row S.row C.row L.row E.row A.row B.row V.ResourceValue S.System A.Accessor C.BatchController B.Accessor self.entry result) }
     {
         self.join(rt);
         match home_world(&mut self.place) {
@@ -71,7 +69,7 @@ impl<
     /// Another name of `world_mut`.
     pub fn mut_res<R: Threads>(&mut self, rt: &R) -> Result<&mut World<V>, AsyncError<E>>
         ensures shown { AsyncLends self.old result }
-        ensures* after { sem 𝓛 (LendsJoined V.row S.row C.row L.row E.row A.row B.row V.ResourceValue S.System A.Accessor C.BatchController B.Accessor V.kind_of (PlanRan V.kind_of (steps_of S.System C.BatchController)) self.entry result) }
+        ensures* after { sem 𝓛 (LendsJoined V.row S.row C.row L.row E.row A.row B.row V.ResourceValue S.System A.Accessor C.BatchController B.Accessor self.entry result) }
     {
         self.world_mut(rt)
     }

@@ -4,9 +4,8 @@ ghost use Rattle.std.specs.Prelude.{◌≡◌, ◌<◌, ◌++◌, ℕ, List, [],
 ghost use Rattle.std.specs.Option.{option_map};
 ghost use Rattle.std.specs.String.{string_eq};
 ghost use Rattle.std.proofs.Props.{props};
-ghost use Rattle.shred_run.specs.Batches.{IsTierOf};
+ghost use Rattle.shred_run.specs.Circles.{EntryOwns, TiersOwn};
 ghost use Rattle.shred_run.specs.Works.{tiers_plan};
-ghost use Rattle.shred_model.specs.Plan.{plan_ids};
 ghost use Rattle.shred_model.specs.Record.{Agent};
 ghost use Rattle.shred_stage.specs.BuilderPlan.{planned, barrier_of, rule_of, builder_states};
 ghost use Rattle.shred.specs.AsyncBuilt.{IsBuiltOver};
@@ -14,9 +13,6 @@ ghost use Rattle.shred.specs.AsyncDispatchers.{state_of};
 ghost use Rattle.shred.specs.Built.{IsBarrierSet, IsConsistent, IsLocalAdded, IsNewBuilt, IsPoolSet, IsRuleSet, IsSameBuilt, KeepsAdditionIfOrdered};
 ghost use Rattle.shred_run.specs.AdditionOrder.{KeepsAddition};
 ghost use Rattle.shred_stage.specs.declared.dispatch.rule.Rule.TheVariants.{Ordered};
-ghost use Rattle.shred_run.specs.Depths.{lists_of};
-ghost use Rattle.shred_run.specs.OwnDepth.{OwnsItself};
-ghost use Rattle.shred_run.specs.OwnLists.{IsEntryOf};
 ghost use Rattle.shred_model.specs.Access.{Access};
 ghost use Rattle.shred_run.specs.PlanOf.{entry_plan};
 ghost use Rattle.shred.specs.Dispatchers.{dispatcher_locals, dispatcher_plan, dispatcher_states, dispatcher_workers};
@@ -24,9 +20,7 @@ ghost use Rattle.shred.specs.SystemNames.{names_known, names_pairs};
 ghost use Rattle.shred.specs.ThreadLocals.{systems_of};
 ghost use Rattle.shred_stage.specs.Earlier.{plan_has};
 ghost use Rattle.shred_stage.specs.Inner.{tiers_states};
-ghost use Rattle.shred_stage.specs.Names.{AreNames, first_unnamed, names_of};
-ghost use Rattle.shred_stage.specs.Printed.{line_feed, plan_text};
-ghost use Rattle.shred_stage.specs.Prints.{PrintsPlan};
+ghost use Rattle.shred_stage.specs.Names.{AreNames, names_of};
 ghost use Rattle.shred_stage.specs.StagePlan.{plan_of};
 ghost use Rattle.shred_world.specs.Worlds.{world_held};
 ghost use Rattle.shred_stage.specs.Added.{AreSame};
@@ -36,11 +30,11 @@ use crate::dispatch::dispatcher::{Dispatcher, new_dispatcher};
 use crate::dispatch::names::SystemNames;
 use crate::thread_local::ThreadLocal;
 use shred_run::entry::GroupEntry;
-use shred_run::kept::{batch_entry, system_entry};
+use shred_run::kept_entries::{batch_entry, system_entry};
 use shred_run::{BatchController, Nested, NoBatch, Now, System, SystemId, Tier, Work};
-use shred_stage::dispatch::inner::tiers_of;
 use shred_stage::dispatch::printing::print_with_end;
-use shred_stage::look_up::{enter, forget, id_of, ids_of, may_add};
+use shred_stage::dispatch::tiers::tiers_of;
+use shred_stage::known_names::{enter, forget, id_of, ids_of, may_add};
 use shred_stage::{AddError, PlanSink, PrintError, Rule, Stage, StagesBuilder};
 use shred_world::{ResourceValue, World};
 use std::alloc::Global;
@@ -68,6 +62,7 @@ pub struct DispatcherBuilder<
 
 impl<V: ResourceValue, S: System<V>, C: BatchController<V>, L: Drop> DispatcherBuilder<V, S, C, L> {
     ghost use Rattle.shred.specs.Builders.{built, builder_pairs};
+    ghost use Rattle.shred.specs.PrintedPlans.{PrintsBuilder};
 
     /// An empty plan, without names. It takes no memory.
     pub fn new(alloc: Global) -> Self
@@ -191,8 +186,7 @@ impl<V: ResourceValue, S: System<V>, C: BatchController<V>, L: Drop> DispatcherB
     /// `Unnamed` with the first such id in the plan's order. Where the sink fails, it is `Write`, and a beginning of the
     /// text was put. The printed names are the known ones. It takes no memory.
     pub fn print_par_seq<W: PlanSink>(&self, sink: &mut W) -> Result<(), PrintError>
-        ensures printed { let plan = (built self.now).plan in let pairs = builder_pairs self.now in
-            PrintsPlan W.told W.failures sink.old sink.new (first_unnamed pairs (plan_ids plan)) (plan_text pairs plan ++ line_feed) result }
+        ensures printed { PrintsBuilder W.PlanSink self.now sink.old sink.new result }
         ensures names { AreNames (builder_pairs self.now) (built self.now).known }
         ensures consistent { IsConsistent (built self.now) }
     {
@@ -304,7 +298,7 @@ impl<
         ensures no_local { OnOk result ((built inner).locals ≡ []) }
         ensures plan { IfOk result (λ tiers. tiers_plan tiers.items ≡ (built inner).plan) }
         ensures states { IfOk result (λ tiers. AreSame (built inner).states (tiers_states tiers.items)) }
-        ensures own_lists { IfOk result (λ tiers. All (IsTierOf (OwnsItself (lists_of S.System C.BatchController))) tiers.items) }
+        ensures own_lists { IfOk result (λ tiers. TiersOwn S.System C.BatchController tiers.items) }
         ensures refused { IfErr result (IsBatchAddRefusal inner self.now name.now dependencies.now) }
     {
         let stages = inner.into_inner()?;
@@ -352,7 +346,7 @@ impl<
         dependencies: &[&str],
     ) -> Result<SystemId, AddError>
         requires allowed { MayAddTo self.old name.now dependencies.now }
-        requires own_lists { IsEntryOf (OwnsItself (lists_of S.System C.BatchController)) entry }
+        requires own_lists { EntryOwns S.System C.BatchController entry }
         requires id { (entry_plan entry).id ≡ (built self.old).next }
         ensures id { IfOk result (λ id. id.0 ≡ (built self.old).next) }
         ensures added { OnOk result (AddsEntry self.old self.new name.now dependencies.now (entry_plan entry) entry.work) }
@@ -402,7 +396,7 @@ impl<
         dependencies: &[&str],
     ) -> Result<SystemId, AddError>
         requires allowed { MayAddTo self.old name.now dependencies.now }
-        requires own_lists { All (IsTierOf (OwnsItself (lists_of S.System C.BatchController))) tiers.items }
+        requires own_lists { TiersOwn S.System C.BatchController tiers.items }
         ensures id { IfOk result (λ id. id.0 ≡ (built self.old).next) }
         ensures added { OnOk result (AddsTiers self.old self.new name.now dependencies.now controller tiers.items) }
         ensures refused { IfErr result (λ e. e ≡ AddError.OutOfMemory) }

@@ -1,26 +1,22 @@
 //! The dispatcher: it runs a plan, and then the thread-local systems.
-ghost use Rattle.std.specs.Prelude.{◌≡◌, ◌++◌};
-ghost use Rattle.shred_model.specs.Plan.{plan_ids};
+ghost use Rattle.std.specs.Prelude.{◌≡◌};
 ghost use Rattle.shred_model.specs.Record.{Agent};
 ghost use Rattle.shred_run.specs.Alone.{KeepsKindsIn};
 ghost use Rattle.shred_run.specs.Depths.{steps_of};
-ghost use Rattle.shred_run.specs.Dispatched.{Dispatched};
 ghost use Rattle.shred_run.specs.WorkSetups.{setups_of};
-ghost use Rattle.shred_stage.specs.Names.{AreNames, first_unnamed};
+ghost use Rattle.shred_stage.specs.Names.{AreNames};
 ghost use Rattle.shred_stage.specs.Plans.{plan_states};
-ghost use Rattle.shred_stage.specs.Printed.{line_feed, plan_text};
-ghost use Rattle.shred_stage.specs.Prints.{PrintsPlan};
-ghost use Rattle.shred_stage.specs.Situations.{dispatch_answer};
+ghost use Rattle.shred.specs.PrintedPlans.{PrintsDispatcher};
 ghost use Rattle.shred_stage.specs.StagePlan.{plan_of, widest};
-ghost use Rattle.shred.specs.Dispatchers.{dispatcher_locals, dispatcher_over, dispatcher_plan, dispatcher_states, dispatcher_workers};
-ghost use Rattle.shred.specs.FullRuns.{FullyDispatched, IsRefusedBy, RunsNow, whole_over, whole_with, whole_over_local};
+ghost use Rattle.shred.specs.Dispatchers.{dispatcher_locals, dispatcher_plan, dispatcher_states, dispatcher_workers};
+ghost use Rattle.shred.specs.FullRuns.{IsRefusedBy, RunsNow, whole_with};
 ghost use Rattle.shred.specs.LocalRuns.{LocalsRun};
 ghost use Rattle.shred.specs.Setups.{DisposesNow, SetsUpNow};
 ghost use Rattle.shred.specs.SystemNames.{names_known, names_pairs};
 ghost use Rattle.shred.specs.ThreadLocals.{systems_of};
 ghost use Rattle.shred_world.specs.Worlds.{local_held, world_held};
 ghost use Rattle.shred_world.specs.Between.{OverWorld};
-ghost use Rattle.shred.specs.OverWorlds.{DispatcherSetUp, DispatcherDisposed, BothSetUp};
+ghost use Rattle.shred.specs.OverWorlds.{AllDispatched, AllDispatchedLocally, BothSetUp, DispatcherDisposed, DispatcherRan, DispatcherSetUp, StagesDispatched};
 ghost use Rattle.shred_stage.specs.Added.{AreSame};
 
 use crate::dispatch::names::SystemNames;
@@ -86,8 +82,7 @@ impl<V: ResourceValue, S: System<V>, C: BatchController<V>, L> Dispatcher<V, S, 
         sink: &mut W,
         names: &SystemNames,
     ) -> Result<(), PrintError>
-        ensures printed { let plan = dispatcher_plan self.now in let pairs = names_pairs names.now in
-            PrintsPlan W.told W.failures sink.old sink.new (first_unnamed pairs (plan_ids plan)) (plan_text pairs plan ++ line_feed) result }
+        ensures printed { PrintsDispatcher W.PlanSink self.now names.now sink.old sink.new result }
         ensures names { AreNames (names_pairs names.now) (names_known names.now) }
     {
         self.plan.print(sink, &names.names, b"\n")
@@ -157,7 +152,7 @@ impl<
     /// Runs the stages, one after the other, up to the first that is not Done, on the caller's thread, and so inner plans. It
     /// takes no memory but what its systems and controllers take.
     pub fn dispatch_seq(&mut self, world: &mut World<V>) -> Result<(), DispatchError<E>>
-        ensures dispatched { Dispatched V.kind_of (steps_of S.System C.BatchController) dispatch_answer (dispatcher_over V.kind_of self.old world.old) result (dispatcher_over V.kind_of self.new world.new) }
+        ensures dispatched { StagesDispatched self.old world.old result self.new world.new }
         ensures locals { dispatcher_locals self.new ≡ dispatcher_locals self.old }
         ensures workers { dispatcher_workers self.new ≡ dispatcher_workers self.old }
     {
@@ -203,7 +198,7 @@ impl<
         rt: &R,
         world: &mut LocalWorld<V>,
     ) -> Result<(), DispatchError<E>>
-        ensures dispatched { FullyDispatched V.kind_of (steps_of S.System C.BatchController) L.runs (whole_over_local V.kind_of self.old world.old) result (whole_over_local V.kind_of self.new world.new) }
+        ensures dispatched { AllDispatchedLocally L.runs self.old world.old result self.new world.new }
         ensures kinds { KeepsKindsIn local_held V.kind_of world.old world.new }
     {
         match self.plan.run_in_order(world) {
@@ -264,7 +259,7 @@ where
         rt: &R,
         world: &mut World<V>,
     ) -> Result<(), DispatchError<E>>
-        ensures dispatched { Dispatched V.kind_of (steps_of S.System C.BatchController) dispatch_answer (dispatcher_over V.kind_of self.old world.old) result (dispatcher_over V.kind_of self.new world.new) }
+        ensures dispatched { StagesDispatched self.old world.old result self.new world.new }
         ensures locals { dispatcher_locals self.new ≡ dispatcher_locals self.old }
         ensures workers { dispatcher_workers self.new ≡ dispatcher_workers self.old }
     {
@@ -289,7 +284,7 @@ where
         rt: &R,
         world: &mut LocalWorld<V>,
     ) -> Result<(), DispatchError<E>>
-        ensures dispatched { FullyDispatched V.kind_of (steps_of S.System C.BatchController) L.runs (whole_over_local V.kind_of self.old world.old) result (whole_over_local V.kind_of self.new world.new) }
+        ensures dispatched { AllDispatchedLocally L.runs self.old world.old result self.new world.new }
         ensures kinds { KeepsKindsIn local_held V.kind_of world.old world.new }
     {
         match self.plan.run_beside(rt, world, self.workers) {
@@ -304,7 +299,7 @@ where
         rt: &R,
         world: &mut World<V>,
     ) -> Result<(), DispatchError<E>>
-        ensures dispatched { FullyDispatched V.kind_of (steps_of S.System C.BatchController) L.runs (whole_over V.kind_of self.old world.old) result (whole_over V.kind_of self.new world.new) }
+        ensures dispatched { AllDispatched L.runs self.old world.old result self.new world.new }
         ensures kinds { KeepsKindsIn world_held V.kind_of world.old world.new }
     {
         self.dispatch_beside(rt, world.local())
@@ -317,7 +312,7 @@ where
         rt: &R,
         world: &mut LocalWorld<V>,
     ) -> Result<(), Fault<DispatchError<E>>>
-        ensures run { RunsNow V.kind_of (steps_of S.System C.BatchController) L.runs (whole_over_local V.kind_of self.old world.old) result (whole_over_local V.kind_of self.new world.new) }
+        ensures run { DispatcherRan L.runs self.old world.old result self.new world.new }
         ensures kinds { KeepsKindsIn local_held V.kind_of world.old world.new }
     {
         as_run(self.dispatch_beside(rt, world))

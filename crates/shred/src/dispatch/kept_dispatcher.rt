@@ -2,15 +2,13 @@
 ghost use Rattle.std.specs.Prelude.{◌≡◌, IfErr, IfOk};
 ghost use Rattle.shred_run.specs.Alone.{KeepsKindsIn};
 ghost use Rattle.shred_run.specs.Depths.{steps_of};
-ghost use Rattle.shred_run.specs.Dispatched.{Dispatched};
 ghost use Rattle.shred_run.specs.WorkSetups.{setups_of};
-ghost use Rattle.shred_stage.specs.Situations.{dispatch_answer};
-ghost use Rattle.shred.specs.Dispatchers.{dispatcher_locals, dispatcher_over, dispatcher_workers, dispatcher_over_local};
-ghost use Rattle.shred.specs.FullRuns.{FullyDispatched, RunsNow, whole_over, whole_with, whole_over_local};
+ghost use Rattle.shred.specs.Dispatchers.{dispatcher_locals, dispatcher_workers};
+ghost use Rattle.shred.specs.FullRuns.{RunsNow, whole_with};
 ghost use Rattle.shred.specs.KeptDispatchers.{dispatcher_of};
 ghost use Rattle.shred.specs.Setups.{DisposesNow, SetsUpNow};
 ghost use Rattle.shred_world.specs.Worlds.{local_held, world_held};
-ghost use Rattle.shred.specs.OverWorlds.{DispatcherSetUp, DispatcherDisposed};
+ghost use Rattle.shred.specs.OverWorlds.{AllKeptDispatched, AllKeptDispatchedLocally, DispatcherDisposed, KeptSetUp, KeptStagesDispatched, StagesDispatchedLocally};
 
 use crate::dispatch::dispatcher::{Dispatcher, as_run};
 use shred_kept::StageCrew;
@@ -48,7 +46,7 @@ impl<
         crew: &mut StageCrew<R, V, S, C>,
         world: &mut LocalWorld<V>,
     ) -> Result<(), DispatchError<E>>
-        ensures dispatched { Dispatched V.kind_of (steps_of S.System C.BatchController) dispatch_answer (dispatcher_over_local V.kind_of self.old world.old) result (dispatcher_over_local V.kind_of self.new world.new) }
+        ensures dispatched { StagesDispatchedLocally self.old world.old result self.new world.new }
         ensures locals { dispatcher_locals self.new ≡ dispatcher_locals self.old }
         ensures workers { dispatcher_workers self.new ≡ dispatcher_workers self.old }
     {
@@ -100,7 +98,7 @@ impl<
     /// Runs the stages, one after the other, up to the first that is not Done, the groups of each beside each other on the workers that
     /// are free and on the caller's thread.
     pub fn dispatch_par(&mut self, world: &mut World<V>) -> Result<(), DispatchError<E>>
-        ensures dispatched { Dispatched V.kind_of (steps_of S.System C.BatchController) dispatch_answer (dispatcher_over V.kind_of (dispatcher_of self.old) world.old) result (dispatcher_over V.kind_of (dispatcher_of self.new) world.new) }
+        ensures dispatched { KeptStagesDispatched self.old world.old result self.new world.new }
         ensures locals { dispatcher_locals (dispatcher_of self.new) ≡ dispatcher_locals (dispatcher_of self.old) }
         ensures workers { dispatcher_workers (dispatcher_of self.new) ≡ dispatcher_workers (dispatcher_of self.old) }
     {
@@ -133,7 +131,7 @@ impl<
         rt: &T,
         world: &mut LocalWorld<V>,
     ) -> Result<(), DispatchError<E>>
-        ensures dispatched { FullyDispatched V.kind_of (steps_of S.System C.BatchController) L.runs (whole_over_local V.kind_of (dispatcher_of self.old) world.old) result (whole_over_local V.kind_of (dispatcher_of self.new) world.new) }
+        ensures dispatched { AllKeptDispatchedLocally L.runs self.old world.old result self.new world.new }
         ensures kinds { KeepsKindsIn local_held V.kind_of world.old world.new }
     {
         match self.dispatcher.run_on(&mut self.crew, world) {
@@ -148,7 +146,7 @@ impl<
         rt: &T,
         world: &mut World<V>,
     ) -> Result<(), DispatchError<E>>
-        ensures dispatched { FullyDispatched V.kind_of (steps_of S.System C.BatchController) L.runs (whole_over V.kind_of (dispatcher_of self.old) world.old) result (whole_over V.kind_of (dispatcher_of self.new) world.new) }
+        ensures dispatched { AllKeptDispatched L.runs self.old world.old result self.new world.new }
         ensures kinds { KeepsKindsIn world_held V.kind_of world.old world.new }
     {
         self.dispatch_local(rt, world.local())
@@ -157,7 +155,7 @@ impl<
     /// Sets up what stands in the plan, in its order, and then the thread-local ones, up to the first that is not Done, which the answer
     /// tells. What was done before it stays.
     pub fn setup(&mut self, world: &mut World<V>) -> Result<(), DispatchError<E>>
-        ensures { DispatcherSetUp L.sets_up (dispatcher_of self.old) world.old result (dispatcher_of self.new) world.new }
+        ensures { KeptSetUp L.sets_up self.old world.old result self.new world.new }
     {
         self.dispatcher.setup(world)
     }

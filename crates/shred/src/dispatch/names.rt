@@ -6,9 +6,10 @@ ghost use Rattle.std.specs.String.{string_eq};
 ghost use Rattle.std.proofs.Props.{props};
 ghost use Rattle.shred_stage.specs.Names.{AreNames, least_name};
 
+use crate::dispatch::told::Told;
 use shred_run::SystemId;
 use shred_stage::dispatch::printing::least_name;
-use shred_stage::look_up;
+use shred_stage::{DispatchError, known_names};
 use std::collections::HashMap;
 
 /// Names of systems, each with the id that it stands for.
@@ -25,7 +26,7 @@ impl SystemNames {
     pub fn id_of(&self, name: &str) -> Option<SystemId>
         ensures { option_map (λ id. id.0) result ≡ names_known self.now name.now }
     {
-        look_up::id_of(&self.names, name)
+        known_names::id_of(&self.names, name)
     }
 
     /// The name of the system of this id, if it has one: the least by its bytes. It looks through all names.
@@ -34,5 +35,13 @@ impl SystemNames {
         ensures names { AreNames (names_pairs self.now) (names_known self.now) }
     {
         least_name(&self.names, id)
+    }
+
+    /// The error as a text that has its system's name.
+    pub fn told<'n, E>(&'n self, error: &'n DispatchError<E>) -> Told<'n, E>
+        ensures names { result.names.now ≡ self.now }
+        ensures error { result.error.now ≡ error.now }
+    {
+        Told { names: self, error }
     }
 }

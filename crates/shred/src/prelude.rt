@@ -1,0 +1,18 @@
+//! What a program with typed systems names: `use shred::prelude::*;`.
+
+pub use crate::dispatch::builder::DispatcherBuilder;
+pub use crate::dispatch::dispatcher::Dispatcher;
+pub use crate::dispatch::names::SystemNames;
+pub use crate::dispatch::told::Told;
+pub use crate::passed::{ReadsWrites, ReadsWritesSystem, Writes, WritesSystem};
+pub use crate::rounds::Rounds;
+pub use crate::systems::{
+    Systems2, Systems3, Systems4, Systems5, Systems6, Systems7, Systems8, eighth_system,
+    fifth_system, first_system, fourth_system, second_system, seventh_system, sixth_system,
+    third_system,
+};
+pub use crate::typed::{Ran, Typed, TypedSystem, Uses};
+pub use crate::values::{First, Fourth, OneOf2, OneOf3, OneOf4, Second, Third};
+pub use shred_run::{Fault, Now};
+pub use shred_stage::{AddError, DispatchError, Rule};
+pub use shred_world::{DataError, OutOfMemory, View, World, WorldError};

@@ -1,22 +1,31 @@
 -- The rows of the two entities.
-use Rattle.std.proofs.Common.{◌≡◌, ℕ, ℤ, ◌∙◌, ◌+◌, ◌++◌, List, Option, Some, None, codes, pos, subst}
+use Rattle.std.proofs.Common.{◌≡◌, ℕ, ℤ, ◌∙◌, ◌+◌, ◌+ℤ◌, ◌++◌, List, Option, Some, None, codes, pos, subst}
 use Rattle.std.proofs.KnownBytes.{Appends-trans}
 use Rattle.std.specs.Io.KnownBytes.{Appends}
 use Rattle.script_text.specs.Texts.{line_of}
 use Rattle.script_command.specs.Shown.{HasRow, demo_rules, demo_text, row_text}
 use Rattle.shredstore.specs.Contents.{Contents, IsCreated, IsEmpty, IsValueSet}
-use Rattle.shredstore.specs.Rows.{with_constant, with_sum}
+use Rattle.shredstore.specs.Meaning.{meaning_of}
+use Rattle.shredstore.specs.Rows.{made_beside}
 use Rattle.shredstore.specs.Rules.{applied_all}
 use Rattle.shredstore.specs.declared.rule.StoreRule.{StoreRule}
 
+-- the sum, where both are there
+abbrev pub summed : Option ℤ → Option ℤ → Option ℤ
+summed value more = made_beside (λ a b. a +ℤ b) value more
+
+-- 5, where there is a value
+abbrev pub fived : Option ℤ → Option ℤ
+fived value = made_beside (λ a b. pos 5) value value
+
 -- what the rules make of a row
-pub ticked : (old new : Contents) (rules : List StoreRule) → rules ≡ demo_rules → ((entity table : ℕ) → new.facts.value entity table ≡ applied_all rules old.facts.value entity table) → (entity : ℕ) (a b c : Option ℤ) → HasRow old entity a b c → HasRow new entity (with_sum a b) (with_constant (pos 5) b) (with_sum c (with_sum a b))
+pub ticked : (old new : Contents) (rules : List StoreRule) → rules ≡ demo_rules → ((entity table : ℕ) → new.facts.value entity table ≡ applied_all meaning_of rules old.facts.value entity table) → (entity : ℕ) (a b c : Option ℤ) → HasRow old entity a b c → HasRow new entity (summed a b) (fived b) (summed c (summed a b))
 ticked old new rules same applies entity a b c row =
-    let made : (table : ℕ) → new.facts.value entity table ≡ applied_all demo_rules old.facts.value entity table = λ table. applies entity table ∙ (λ i. applied_all (same i) old.facts.value entity table) in
+    let made : (table : ℕ) → new.facts.value entity table ≡ applied_all meaning_of demo_rules old.facts.value entity table = λ table. applies entity table ∙ (λ i. applied_all meaning_of (same i) old.facts.value entity table) in
     record {
-      first = made 0 ∙ (λ i. with_sum (row.first i) (row.second i));
-      second = made 1 ∙ (λ i. with_constant (pos 5) (row.second i));
-      third = made 2 ∙ (λ i. with_sum (row.third i) (with_sum (row.first i) (row.second i)));
+      first = made 0 ∙ (λ i. summed (row.first i) (row.second i));
+      second = made 1 ∙ (λ i. fived (row.second i));
+      third = made 2 ∙ (λ i. summed (row.third i) (summed (row.first i) (row.second i)));
     }
 
 -- two entities were made, and values were set

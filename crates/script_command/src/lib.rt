@@ -2,10 +2,10 @@
 #![tactic(auto)]
 
 mod command;
+mod demonstration;
 mod error;
 mod rows;
-mod showing;
 mod two_ticks;
 
 pub use command::{Command, tell_usage};
-pub use showing::demo;
+pub use demonstration::demo;

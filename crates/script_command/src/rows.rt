@@ -1,8 +1,7 @@
 //! The line of an entity.
-ghost use Rattle.std.specs.Prelude.{OnOk};
-ghost use Rattle.std.specs.Io.KnownBytes.{Appends};
 ghost use Rattle.script_command.specs.Shown.{row_line};
 ghost use Rattle.shredstore.specs.Stores.{contents_of};
+ghost use Rattle.script_text.specs.Output.{Writes};
 
 use shredstore::{Entity, Store};
 use std::io::Write;
@@ -28,7 +27,7 @@ impl fmt::Display for Cell {
 
 /// Writes the number of an entity, and what it has in the tables 0, 1 and 2.
 pub(crate) fn write_row<W: Write>(out: &mut W, store: &Store, entity: u64) -> io::Result<()>
-    ensures { OnOk result (Appends (W.contents out.old) (W.contents out.new) (row_line (contents_of store.now) entity)) }
+    ensures { Writes W.contents out.old out.new (row_line (contents_of store.now) entity) result }
 {
     let cell = |table| Cell(store.get(Entity(entity), table));
     writeln!(out, "e{entity} {} {} {}", cell(0), cell(1), cell(2))

@@ -3,6 +3,9 @@ mod Lists
 mod Found
 mod Place
 mod Remade
+pub mod PassedBy
+mod JoinedRows
+mod LiveCount
 mod RemadeTables
 mod Outcomes
 mod Shown

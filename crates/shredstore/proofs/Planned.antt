@@ -15,18 +15,17 @@ use Rattle.shred_run.specs.declared.work.Work.TheVariants.{System}
 use Rattle.shred_run.specs.Occupants.{a_system, by_path, inside_each, of_system, work_occupants, work_states}
 use Rattle.shred_stage.specs.declared.dispatch.rule.Rule.TheVariants.{Ordered}
 use Rattle.shred.specs.Built.{IsConsistent, IsNewBuilt, IsRuleSet, KeepsAdditionIfOrdered}
-use Rattle.shred.specs.declared.plain.Plain.{Plain}
 use Rattle.shredstore.specs.declared.rule.Overflow.{Overflow}
-use Rattle.shredstore.specs.declared.rule.StoreRule.{StoreRule}
-use Rattle.shredstore.specs.Plans.{IsAddedRule, IsPlanned, RulesBuilt, RulesOver, RunsRules}
+use Rattle.shredstore.specs.Meaning.{Meaning}
+use Rattle.shredstore.specs.Plans.{IsAddedRule, IsPlanned, RuleState, RulesBuilt, RulesOver, RunsRules, rule_state}
 use Rattle.shredstore.specs.RuleSteps.{rule_reads}
 use Rattle.shredstore.specs.Rows.{Pairs}
 use Rattle.shredstore.proofs.Lists.{slice_get-push_end}
 use Rattle.shredstore.proofs.Told.{same_agent}
 
 -- a builder without rules
-pub planned-none : (empty ordered : RulesBuilt) → IsNewBuilt empty → IsRuleSet empty ordered Ordered → IsPlanned [] ordered
-planned-none empty ordered new set = record {
+pub planned-none : {R : Type 0} (meaning : R → Meaning) (empty ordered : RulesBuilt R) → IsNewBuilt empty → IsRuleSet empty ordered Ordered → IsPlanned meaning [] ordered
+planned-none meaning empty ordered new set = record {
   ordered = set.is_set;
   next = set.next ∙ new.next;
   each = λ id below. absurd (omega (arith, below));
@@ -46,8 +45,8 @@ length-push [] x = refl
 length-push (y ∷ xs) x = let rest = length-push xs x in omega (arith, rest)
 
 -- with one rule more
-pub planned-more : (rules : List StoreRule) (rule : StoreRule) (old new : RulesBuilt) → IsPlanned rules old → IsAddedRule rule old new → IsPlanned (rules ++ rule ∷ []) new
-planned-more rules rule old new planned added =
+pub planned-more : {R : Type 0} (meaning : R → Meaning) (rules : List R) (rule : R) (old new : RulesBuilt R) → IsPlanned meaning rules old → IsAddedRule meaning rule old new → IsPlanned meaning (rules ++ rule ∷ []) new
+planned-more meaning rules rule old new planned added =
     let entry = added.entry in
     let add = added.entry_added.added in
     let its_id : entry.id ≡ length rules = added.kept.same_id ∙ planned.next in
@@ -67,7 +66,7 @@ planned-more rules rule old new planned added =
             let same : other ≡ entry = cc in (
               rule,
               ap (λ (x : PlanEntry ResourceId). slice_get (rules ++ rule ∷ []) x.id) same ∙ ap (slice_get (rules ++ rule ∷ [])) its_id ∙ slice_get-push_end rules rule,
-              record { same_reads = λ id. subst (λ (x : PlanEntry ResourceId). Contains x.access.reads id ↔ Contains (rule_reads rule) id) (sym same) (added.kept.same_reads id); same_writes = ap (λ (x : PlanEntry ResourceId). x.access.writes) same ∙ added.kept.same_writes },
+              record { same_reads = λ id. subst (λ (x : PlanEntry ResourceId). Contains x.access.reads id ↔ Contains (rule_reads (meaning rule)) id) (sym same) (added.kept.same_reads id); same_writes = ap (λ (x : PlanEntry ResourceId). x.access.writes) same ∙ added.kept.same_writes },
               ap new.states e ∙ add.system_is_new.stands,
             ))
         | inr ne ↦ (let (its, told, lists, stands) = planned.stands place other (sym (add.entry_is_new.others place ne) ∙ at) in
@@ -98,10 +97,10 @@ inside-three within elements x (s ∷ (g ∷ [])) long is = absurd (cc)
 inside-three within elements x (s ∷ (g ∷ (n ∷ []))) long is = ap (λ (o : Option _). option_and_then (λ y. within y []) o) is
 inside-three within elements x (s ∷ (g ∷ (n ∷ (m ∷ path)))) long is = absurd (cc)
 
-abbrev RuleWork : Type 0
-RuleWork = Work (Plain StoreRule) (Nested (Only Pairs) (Plain StoreRule) (NoBatch Overflow))
+abbrev RuleWork : Type 0 → Type 0
+RuleWork R = Work (RuleState R) (Nested (Only Pairs) (RuleState R) (NoBatch Overflow))
 
-module _ (works : Agent → Option RuleWork) (system : Plain StoreRule) (path : Agent) (long : length path ≡ 3) (stands : works path ≡ Some (System system)) where
+module _ {R : Type 0} (works : Agent → Option (RuleWork R)) (system : RuleState R) (path : Agent) (long : length path ≡ 3) (stands : works path ≡ Some (System system)) where
   stands-there : inside_each 3 work_occupants works path ≡ Some a_system
   unfolding by_path
   stands-there = inside-three work_occupants works (System system) path long stands
@@ -111,8 +110,8 @@ module _ (works : Agent → Option RuleWork) (system : Plain StoreRule) (path : 
   state-there = inside-three work_states works (System system) path long stands
 
 -- the plan that it has come to runs the rules
-pub runs-rules : (rules : List StoreRule) (built : RulesBuilt) (situation : RulesOver) → IsPlanned rules built → IsConsistent built → KeepsAdditionIfOrdered built → situation.plan ≡ built.plan → ((path : Agent) → situation.works path ≡ built.states path) → RunsRules rules situation
-runs-rules rules built situation planned consistent keeps plan works =
+pub runs-rules : {R : Type 0} (meaning : R → Meaning) (rules : List R) (built : RulesBuilt R) (situation : RulesOver R) → IsPlanned meaning rules built → IsConsistent built → KeepsAdditionIfOrdered built → situation.plan ≡ built.plan → ((path : Agent) → situation.works path ≡ built.states path) → RunsRules meaning rules situation
+runs-rules meaning rules built situation planned consistent keeps plan works =
     let at_built : (place : Agent) (entry : PlanEntry ResourceId) → entry_at situation.plan place ≡ Some entry → entry_at built.plan place ≡ Some entry = λ place entry at. sym (ap (λ (p : Plan ResourceId). entry_at p place) plan) ∙ at in
     let at_situation : (place : Agent) (entry : PlanEntry ResourceId) → entry_at built.plan place ≡ Some entry → entry_at situation.plan place ≡ Some entry = λ place entry at. ap (λ (p : Plan ResourceId). entry_at p place) plan ∙ at in
     record {
@@ -123,5 +122,5 @@ runs-rules rules built situation planned consistent keeps plan works =
           let (rule, told, lists, stands) = planned.stands place entry (at_built place entry at) in
           let long = place-deep situation.plan place entry at in
           let there = works place ∙ stands in
-          (rule, told, lists, stands-there situation.works (record { 0 = rule }) place long there, state-there situation.works (record { 0 = rule }) place long there);
+          (rule, told, lists, stands-there situation.works (rule_state rule) place long there, state-there situation.works (rule_state rule) place long there);
     }

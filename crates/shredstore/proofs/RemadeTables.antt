@@ -61,21 +61,21 @@ module _ (made : ℕ → Option ℤ → Option ℤ) (table : ℕ) (before after 
   pub not-remade : before (table_id table) ≡ None → ((id : ResourceId) → after id ≡ before id) → IsRemade made table before after
   not-remade nothing same = subst Remade (sym nothing) same
 
--- where the entity's values are gone from the first tables, and now from the next one too, they are gone from one table more
-pub removed-more : (entity other from table : ℕ) (was before after : ℕ → Option ℤ) → ((t : ℕ) → before t ≡ cond (nat_lt t from && entity == other) None (was t)) → after table ≡ cond (from == table) (cond (entity == other) None (before from)) (before table)
-    → after table ≡ cond (nat_lt table (from + 1) && entity == other) None (was table)
-removed-more entity other from table was before after gone now = now ∙ told (from == table) refl where
+-- where an entity's value is taken from the first tables, or none is, and now so from the next one too, it is so of one table more
+pub taken-more : (its : Bool) (from table : ℕ) (was before after : ℕ → Option ℤ) → ((t : ℕ) → before t ≡ cond (nat_lt t from && its) None (was t)) → after table ≡ cond (from == table) (cond its None (before from)) (before table)
+    → after table ≡ cond (nat_lt table (from + 1) && its) None (was table)
+taken-more its from table was before after gone now = now ∙ told (from == table) refl where
   unless_false : (b : Bool) (value : Option ℤ) → cond (b && false) None value ≡ value
   unless_false true value = refl
   unless_false false value = refl
 
-  here : from ≡ table → nat_lt table (from + 1) ≡ true → (its : Bool) → (entity == other) ≡ its → cond its None (before from) ≡ cond (nat_lt table (from + 1) && its) None (was table)
-  here same below true is = sym (ap (λ b. cond (b && true) None (was table)) below)
-  here same below false is = gone from ∙ ap (λ b. cond (nat_lt from from && b) None (was from)) is ∙ unless_false (nat_lt from from) (was from) ∙ ap was same ∙ sym (unless_false (nat_lt table (from + 1)) (was table))
+  here : (b : Bool) → ((t : ℕ) → before t ≡ cond (nat_lt t from && b) None (was t)) → from ≡ table → nat_lt table (from + 1) ≡ true → cond b None (before from) ≡ cond (nat_lt table (from + 1) && b) None (was table)
+  here true gone same below = sym (ap (λ b. cond (b && true) None (was table)) below)
+  here false gone same below = gone from ∙ unless_false (nat_lt from from) (was from) ∙ ap was same ∙ sym (unless_false (nat_lt table (from + 1)) (was table))
 
-  told : (b : Bool) → (from == table) ≡ b → cond b (cond (entity == other) None (before from)) (before table) ≡ cond (nat_lt table (from + 1) && entity == other) None (was table)
-  told true e = here (grind (arith, nat_tests)) (grind (arith, nat_tests)) (entity == other) refl
-  told false e = let same : nat_lt table from ≡ nat_lt table (from + 1) = grind (arith, nat_tests) in gone table ∙ ap (λ b. cond (b && entity == other) None (was table)) same
+  told : (b : Bool) → (from == table) ≡ b → cond b (cond its None (before from)) (before table) ≡ cond (nat_lt table (from + 1) && its) None (was table)
+  told true e = here its gone (grind (arith, nat_tests)) (grind (arith, nat_tests))
+  told false e = let same : nat_lt table from ≡ nat_lt table (from + 1) = grind (arith, nat_tests) in gone table ∙ ap (λ b. cond (b && its) None (was table)) same
 
 -- a change at one entity, for every entity
 pub changed-each : (old new : Pairs) (entity : ℕ) (value : Option ℤ) → IsChangedAt old new entity value → (other : ℕ) → value_at new other ≡ cond (entity == other) value (value_at old other)

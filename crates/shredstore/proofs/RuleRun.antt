@@ -1,5 +1,5 @@
 -- What a run of a rule makes of the declared values, from what it makes of all that the view shows.
-use Rattle.std.proofs.Common.{◌≡◌, ◌==◌, ℕ, ℤ, Bool, true, false, cond, Option, Some, None, refl, sym, ◌∙◌, ap, subst}
+use Rattle.std.proofs.Common.{◌≡◌, ◌==◌, ℕ, ℤ, Bool, true, false, cond, Option, Some, None, refl, sym, ◌∙◌, ap, subst, subst₂}
 use Rattle.std.specs.Prelude.{MatchOption}
 use Rattle.shred_table.specs.declared.id.ResourceId.{ResourceId}
 use Rattle.shred_table.specs.declared.only.Only.{Only}
@@ -7,10 +7,10 @@ use Rattle.shred_table.specs.Id.{same_id}
 use Rattle.shred_table.specs.Slots.{with_at}
 use Rattle.shred_world.specs.declared.world.view.View.{View}
 use Rattle.shred_world.specs.Views.{IsSameView, declared_held, may_read, may_write, view_held}
-use Rattle.shredstore.specs.declared.rule.StoreRule.TheVariants.{Add, Set}
-use Rattle.shredstore.specs.Rows.{NoneUnfit, Pairs, value_at, with_constant, with_sum}
-use Rattle.shredstore.specs.Rules.{AllSumsFit, applied}
-use Rattle.shredstore.specs.Tables.{IsRemade, table_kind, table_id, table_of, value_in, values_in}
+use Rattle.shredstore.specs.Meaning.{Meaning}
+use Rattle.shredstore.specs.Rows.{IsLeastUnfit, NoneUnfit, Pairs, made_beside, value_at}
+use Rattle.shredstore.specs.Rules.{AllMadeFit, IsFirstOverflow, applied}
+use Rattle.shredstore.specs.Tables.{IsLeastUnfitIn, IsRemade, MakesIn, NoneUnfitIn, table_kind, table_id, table_of, value_in, values_in}
 use Rattle.shredstore.proofs.RemadeTables.{not-remade, remade, remade-others, remade-values}
 use Rattle.shredstore.proofs.Shown.{may_read-same}
 use Rattle.shredstore.proofs.Told.{same_id-true}
@@ -45,20 +45,25 @@ module _ (old new : View (Only Pairs)) (same : IsSameView old new) (made : ℕ �
     told None is stays = not-remade made table (declared_held table_kind old) (declared_held table_kind new) (declared old (table_id table) may ∙ is) (λ id i. cond (may_read-same old new same id i) (stays id i) None)
     told (Some was) is (rows, each, shown) = remade made table (declared_held table_kind old) (declared_held table_kind new) was.0 rows (declared old (table_id table) may ∙ is) each (put rows shown)
 
--- where the sums were added that all fit
-pub added-step : (old new : View (Only Pairs)) → IsSameView old new → (x y : ℕ) → may_read old (table_id x) ≡ true → may_read old (table_id y) ≡ true → NoneUnfit (value_in (view_held table_kind old (table_id x))) (value_in (view_held table_kind old (table_id y)))
-    → IsRemade (λ entity value. with_sum value (value_in (view_held table_kind old (table_id y)) entity)) x (view_held table_kind old) (view_held table_kind new)
-    → AllSumsFit (Add x y) (values_in (declared_held table_kind old)) × ((entity table : ℕ) → values_in (declared_held table_kind new) entity table ≡ applied (Add x y) (values_in (declared_held table_kind old)) entity table)
-added-step old new same x y may_x may_y fit done =
-    let own = declared old (table_id x) may_x in
-    let other = declared old (table_id y) may_y in (
-      subst (λ (o : Option (Only Pairs)). NoneUnfit (value_in o) (value_in (declared_held table_kind old (table_id y)))) (sym own) (subst (λ (o : Option (Only Pairs)). NoneUnfit (value_in (view_held table_kind old (table_id x))) (value_in o)) (sym other) fit),
-      λ entity table. remade-values (λ e value. with_sum value (value_in (view_held table_kind old (table_id y)) e)) x (declared_held table_kind old) (declared_held table_kind new) (λ e nothing. refl)
-          (declared-remade old new same (λ e value. with_sum value (value_in (view_held table_kind old (table_id y)) e)) x may_x done) entity table
-          ∙ ap (λ o. cond (x == table) (with_sum (values_in (declared_held table_kind old) entity x) (value_in o entity)) (values_in (declared_held table_kind old) entity table)) (sym other),
+-- where the rule was applied to its tables, and all that it makes fits
+pub made-step : (old new : View (Only Pairs)) → IsSameView old new → (rule : Meaning) (x y : ℕ) → x ≡ rule.written → y ≡ rule.read → may_read old (table_id rule.written) ≡ true → may_read old (table_id rule.read) ≡ true → NoneUnfitIn rule.made x y old → MakesIn rule.made x y old new
+    → AllMadeFit rule (values_in (declared_held table_kind old)) × ((entity table : ℕ) → values_in (declared_held table_kind new) entity table ≡ applied rule (values_in (declared_held table_kind old)) entity table)
+made-step old new same rule x y written read may_written may_read unfit makes =
+    let fit = subst₂ (λ (a b : ℕ). NoneUnfitIn rule.made a b old) written read unfit in
+    let done = subst₂ (λ (a b : ℕ). MakesIn rule.made a b old new) written read makes in
+    let own = declared old (table_id rule.written) may_written in
+    let other = declared old (table_id rule.read) may_read in
+    let beside = view_held table_kind old (table_id rule.read) in (
+      subst (λ (o : Option (Only Pairs)). NoneUnfit rule.made (value_in o) (value_in (declared_held table_kind old (table_id rule.read)))) (sym own) (subst (λ (o : Option (Only Pairs)). NoneUnfit rule.made (value_in (view_held table_kind old (table_id rule.written))) (value_in o)) (sym other) fit),
+      λ entity table. remade-values (λ e value. made_beside rule.made value (value_in beside e)) rule.written (declared_held table_kind old) (declared_held table_kind new) (λ e nothing. refl)
+          (declared-remade old new same (λ e value. made_beside rule.made value (value_in beside e)) rule.written may_written done) entity table
+          ∙ ap (λ o. cond (rule.written == table) (made_beside rule.made (values_in (declared_held table_kind old) entity rule.written) (value_in o entity)) (values_in (declared_held table_kind old) entity table)) (sym other),
     )
 
--- where all of a table were set
-pub set-step : (old new : View (Only Pairs)) → IsSameView old new → (x : ℕ) (value : ℤ) → may_read old (table_id x) ≡ true → IsRemade (λ entity had. with_constant value had) x (view_held table_kind old) (view_held table_kind new)
-    → (entity table : ℕ) → values_in (declared_held table_kind new) entity table ≡ applied (Set x value) (values_in (declared_held table_kind old)) entity table
-set-step old new same x value may done = remade-values (λ entity had. with_constant value had) x (declared_held table_kind old) (declared_held table_kind new) (λ e nothing. refl) (declared-remade old new same (λ entity had. with_constant value had) x may done)
+-- where it was refused
+pub least-step : (old : View (Only Pairs)) (rule : Meaning) (x y entity : ℕ) → x ≡ rule.written → y ≡ rule.read → may_read old (table_id rule.written) ≡ true → may_read old (table_id rule.read) ≡ true → IsLeastUnfitIn rule.made x y old entity
+    → IsFirstOverflow rule (values_in (declared_held table_kind old)) entity
+least-step old rule x y entity written read may_written may_read unfit =
+    let least = subst₂ (λ (a b : ℕ). IsLeastUnfitIn rule.made a b old entity) written read unfit in
+    subst (λ (o : Option (Only Pairs)). IsLeastUnfit rule.made (value_in o) (value_in (declared_held table_kind old (table_id rule.read))) entity) (sym (declared old (table_id rule.written) may_written))
+    (subst (λ (o : Option (Only Pairs)). IsLeastUnfit rule.made (value_in (view_held table_kind old (table_id rule.written))) (value_in o) entity) (sym (declared old (table_id rule.read) may_read)) least)

@@ -1,5 +1,5 @@
 -- What stays so where a live entity is given a value in a table that is there, or is refused it.
-use Rattle.std.proofs.Common.{◌≡◌, ℕ, ℤ, ◌==◌, Bool, true, false, cond, Option, Some, None, Result, Ok, Err, refl, sym, ◌∙◌, ap, arith}
+use Rattle.std.proofs.Common.{◌≡◌, ℕ, ℤ, ◌==◌, Bool, true, false, cond, Option, Some, None, Result, Ok, Err, refl, sym, ◌∙◌, ap, subst, arith}
 use Rattle.std.specs.Prelude.{IsSome, OnErr, OnOk, is_some}
 use Rattle.std.proofs.lemmas.Bool.Decides.{nat_tests}
 use Rattle.shred_table.specs.declared.id.ResourceId.{ResourceId}
@@ -31,3 +31,16 @@ module _ (entity table : ℕ) (value : ℤ) (before after : Held (Only Pairs)) w
       told true e false f some = only other table (sym (ap is_some (remade-values given table before after nothing remade other column ∙ (λ i. cond (e i) (cond (f i) (Some value) (values_in before other table)) (values_in before other column)))) ∙ some)
       told false e c f some = only other column (sym (ap is_some (remade-values given table before after nothing remade other column ∙ (λ i. cond (e i) (given other (values_in before other table)) (values_in before other column)))) ∙ some)
     kept-live (Err error) remade unchanged other column some = only other column (sym (ap is_some (ap (λ o. value_in o other) (unchanged (table_id column)))) ∙ some)
+
+-- a value that is left where those of an entity were taken from a table was there
+pub left-was-there : (entity table : ℕ) (before after : Held (Only Pairs)) → IsRemade (λ other old. cond (entity == other) None old) table before after → (other column : ℕ) → IsSome (values_in after other column) → IsSome (values_in before other column)
+left-was-there entity table before after remade other column some =
+    told (table == column) refl (entity == other) (subst IsSome (remade-values (λ e old. cond (entity == e) None old) table before after (λ e nothing. none (entity == e)) remade other column) some) where
+      none : (b : Bool) → ◌≡◌ {A = Option ℤ} (cond b None None) None
+      none true = refl
+      none false = refl
+
+      told : (b : Bool) → (table == column) ≡ b → (c : Bool) → IsSome (cond b (cond c None (values_in before other table)) (values_in before other column)) → IsSome (values_in before other column)
+      told true e true some = absurd (let no : false ≡ true = some in cc)
+      told true e false some = let same : table ≡ column = grind (arith, nat_tests) in subst (λ (t : ℕ). IsSome (values_in before other t)) same some
+      told false e c some = some

@@ -1,6 +1,7 @@
 -- What a store has: its facts, the number of the next entity, and how many tables there are.
-use Rattle.std.specs.Prelude.{◌≡◌, ◌+◌, ◌==◌, ◌&&◌, ℕ, ℤ, true, false, cond, Some, None, ◌<◌, ◌-◌, ◌^◌}
+use Rattle.std.specs.Prelude.{◌≡◌, ◌+◌, ◌==◌, ◌&&◌, ℕ, ℤ, true, false, cond, Some, None, IsSome, ◌<◌, ◌-◌, ◌^◌}
 use Rattle.shredstore.specs.Facts.{Facts}
+use Rattle.shredstore.specs.Rows.{Pairs, value_at}
 use Rattle.shredstore.specs.declared.error.StoreError.{StoreError}
 use Rattle.shredstore.specs.declared.error.StoreError.TheVariants.{OutOfMemory as NoMemory}
 
@@ -45,6 +46,20 @@ pub record IsValueSet (old new : Contents) (entity table : ℕ) (number : ℤ) :
   pub next : new.next ≡ old.next
   pub tables : new.tables ≡ old.tables
 
+-- The entity has no value in the table; all else stays.
+pub record IsValueRemoved (old new : Contents) (entity table : ℕ) : Type 0 where
+  pub live : (other : ℕ) → new.facts.live other ≡ old.facts.live other
+  pub value : (other column : ℕ) → new.facts.value other column ≡ cond (table == column && entity == other) None (old.facts.value other column)
+  pub next : new.next ≡ old.next
+  pub tables : new.tables ≡ old.tables
+
+-- No entity is live, and none has a value; the next number and the number of tables stay.
+pub record IsCleared (old new : Contents) : Type 0 where
+  pub live : (entity : ℕ) → new.facts.live entity ≡ false
+  pub value : (entity table : ℕ) → new.facts.value entity table ≡ None
+  pub next : new.next ≡ old.next
+  pub tables : new.tables ≡ old.tables
+
 -- The same entities are live, and the next number and the number of tables stay.
 pub record KeepsEntities (old new : Contents) : Type 0 where
   pub live : (entity : ℕ) → new.facts.live entity ≡ old.facts.live entity
@@ -66,3 +81,11 @@ IsDead contents entity = contents.facts.live entity ≡ false
 -- there is a number for one more entity
 abbrev pub HasNumberLeft : Contents → Type 0
 HasNumberLeft contents = contents.next ≡ 2 ^ 64 - 1 → ⊥
+
+-- each entity has in these rows just what it has in the table
+abbrev pub HasRows : Contents → ℕ → Pairs → Type 0
+HasRows contents table rows = (entity : ℕ) → value_at rows entity ≡ contents.facts.value entity table
+
+-- the entities of these rows are live, and below the next number
+abbrev pub AreOfEntities : Contents → Pairs → Type 0
+AreOfEntities contents rows = (entity : ℕ) → IsSome (value_at rows entity) → (contents.facts.live entity ≡ true) × (entity < contents.next)

@@ -2,6 +2,8 @@ pub mod Contents
 pub mod EntityFacts
 pub mod Facts
 pub mod Held
+pub mod Joins
+pub mod Meaning
 pub mod Plans
 pub mod Rows
 pub mod RuleSteps

@@ -1,9 +1,8 @@
--- What a rule makes of the values of entities.
+-- What rules make of the values of entities.
 use Rattle.std.specs.Prelude.{ℕ, ℤ, ◌==◌, nat_lt, cond, List, [], ◌∷◌, Option, Some, None, ◌≡◌}
-use Rattle.shredstore.specs.declared.rule.StoreRule.{StoreRule}
-use Rattle.shredstore.specs.declared.rule.StoreRule.TheVariants.{Add, Set}
 use Rattle.shredstore.specs.Facts.{Values}
-use Rattle.shredstore.specs.Rows.{IsLeastUnfit, NoneUnfit, with_constant, with_sum}
+use Rattle.shredstore.specs.Meaning.{Meaning}
+use Rattle.shredstore.specs.Rows.{IsLeastUnfit, NoneUnfit, made_beside}
 use Rattle.shredstore.specs.Contents.{Contents}
 
 -- what the entities have in one table
@@ -14,41 +13,38 @@ in_table value table entity = value entity table
 abbrev pub with_table : Values → ℕ → (ℕ → Option ℤ) → Values
 with_table value table column entity other = cond (table == other) (column entity) (value entity other)
 
--- `Add(x, y)`: each entity with values in x and y gets in x the sum. `Set(x, c)`: each entity with a value in x gets c.
-abbrev pub applied : StoreRule → Values → Values
-applied (Add x y) value = with_table value x (λ entity. with_sum (value entity x) (value entity y))
-applied (Set x c) value = with_table value x (λ entity. with_constant c (value entity x))
+-- each entity with a value in both tables of the rule has in the first what is made of the two
+abbrev pub applied : Meaning → Values → Values
+applied rule value = with_table value rule.written (λ entity. made_beside rule.made (value entity rule.written) (value entity rule.read))
 
--- each sum fits
-abbrev pub AllSumsFit : StoreRule → Values → Type 0
-AllSumsFit (Add x y) value = NoneUnfit (in_table value x) (in_table value y)
-AllSumsFit (Set x c) value = Unit {0}
+-- all that is made fits
+abbrev pub AllMadeFit : Meaning → Values → Type 0
+AllMadeFit rule value = NoneUnfit rule.made (in_table value rule.written) (in_table value rule.read)
 
--- the sum of this entity does not fit, and it is the least such entity
-abbrev pub IsFirstOverflow : StoreRule → Values → ℕ → Type 0
-IsFirstOverflow (Add x y) value entity = IsLeastUnfit (in_table value x) (in_table value y) entity
-IsFirstOverflow (Set x c) value entity = ⊥
-
--- the rules, applied one after the other in this order
-abbrev pub applied_all : List StoreRule → Values → Values
-applied_all [] value = value
-applied_all (rule ∷ rules) value = applied_all rules (applied rule value)
+-- what is made for this entity does not fit, and it is the least such entity
+abbrev pub IsFirstOverflow : Meaning → Values → ℕ → Type 0
+IsFirstOverflow rule value entity = IsLeastUnfit rule.made (in_table value rule.written) (in_table value rule.read) entity
 
 -- the first table of the rule that is not among so many
-abbrev pub missing : ℕ → StoreRule → Option ℕ
-missing tables (Add x y) = cond (nat_lt x tables) (cond (nat_lt y tables) None (Some y)) (Some x)
-missing tables (Set x c) = cond (nat_lt x tables) None (Some x)
+abbrev pub missing : ℕ → Meaning → Option ℕ
+missing tables rule = cond (nat_lt rule.written tables) (cond (nat_lt rule.read tables) None (Some rule.read)) (Some rule.written)
 
 -- the first one, or else the second
 abbrev pub first_of : Option ℕ → Option ℕ → Option ℕ
 first_of (Some table) other = Some table
 first_of None other = other
 
--- the first table that is not among so many, of the first rule that has one
-abbrev pub first_missing : ℕ → List StoreRule → Option ℕ
-first_missing tables [] = None
-first_missing tables (rule ∷ rules) = first_of (missing tables rule) (first_missing tables rules)
+module _ {R : Type 0} (meaning : R → Meaning) where
+  -- the rules, applied one after the other in this order
+  abbrev pub applied_all : List R → Values → Values
+  applied_all [] value = value
+  applied_all (rule ∷ rules) value = applied_all rules (applied (meaning rule) value)
 
--- the store has after what the rules, applied in this order, make of what it had
-abbrev pub AppliesAll : List StoreRule → (old new : Contents) → Type 0
-AppliesAll rules old new = (entity table : ℕ) → new.facts.value entity table ≡ applied_all rules old.facts.value entity table
+  -- the first table that is not among so many, of the first rule that has one
+  abbrev pub first_missing : ℕ → List R → Option ℕ
+  first_missing tables [] = None
+  first_missing tables (rule ∷ rules) = first_of (missing tables (meaning rule)) (first_missing tables rules)
+
+  -- the store has after what the rules, applied in this order, make of what it had
+  abbrev pub AppliesAll : List R → (old new : Contents) → Type 0
+  AppliesAll rules old new = (entity table : ℕ) → new.facts.value entity table ≡ applied_all rules old.facts.value entity table

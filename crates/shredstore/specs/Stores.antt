@@ -1,21 +1,26 @@
 -- What a store has, and what its rules stand in.
 use Rattle.std.specs.Prelude.{List}
 use Rattle.shred.specs.Dispatchers.{dispatcher_over}
-use Rattle.shredstore.specs.declared.rule.StoreRule.{StoreRule}
-use Rattle.shredstore.specs.declared.store.Store.{Store}
+use Rattle.shred.specs.declared.dispatch.dispatcher.Dispatcher.{Dispatcher}
+use Rattle.shred_run.specs.declared.no_batch.NoBatch.{NoBatch}
+use Rattle.shred_run.specs.declared.now.Now.{Now}
+use Rattle.shred_table.specs.declared.only.Only.{Only}
+use Rattle.shredstore.specs.declared.rule.Overflow.{Overflow}
+use Rattle.shredstore.specs.declared.store.StoreOver.{StoreOver}
 use Rattle.shredstore.specs.Contents as contents
 use Rattle.shredstore.specs.EntityFacts as entities
-use Rattle.shredstore.specs.Plans.{RulesOver}
+use Rattle.shredstore.specs.Plans.{RuleState, RulesOver}
+use Rattle.shredstore.specs.Rows.{Pairs}
 use Rattle.shredstore.specs.Tables.{table_kind}
 
 -- its facts, the number of the next entity, and how many tables there are
-abbrev pub contents_of : Store → contents.Contents
+abbrev pub contents_of : {R D : Type 0} {dd : _} → StoreOver R D dd → contents.Contents
 contents_of store = entities.contents_in store.entities
 
 -- its rules, in order
-abbrev pub rules_of : Store → List StoreRule
+abbrev pub rules_of : {R D : Type 0} {dd : _} → StoreOver R D dd → List R
 rules_of store = store.rules.items
 
 -- the plan of its rules, over its tables
-abbrev pub situation_of : Store → RulesOver
-situation_of store = dispatcher_over table_kind store.dispatcher store.entities.world
+abbrev pub situation_of : {R N A M B : Type 0} {vd : _} {sd : _} {ad : _} {cd : _} {bd : _} {dd : _} → StoreOver R (Dispatcher (Only Pairs) (RuleState R) (NoBatch Overflow) (Now (RuleState R)) N A M B vd sd ad cd bd) dd → RulesOver R
+situation_of store = dispatcher_over table_kind store.runner store.entities.world

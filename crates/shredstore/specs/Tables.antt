@@ -1,5 +1,5 @@
 -- Tables of rows, held under ids of kind 0, each under its own number.
-use Rattle.std.specs.Prelude.{◌≡◌, ℕ, ℤ, Option, Some, None, MatchOption, ◌&&◌, ◌==◌, cond, nat_lt}
+use Rattle.std.specs.Prelude.{◌≡◌, ℕ, ℤ, Bool, Option, Some, None, MatchOption, ◌&&◌, cond, nat_lt}
 use Rattle.shred_table.specs.Id.{id_of}
 use Rattle.shred_table.specs.Only.{only_kind}
 use Rattle.shred_table.specs.Slots.{with_at}
@@ -8,7 +8,7 @@ use Rattle.shred_table.specs.declared.id.ResourceId.{ResourceId}
 use Rattle.shred_table.specs.declared.only.Only.{Only}
 use Rattle.shred_world.specs.Worked.{Held}
 use Rattle.shredstore.specs.Facts.{Values}
-use Rattle.shredstore.specs.Rows.{Pairs, value_at}
+use Rattle.shredstore.specs.Rows.{IsLeastUnfit, NoneUnfit, Pairs, made_beside, value_at}
 use Rattle.shred_world.specs.declared.world.World.{World}
 use Rattle.shred_world.specs.declared.world.view.View.{View}
 use Rattle.shred_world.specs.Views.{view_held}
@@ -49,10 +49,22 @@ column_in view table entity = value_in (view_held table_kind view (table_id tabl
 abbrev pub IsRemadeIn : (ℕ → Option ℤ → Option ℤ) → ℕ → View (Only Pairs) → View (Only Pairs) → Type 0
 IsRemadeIn made table old new = IsRemade made table (view_held table_kind old) (view_held table_kind new)
 
+-- what is made of the values that each entity has in both tables, as the view shows them, fits
+abbrev pub NoneUnfitIn : (ℤ → ℤ → ℤ) → ℕ → ℕ → View (Only Pairs) → Type 0
+NoneUnfitIn made x y view = NoneUnfit made (column_in view x) (column_in view y)
+
+-- for this entity it does not, and it is the least of those
+abbrev pub IsLeastUnfitIn : (ℤ → ℤ → ℤ) → ℕ → ℕ → View (Only Pairs) → ℕ → Type 0
+IsLeastUnfitIn made x y view entity = IsLeastUnfit made (column_in view x) (column_in view y) entity
+
+-- each entity has in the first table what is made of its value there and of that in the second
+abbrev pub MakesIn : (ℤ → ℤ → ℤ) → ℕ → ℕ → View (Only Pairs) → View (Only Pairs) → Type 0
+MakesIn made x y old new = IsRemadeIn (λ entity value. made_beside made value (column_in old y entity)) x old new
+
 -- `IsRemade`, of what a world holds before and after
 abbrev pub IsWorldRemade : (ℕ → Option ℤ → Option ℤ) → ℕ → World (Only Pairs) → World (Only Pairs) → Type 0
 IsWorldRemade made table old new = IsRemade made table (world_held table_kind old) (world_held table_kind new)
 
--- the entity has a value in none of so many tables, and each other value stays
-abbrev pub IsRemovedFrom : ℕ → ℕ → World (Only Pairs) → World (Only Pairs) → Type 0
-IsRemovedFrom tables entity old new = (other table : ℕ) → values_in (world_held table_kind new) other table ≡ cond (nat_lt table tables && entity == other) None (values_in (world_held table_kind old) other table)
+-- the entities of which this is so have a value in none of the first so many tables, and each other value stays
+abbrev pub AreTakenFrom : ℕ → (ℕ → Bool) → World (Only Pairs) → World (Only Pairs) → Type 0
+AreTakenFrom tables taken old new = (other table : ℕ) → values_in (world_held table_kind new) other table ≡ cond (nat_lt table tables && taken other) None (values_in (world_held table_kind old) other table)

@@ -13,12 +13,11 @@ use Rattle.shred_stage.specs.declared.dispatch.dispatch_error.DispatchError.TheV
 use Rattle.shredstore.specs.declared.error.TickError.{TickError}
 use Rattle.shredstore.specs.declared.error.TickError.TheVariants.{Memory, Overflow, RuleMemory}
 use Rattle.shredstore.specs.declared.rule.Overflow as rule
-use Rattle.shredstore.specs.Plans.{RulesOver, rule_relations}
+use Rattle.shredstore.specs.Meaning.{Meaning}
+use Rattle.shredstore.specs.Plans.{RuleState, RulesOver, rule_relations, rule_state}
 use Rattle.shredstore.specs.Rows.{Pairs}
 use Rattle.shredstore.specs.Rules.{IsFirstOverflow}
 use Rattle.shredstore.specs.Tables.{table_kind, values_in}
-use Rattle.shredstore.specs.declared.rule.StoreRule.{StoreRule}
-use Rattle.shred.specs.declared.plain.Plain.{Plain}
 use Rattle.shred_table.specs.declared.id.ResourceId.{ResourceId}
 use Rattle.shred_table.specs.declared.only.Only.{Only}
 
@@ -29,8 +28,8 @@ IsOfSystems (Err (System id fault)) = Unit {0}
 IsOfSystems (Err refused) = ⊥
 
 -- the plan of the rules was dispatched, with this answer
-abbrev pub RulesDispatched : RulesOver → Answer (DispatchError rule.Overflow) → RulesOver → Type 0
-RulesDispatched before answer after = Dispatched table_kind rule_relations dispatch_answer before answer after
+abbrev pub RulesDispatched : {R : Type 0} → (R → Meaning) → RulesOver R → Answer (DispatchError rule.Overflow) → RulesOver R → Type 0
+RulesDispatched meaning before answer after = Dispatched table_kind (rule_relations meaning) dispatch_answer before answer after
 
 -- what a tick tells of a dispatch's refusal: a rule's place is the id of its system; thread-local systems there are none
 abbrev pub TellsError : DispatchError rule.Overflow → TickError → Type 0
@@ -46,27 +45,28 @@ Tells (Err refused) (Ok done) = ⊥
 Tells (Err refused) (Err error) = TellsError refused error
 
 -- a step of a rule
-abbrev pub RuleRecord : Type 0
-RuleRecord = NestedRecord (Only Pairs) (Plain StoreRule) (NoBatch rule.Overflow) rule.Overflow
+abbrev pub RuleRecord : Type 0 → Type 0
+RuleRecord R = NestedRecord (Only Pairs) (RuleState R) (NoBatch rule.Overflow) rule.Overflow
 
--- The rule at this place took one of the steps, in the entry of the plan whose id is the place, and was refused for the entity. Of the values that it saw there, that is the least whose sum does not fit.
-pub record IsOverflowOf (rules : List StoreRule) (plan : Plan ResourceId) (list : List RuleRecord) (place entity : ℕ) : Type 0 where
-  pub below : place < length rules
-  pub own : StoreRule
-  pub at : slice_get rules place ≡ Some own
-  pub r : RuleRecord
-  pub among : Contains list r
-  pub entry : PlanEntry ResourceId
-  pub stands : entry_at plan r.agent ≡ Some entry
-  pub id : entry.id ≡ place
-  pub its : r.before ≡ of_system (record { 0 = own })
-  pub ended : r.outcome ≡ Err (Refused (record { entity = entity }))
-  pub first : IsFirstOverflow own (values_in r.seen) entity
+module _ {R : Type 0} (meaning : R → Meaning) where
+  -- The rule at this place took one of the steps, in the entry of the plan whose id is the place, and was refused for the entity. Of the values that it saw there, that is the least for which what is made does not fit.
+  pub record IsOverflowOf (rules : List R) (plan : Plan ResourceId) (list : List (RuleRecord R)) (place entity : ℕ) : Type 0 where
+    pub below : place < length rules
+    pub own : R
+    pub at : slice_get rules place ≡ Some own
+    pub r : RuleRecord R
+    pub among : Contains list r
+    pub entry : PlanEntry ResourceId
+    pub stands : entry_at plan r.agent ≡ Some entry
+    pub id : entry.id ≡ place
+    pub its : r.before ≡ of_system (rule_state own)
+    pub ended : r.outcome ≡ Err (Refused (record { entity = entity }))
+    pub first : IsFirstOverflow (meaning own) (values_in r.seen) entity
 
--- The plan of the rules was dispatched, and this was told of its answer; an `Overflow` is one of the rule that it names, and no rule wants memory.
-pub record IsTick (rules : List StoreRule) (before : RulesOver) (result : Answer TickError) (after : RulesOver) : Type 0 where
-  pub answer : Answer (DispatchError rule.Overflow)
-  pub dispatch : RulesDispatched before answer after
-  pub tells : Tells answer result
-  pub overflow : (place entity : ℕ) → result ≡ Err (Overflow place entity) → ∥ IsOverflowOf rules before.plan dispatch.list place entity ∥₁
-  pub no_want : (place : ℕ) → result ≡ Err (RuleMemory place) → ⊥
+  -- The plan of the rules was dispatched, and this was told of its answer; an `Overflow` is one of the rule that it names, and no rule wants memory.
+  pub record IsTick (rules : List R) (before : RulesOver R) (result : Answer TickError) (after : RulesOver R) : Type 0 where
+    pub answer : Answer (DispatchError rule.Overflow)
+    pub dispatch : RulesDispatched meaning before answer after
+    pub tells : Tells answer result
+    pub overflow : (place entity : ℕ) → result ≡ Err (Overflow place entity) → ∥ IsOverflowOf rules before.plan dispatch.list place entity ∥₁
+    pub no_want : (place : ℕ) → result ≡ Err (RuleMemory place) → ⊥

@@ -5,8 +5,10 @@ ghost use Rattle.shredstore.specs.Contents.{IsWithoutSpace, HasNoTable, IsDead, 
 use crate::entity::Entity;
 use crate::error::StoreError;
 use crate::rows::Rows;
-use crate::tables::{empty_tables, remove_everywhere, set_in, value_in};
-use shred::{Only, OutOfMemory, World};
+use crate::tables::{
+    clear_everywhere, empty_tables, remove_everywhere, remove_in, rows_of, set_in, value_in,
+};
+use shred::{Fetch, Only, OutOfMemory, World};
 use std::alloc::Global;
 use std::collections::BTreeSet;
 
@@ -23,10 +25,11 @@ pub struct Entities {
 }
 
 impl Entities {
+    ghost use Rattle.shred_world.specs.Fetched.{fetched};
     ghost use Rattle.std.specs.Prelude.{◌≡◌, ◌↔◌, ◌<◌, ◌-◌, ◌^◌, true, false, Err, IfErr, IfOk, OnErr, OnOk};
-    ghost use Rattle.shredstore.specs.Contents.{IsCreated, IsDeleted, IsEmpty, IsSame, IsValueSet};
+    ghost use Rattle.shredstore.specs.Contents.{AreOfEntities, HasRows, IsCleared, IsCreated, IsDeleted, IsEmpty, IsSame, IsValueRemoved, IsValueSet};
     ghost use Rattle.shredstore.specs.EntityFacts.{contents_in};
-    ghost use Rattle.shredstore.specs.Facts.{OnlyLive};
+    ghost use Rattle.shredstore.specs.Facts.{OnlyLive, live_below};
     ghost use Rattle.shredstore.specs.declared.error.StoreError.TheVariants.{EntitiesExhausted, NoSuchEntity, NoSuchTable, OutOfMemory as NoMemory};
 
     /// No entity is live, and there are so many tables.
@@ -102,5 +105,48 @@ impl Entities {
         ensures only_live { OnlyLive (contents_in self.now).facts.live (contents_in self.now).facts.value }
     {
         value_in(&self.world, table, entity.0)
+    }
+
+    /// Whether the entity is live.
+    pub fn is_live(&self, entity: Entity) -> bool
+        ensures { result ≡ (contents_in self.now).facts.live entity.0 }
+    {
+        self.live.contains(&entity.0)
+    }
+
+    /// How many entities are live.
+    pub fn len(&self) -> usize
+        ensures { result ≡ live_below (contents_in self.now).facts.live (contents_in self.now).next }
+    {
+        self.live.len()
+    }
+
+    /// Takes away the value of an entity in a table, and answers it, if it had one there.
+    pub fn remove(&mut self, entity: Entity, table: u64) -> Option<i64>
+        ensures had { result ≡ (contents_in self.old).facts.value entity.0 table }
+        ensures removed { IsValueRemoved (contents_in self.old) (contents_in self.new) entity.0 table }
+    {
+        remove_in(&mut self.world, table, entity.0)
+    }
+
+    /// No entity is live from now on. Their numbers are not used again.
+    pub fn clear(&mut self)
+        ensures { IsCleared (contents_in self.old) (contents_in self.new) }
+    {
+        clear_everywhere(&mut self.world, self.tables);
+        self.live.clear();
+    }
+
+    /// The rows of a table, to be gone over. `NoSuchTable` where it is not there.
+    pub fn rows(&self, table: u64) -> Result<Fetch<'_, Rows>, StoreError>
+        ensures rows { IfOk result (λ rows. HasRows (contents_in self.now) table (fetched rows)) }
+        ensures entities { IfOk result (λ rows. AreOfEntities (contents_in self.now) (fetched rows)) }
+        ensures no_such_table { HasNoTable (contents_in self.now) table ↔ (result ≡ Err (NoSuchTable table)) }
+        ensures refused { IfErr result (λ error. error ≡ NoSuchTable table) }
+    {
+        match rows_of(&self.world, table) {
+            Some(rows) => Ok(rows),
+            None => Err(StoreError::NoSuchTable { table }),
+        }
     }
 }

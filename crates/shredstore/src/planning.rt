@@ -5,39 +5,54 @@ ghost use Rattle.shred.specs.Dispatchers.{dispatcher_with};
 ghost use Rattle.shredstore.specs.Plans.{IsAddedRule, IsPlanned, RunsOverAny};
 
 use crate::rows::Rows;
-use crate::rule::StoreRule;
+use crate::rule_system::RuleSystem;
+use crate::table_rule::TableRule;
 use shred::{Dispatcher, DispatcherBuilder, Only, OutOfMemory, Plain, Rule};
 use std::alloc::Global;
 
 /// What plans a store's rules.
-type RuleBuilder = DispatcherBuilder<Only<Rows>, Plain<StoreRule>>;
+type RuleBuilder<R> = DispatcherBuilder<Only<Rows>, Plain<RuleSystem<R>>>;
 
 /// What runs them.
-pub(crate) type RuleDispatcher = Dispatcher<Only<Rows>, Plain<StoreRule>>;
+pub type RuleDispatcher<R> = Dispatcher<Only<Rows>, Plain<RuleSystem<R>>>;
+
+/// What runs rules.
+pub trait RunsRules<R> {
+    ghost use Rattle.std.specs.Prelude.{List};
+
+    ghost runs: { Self → List R → Type 0 };
+}
+
+impl<R: TableRule> RunsRules<R> for RuleDispatcher<R> {
+    ghost use Rattle.shred.specs.Dispatchers.{dispatcher_with};
+    ghost use Rattle.shredstore.specs.Plans.{RunsOverAny};
+
+    ghost runs = { λ dispatcher rules. RunsOverAny R.meaning rules (dispatcher_with dispatcher) };
+}
 
 // A builder that keeps the order of addition, without rules.
-fn ordered_builder(alloc: Global) -> RuleBuilder
-    ensures { IsPlanned [] (built result) }
+fn ordered_builder<R: TableRule>(alloc: Global) -> RuleBuilder<R>
+    ensures { IsPlanned R.meaning [] (built result) }
 {
-    match RuleBuilder::new(alloc).with_rule(Rule::Ordered) {
+    match RuleBuilder::<R>::new(alloc).with_rule(Rule::Ordered) {
         Ok(builder) => builder,
         Err(_) => unreachable!(),
     }
 }
 
 // Adds one rule, without a name.
-fn add_rule(builder: &mut RuleBuilder, rule: StoreRule) -> Result<(), OutOfMemory>
-    ensures { OnOk result (IsAddedRule rule (built builder.old) (built builder.new)) }
+fn add_rule<R: TableRule>(builder: &mut RuleBuilder<R>, rule: R) -> Result<(), OutOfMemory>
+    ensures { OnOk result (IsAddedRule R.meaning rule (built builder.old) (built builder.new)) }
 {
-    match builder.add(Plain(rule), "", &[]) {
+    match builder.add(Plain(RuleSystem(rule)), "", &[]) {
         Ok(_) => Ok(()),
         Err(_) => Err(OutOfMemory),
     }
 }
 
 // A builder with these rules, in order.
-fn builder_of(alloc: Global, rules: &[StoreRule]) -> Result<RuleBuilder, OutOfMemory>
-    ensures { IfOk result (λ builder. IsPlanned rules.now (built builder)) }
+fn builder_of<R: TableRule>(alloc: Global, rules: &[R]) -> Result<RuleBuilder<R>, OutOfMemory>
+    ensures { IfOk result (λ builder. IsPlanned R.meaning rules.now (built builder)) }
 {
     let mut builder = ordered_builder(alloc);
     for rule in rules {
@@ -47,11 +62,11 @@ fn builder_of(alloc: Global, rules: &[StoreRule]) -> Result<RuleBuilder, OutOfMe
 }
 
 /// A dispatcher that runs these rules in order.
-pub(crate) fn dispatcher_of(
+pub(crate) fn dispatcher_of<R: TableRule>(
     alloc: Global,
-    rules: &[StoreRule],
-) -> Result<RuleDispatcher, OutOfMemory>
-    ensures { IfOk result (λ dispatcher. RunsOverAny rules.now (dispatcher_with dispatcher)) }
+    rules: &[R],
+) -> Result<RuleDispatcher<R>, OutOfMemory>
+    ensures { IfOk result (λ dispatcher. RunsOverAny R.meaning rules.now (dispatcher_with dispatcher)) }
 {
     Ok(builder_of(alloc, rules)?.build())
 }

@@ -1,8 +1,13 @@
 //! The rows of a table.
-ghost use Rattle.std.specs.Prelude.{◌≡◌, ℕ, [], None, Some, IfErr, IfOk, IfSome, OnErr, IfNone, OnOk};
+ghost use Rattle.std.specs.Prelude.{◌≡◌, [], length, None, Some, IfErr, IfOk, IfSome, OnErr, IfNone, OnOk};
 ghost use Rattle.std.specs.Bool.{OnFalse, OnTrue};
-ghost use Rattle.shredstore.specs.Rows.{AllFit, AllFitTwice, IsAscending, IsAt, IsChangedAt, IsRowGap, IsLeastUnfit, IsUnfit, NoneUnfit, Pairs, each_row, plus, value_at, with_constant, AreSums};
+ghost use Rattle.shredstore.specs.Joins.{AreRowsOf, both_of};
+ghost use Rattle.shredstore.specs.Rows.{AllFit, AllFitTwice, AreMade, IsAscending, IsAt, IsChangedAt, IsRowGap, IsLeastUnfit, IsUnfit, NoneUnfit, Pairs, each_row, row_made, value_at};
 
+use crate::ahead::Ahead;
+use crate::joined::Joined;
+use crate::table_rule::TableRule;
+use crate::values::Values;
 use shred::OutOfMemory;
 use std::alloc::Global;
 use std::marker::Model;
@@ -22,62 +27,58 @@ impl Model for Rows {
     ghost invariant = { λ rows. IsAscending rows.pairs.items };
 }
 
-// Whether the row's value and the other one, if there is one, have a sum that fits.
-fn sum_fits(row: (u64, i64), more: Option<i64>) -> bool
-    ensures fits { OnTrue result (IsUnfit (Some row.1) more → ⊥) }
-    ensures unfit { OnFalse result (IsUnfit (Some row.1) more) }
+// Whether what is made of the row's value and of the one beside it, if there is one, fits.
+fn fits<R: TableRule>(rule: &R, row: (u64, i64), beside: Option<i64>) -> bool
+    ensures fits { OnTrue result (IsUnfit (R.meaning rule.now).made (Some row.1) beside → ⊥) }
+    ensures unfit { OnFalse result (IsUnfit (R.meaning rule.now).made (Some row.1) beside) }
 {
-    match more {
-        Some(more) => row.1.checked_add(more).is_some(),
+    match beside {
+        Some(beside) => rule.make(row.1, beside).is_some(),
         None => true,
     }
 }
 
-// The row with the other value added, if there is one.
-fn summed(row: (u64, i64), more: Option<i64>) -> (u64, i64)
-    requires { IsUnfit (Some row.1) more → ⊥ }
-    ensures { result ≡ (row.0, plus row.1 more) }
+// The row with what is made of its value and of the one beside it, if there is one.
+fn made<R: TableRule>(rule: &R, row: (u64, i64), beside: Option<i64>) -> (u64, i64)
+    requires { IsUnfit (R.meaning rule.now).made (Some row.1) beside → ⊥ }
+    ensures { result ≡ (row.0, row_made (R.meaning rule.now).made row.1 beside) }
 {
-    match more {
-        Some(more) => (row.0, row.1 + more),
-        None => row,
+    let Some(beside) = beside else {
+        return row;
+    };
+    match rule.make(row.1, beside) {
+        Some(value) => (row.0, value),
+        None => unreachable!(),
     }
 }
 
-// The row with its value added to itself.
-fn doubled(row: (u64, i64)) -> (u64, i64)
-    requires { IsUnfit (Some row.1) (Some row.1) → ⊥ }
-    ensures { result ≡ (row.0, plus row.1 (Some row.1)) }
+// The row with what is made of its value twice.
+fn made_twice<R: TableRule>(rule: &R, row: (u64, i64)) -> (u64, i64)
+    requires { IsUnfit (R.meaning rule.now).made (Some row.1) (Some row.1) → ⊥ }
+    ensures { result ≡ (row.0, row_made (R.meaning rule.now).made row.1 (Some row.1)) }
 {
-    (row.0, row.1 + row.1)
+    made(rule, row, Some(row.1))
 }
 
-// Adds to each row's value that of the other rows for its entity, if there is one.
-fn add_to_each(pairs: &mut [(u64, i64)], other: &Rows)
-    requires { AllFit (value_at other.now) pairs.old }
-    ensures { pairs.new ≡ each_row (λ entity value. plus value (value_at other.now entity)) pairs.old }
+// Gives each row what is made of its value and of that of the other rows for its entity, if there is one.
+fn make_each<R: TableRule>(rule: &R, pairs: &mut [(u64, i64)], others: &Rows)
+    requires ascending { IsAscending pairs.old }
+    requires fit { AllFit (R.meaning rule.now).made (value_at others.now) pairs.old }
+    ensures { pairs.new ≡ each_row (λ entity value. row_made (R.meaning rule.now).made value (value_at others.now entity)) pairs.old }
 {
+    let mut ahead = others.ahead();
     for row in pairs.iter_mut() {
-        *row = summed(*row, other.value(row.0));
+        *row = made(rule, *row, ahead.value(row.0));
     }
 }
 
-// Adds each row's value to itself.
-fn double_each(pairs: &mut [(u64, i64)])
-    requires { AllFitTwice pairs.old }
-    ensures { pairs.new ≡ each_row (λ entity value. plus value (Some value)) pairs.old }
+// Gives each row what is made of its value twice.
+fn make_each_twice<R: TableRule>(rule: &R, pairs: &mut [(u64, i64)])
+    requires { AllFitTwice (R.meaning rule.now).made pairs.old }
+    ensures { pairs.new ≡ each_row (λ entity value. row_made (R.meaning rule.now).made value (Some value)) pairs.old }
 {
     for row in pairs.iter_mut() {
-        *row = doubled(*row);
-    }
-}
-
-// Gives each row this value.
-fn set_each(pairs: &mut [(u64, i64)], value: i64)
-    ensures { pairs.new ≡ each_row (λ entity old. value) pairs.old }
-{
-    for row in pairs.iter_mut() {
-        row.1 = value;
+        *row = made_twice(rule, *row);
     }
 }
 
@@ -108,6 +109,13 @@ impl Rows {
         }
     }
 
+    /// How many entities have a value.
+    pub fn len(&self) -> usize
+        ensures { result ≡ length self.now }
+    {
+        self.pairs.len()
+    }
+
     /// Gives the entity this value, and answers the one that it had. `OutOfMemory`, only where it had none; the rows are
     /// then as before.
     pub fn set(&mut self, entity: u64, value: i64) -> Result<Option<i64>, OutOfMemory>
@@ -128,49 +136,73 @@ impl Rows {
         }
     }
 
-    /// Takes away the entity's value, if it has one.
-    pub fn remove(&mut self, entity: u64)
-        ensures { IsChangedAt self.old self.new entity None }
+    /// Takes away the entity's value, and answers it, if it had one.
+    pub fn remove(&mut self, entity: u64) -> Option<i64>
+        ensures had { result ≡ value_at self.old entity }
+        ensures removed { IsChangedAt self.old self.new entity None }
     {
-        if let Ok(place) = self.place(entity) {
-            self.pairs.remove(place);
+        match self.place(entity) {
+            Ok(place) => Some(self.pairs.remove(place).1),
+            Err(_) => None,
         }
     }
 
-    /// The least entity whose value with that of the other rows added does not fit, if there is one.
-    pub fn least_unfit(&self, other: &Rows) -> Option<u64>
-        ensures least { IfSome result (IsLeastUnfit (value_at self.now) (value_at other.now)) }
-        ensures none { IfNone result (NoneUnfit (value_at self.now) (value_at other.now)) }
+    /// Takes away all values.
+    pub fn clear(&mut self)
+        ensures { self.new ≡ [] }
     {
+        self.pairs.clear();
+    }
+
+    /// The entities that have a value, and these, in ascending order of the entities.
+    pub fn values(&self) -> Values<'_>
+        ensures { AreRowsOf (value_at self.now) result }
+    {
+        Values::of(&self.pairs)
+    }
+
+    /// The entities that have a value here and in the other rows, and these, in ascending order of the entities.
+    pub fn joined<'rows>(&'rows self, others: &'rows Rows) -> Joined<'rows>
+        ensures { AreRowsOf (λ entity. both_of (value_at self.now entity) (value_at others.now entity)) result }
+    {
+        Joined::of(&self.pairs, &others.pairs)
+    }
+
+    /// The least entity of which what the rule makes does not fit, if there is one.
+    pub fn least_unfit<R: TableRule>(&self, rule: &R, others: &Rows) -> Option<u64>
+        ensures least { IfSome result (IsLeastUnfit (R.meaning rule.now).made (value_at self.now) (value_at others.now)) }
+        ensures none { IfNone result (NoneUnfit (R.meaning rule.now).made (value_at self.now) (value_at others.now)) }
+    {
+        let mut ahead = others.ahead();
         for row in self.pairs.iter() {
-            if !sum_fits(*row, other.value(row.0)) {
+            if !fits(rule, *row, ahead.value(row.0)) {
                 return Some(row.0);
             }
         }
         None
     }
 
-    /// Adds to each value that of the other rows for its entity, if there is one.
-    pub fn add(&mut self, other: &Rows)
-        requires { NoneUnfit (value_at self.old) (value_at other.now) }
-        ensures { AreSums self.old other.now self.new }
+    /// Gives each entity with a value here and in the other rows what the rule makes of these.
+    pub fn make<R: TableRule>(&mut self, rule: &R, others: &Rows)
+        requires { NoneUnfit (R.meaning rule.now).made (value_at self.old) (value_at others.now) }
+        ensures { AreMade (R.meaning rule.now).made self.old others.now self.new }
     {
-        add_to_each(self.pairs.as_mut_slice(), other);
+        make_each(rule, self.pairs.as_mut_slice(), others);
     }
 
-    /// Adds each value to itself.
-    pub fn double(&mut self)
-        requires { NoneUnfit (value_at self.old) (value_at self.old) }
-        ensures { AreSums self.old self.old self.new }
+    /// Gives each entity with a value what the rule makes of that, and of the same beside it.
+    pub fn make_twice<R: TableRule>(&mut self, rule: &R)
+        requires { NoneUnfit (R.meaning rule.now).made (value_at self.old) (value_at self.old) }
+        ensures { AreMade (R.meaning rule.now).made self.old self.old self.new }
     {
-        double_each(self.pairs.as_mut_slice());
+        make_each_twice(rule, self.pairs.as_mut_slice());
     }
 
-    /// Gives each entity that has a value this one.
-    pub fn set_all(&mut self, value: i64)
-        ensures { (entity : ℕ) → value_at self.new entity ≡ with_constant value (value_at self.old entity) }
+    // The rows, to be passed by.
+    fn ahead(&self) -> Ahead<'_>
+        ensures { result ≡ self.now }
     {
-        set_each(self.pairs.as_mut_slice(), value);
+        Ahead::of(&self.pairs)
     }
 
     // Where the entity's row is, or where it would go.

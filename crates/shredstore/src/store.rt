@@ -11,28 +11,35 @@ ghost use Rattle.shredstore.specs.Ticks.{RulesDispatched, IsOfSystems, Tells};
 use crate::entities::Entities;
 use crate::entity::Entity;
 use crate::error::{StoreError, TickError};
-use crate::planning::{RuleDispatcher, dispatcher_of};
+use crate::planning::{RuleDispatcher, RunsRules, dispatcher_of};
 use crate::rows::Rows;
 use crate::rule::{Overflow, StoreRule};
-use shred::{DispatchError, Fault, Only, OutOfMemory, World};
+use crate::table_rule::TableRule;
+use shred::{DispatchError, Fault, Fetch, Only, OutOfMemory, World};
 use std::alloc::Global;
 use std::thread::Threads;
 
-/// Entities with values in tables, and rules that each tick applies.
+/// Entities with values in tables, and rules that each tick applies, by what runs them.
 #[derive(Drop)]
-pub struct Store {
+pub struct StoreOver<R, D: RunsRules<R>> {
     pub(crate) entities: Entities,
-    rules: Vec<StoreRule>,
-    dispatcher: RuleDispatcher,
-    ghost runs_rules: { ∥ RunsOverAny rules.items (dispatcher_with dispatcher) ∥₁ },
+    pub(crate) rules: Vec<R>,
+    pub(crate) runner: D,
+    ghost runs_rules: { ∥ D.runs runner rules.items ∥₁ },
 }
 
+/// A store with rules of the caller's own.
+pub type RuleStore<R> = StoreOver<R, RuleDispatcher<R>>;
+
+/// A store whose rules are `StoreRule`s.
+pub type Store = RuleStore<StoreRule>;
+
 // The first table of the rules that is not among so many.
-fn first_missing(tables: u64, rules: &[StoreRule]) -> Option<u64>
-    ensures { result ≡ first_missing tables rules.now }
+fn first_missing<R: TableRule>(tables: u64, rules: &[R]) -> Option<u64>
+    ensures { result ≡ first_missing R.meaning tables rules.now }
 {
     for rule in rules {
-        if let Some(table) = missing(tables, *rule) {
+        if let Some(table) = missing(tables, rule) {
             return Some(table);
         }
     }
@@ -40,20 +47,16 @@ fn first_missing(tables: u64, rules: &[StoreRule]) -> Option<u64>
 }
 
 // The first table of the rule that is not among so many.
-fn missing(tables: u64, rule: StoreRule) -> Option<u64>
-    ensures { result ≡ missing tables rule }
+fn missing<R: TableRule>(tables: u64, rule: &R) -> Option<u64>
+    ensures { result ≡ missing tables (R.meaning rule.now) }
 {
-    match rule {
-        StoreRule::Add(x, y) => {
-            if x >= tables {
-                Some(x)
-            } else if y >= tables {
-                Some(y)
-            } else {
-                None
-            }
-        }
-        StoreRule::Set(table, _) => { if table >= tables { Some(table) } else { None } }
+    let (written, read) = (rule.writes(), rule.reads());
+    if written >= tables {
+        Some(written)
+    } else if read >= tables {
+        Some(read)
+    } else {
+        None
     }
 }
 
@@ -77,53 +80,56 @@ fn told(answer: Result<(), DispatchError<Overflow>>) -> Result<(), TickError>
 }
 
 // A dispatch on threads.
-fn dispatched<R: Threads + Sync>(
-    rt: &R,
-    dispatcher: &mut RuleDispatcher,
+fn dispatched<R: TableRule + Send, T: Threads + Sync>(
+    rt: &T,
+    dispatcher: &mut RuleDispatcher<R>,
     world: &mut World<Only<Rows>>,
 ) -> Result<(), DispatchError<Overflow>>
-    ensures { RulesDispatched (dispatcher_over table_kind dispatcher.old world.old) result (dispatcher_over table_kind dispatcher.new world.new) }
+    ensures { RulesDispatched R.meaning (dispatcher_over table_kind dispatcher.old world.old) result (dispatcher_over table_kind dispatcher.new world.new) }
 {
     dispatcher.dispatch_par(rt, world)
 }
 
 // A dispatch on the caller's thread.
-fn dispatched_in_order(
-    dispatcher: &mut RuleDispatcher,
+fn dispatched_in_order<R: TableRule>(
+    dispatcher: &mut RuleDispatcher<R>,
     world: &mut World<Only<Rows>>,
 ) -> Result<(), DispatchError<Overflow>>
-    ensures { RulesDispatched (dispatcher_over table_kind dispatcher.old world.old) result (dispatcher_over table_kind dispatcher.new world.new) }
+    ensures { RulesDispatched R.meaning (dispatcher_over table_kind dispatcher.old world.old) result (dispatcher_over table_kind dispatcher.new world.new) }
 {
     dispatcher.dispatch_seq(world)
 }
 
 // A store without entities, with so many tables and these rules.
-fn store_of(alloc: Global, tables: u64, rules: &[StoreRule]) -> Result<Store, OutOfMemory>
+fn store_of<R: TableRule>(
+    alloc: Global,
+    tables: u64,
+    rules: &[R],
+) -> Result<RuleStore<R>, OutOfMemory>
     ensures entities { IfOk result (λ store. IsEmpty tables (contents_in store.entities)) }
     ensures rules { IfOk result (λ store. store.rules.items ≡ rules.now) }
 {
-    Ok(Store {
+    Ok(StoreOver {
         entities: Entities::new(alloc, tables)?,
         rules: Vec::from_slice(alloc, rules)?,
-        dispatcher: dispatcher_of(alloc, rules)?,
+        runner: dispatcher_of(alloc, rules)?,
     })
 }
 
-impl Store {
-    ghost use Rattle.std.specs.Prelude.{◌↔◌, ◌<◌, ◌-◌, ◌^◌, None, Err, IfErr, IfNone, IfSome, OnErr, OnOk};
-    ghost use Rattle.shredstore.specs.Contents.{IsCreated, IsDeleted, IsSame, IsValueSet, KeepsEntities};
-    ghost use Rattle.shredstore.specs.Facts.{OnlyLive};
+impl<R: TableRule> RuleStore<R> {
+    ghost use Rattle.std.specs.Prelude.{Err, IfErr, IfNone, IfSome, OnOk};
+    ghost use Rattle.shredstore.specs.Contents.{KeepsEntities};
     ghost use Rattle.shredstore.specs.Stores.{contents_of, rules_of, situation_of};
     ghost use Rattle.shredstore.specs.Ticks.{IsTick};
-    ghost use Rattle.shredstore.specs.declared.error.StoreError.TheVariants.{EntitiesExhausted, NoSuchEntity, NoSuchTable, OutOfMemory as NoMemory};
+    ghost use Rattle.shredstore.specs.declared.error.StoreError.TheVariants.{NoSuchTable, OutOfMemory as NoMemory};
 
     /// A store without entities, with so many tables, numbered from 0 on, and these rules. `NoSuchTable` for the first rule with a
     /// table that is not among them, and there for its first such table, tested first; else `OutOfMemory`.
-    pub fn new(alloc: Global, tables: u64, rules: &[StoreRule]) -> Result<Self, StoreError>
+    pub fn new(alloc: Global, tables: u64, rules: &[R]) -> Result<Self, StoreError>
         ensures empty { IfOk result (λ store. IsEmpty tables (contents_of store)) }
         ensures rules { IfOk result (λ store. rules_of store ≡ rules.now) }
-        ensures no_such_table { IfSome (first_missing tables rules.now) (λ table. result ≡ Err (NoSuchTable table)) }
-        ensures refused { IfNone (first_missing tables rules.now) (IfErr result (λ error. error ≡ NoMemory)) }
+        ensures no_such_table { IfSome (first_missing R.meaning tables rules.now) (λ table. result ≡ Err (NoSuchTable table)) }
+        ensures refused { IfNone (first_missing R.meaning tables rules.now) (IfErr result (λ error. error ≡ NoMemory)) }
     {
         if let Some(table) = first_missing(tables, rules) {
             return Err(StoreError::NoSuchTable { table });
@@ -133,6 +139,25 @@ impl Store {
             Err(_) => Err(StoreError::OutOfMemory),
         }
     }
+
+    /// `tick`, on the caller's thread.
+    pub fn tick_seq(&mut self) -> Result<(), TickError>
+        ensures applied { OnOk result (AppliesAll R.meaning (rules_of self.old) (contents_of self.old) (contents_of self.new)) }
+        ensures dispatched { IsTick R.meaning (rules_of self.old) (situation_of self.old) result (situation_of self.new) }
+        ensures kept { KeepsEntities (contents_of self.old) (contents_of self.new) }
+        ensures rules { rules_of self.new ≡ rules_of self.old }
+    {
+        told(dispatched_in_order(&mut self.runner, &mut self.entities.world))
+    }
+}
+
+impl<R, D: RunsRules<R>> StoreOver<R, D> {
+    ghost use Rattle.shred_world.specs.Fetched.{fetched};
+    ghost use Rattle.std.specs.Prelude.{◌↔◌, ◌<◌, ◌-◌, ◌^◌, Err, IfErr, OnErr, OnOk};
+    ghost use Rattle.shredstore.specs.Contents.{AreOfEntities, HasRows, IsCleared, IsCreated, IsDeleted, IsSame, IsValueRemoved, IsValueSet};
+    ghost use Rattle.shredstore.specs.Facts.{OnlyLive, live_below};
+    ghost use Rattle.shredstore.specs.Stores.{contents_of, rules_of};
+    ghost use Rattle.shredstore.specs.declared.error.StoreError.TheVariants.{EntitiesExhausted, NoSuchEntity, NoSuchTable, OutOfMemory as NoMemory};
 
     /// A live entity, of a number that none had before: 0, 1, 2 and so on. `EntitiesExhausted` where that would be the greatest
     /// number; else `OutOfMemory`. After a refusal the store is as before.
@@ -157,7 +182,8 @@ impl Store {
     }
 
     /// Gives a live entity a value in a table, and answers the one that it had there. `NoSuchTable`, `NoSuchEntity`, or
-    /// `OutOfMemory`, tested in this order. After a refusal the store is as before.
+    /// `OutOfMemory`, tested in this order. After a refusal the store is as before. The first value of an entity moves those of all
+    /// greater entities of the table.
     pub fn set(&mut self, entity: Entity, table: u64, value: i64) -> Result<Option<i64>, StoreError>
         ensures had { IfOk result (λ had. had ≡ (contents_of self.old).facts.value entity.0 table) }
         ensures set { OnOk result (IsValueSet (contents_of self.old) (contents_of self.new) entity.0 table value) }
@@ -178,32 +204,70 @@ impl Store {
         self.entities.get(entity, table)
     }
 
+    /// Whether the entity is live.
+    pub fn is_live(&self, entity: Entity) -> bool
+        ensures { result ≡ (contents_of self.now).facts.live entity.0 }
+    {
+        self.entities.is_live(entity)
+    }
+
+    /// How many entities are live.
+    pub fn len(&self) -> usize
+        ensures { result ≡ live_below (contents_of self.now).facts.live (contents_of self.now).next }
+    {
+        self.entities.len()
+    }
+
+    /// Takes away the value of an entity in a table, and answers it, if it had one there.
+    pub fn remove(&mut self, entity: Entity, table: u64) -> Option<i64>
+        ensures had { result ≡ (contents_of self.old).facts.value entity.0 table }
+        ensures removed { IsValueRemoved (contents_of self.old) (contents_of self.new) entity.0 table }
+        ensures rules { rules_of self.new ≡ rules_of self.old }
+    {
+        self.entities.remove(entity, table)
+    }
+
+    /// No entity is live from now on. Their numbers are not used again.
+    pub fn clear(&mut self)
+        ensures cleared { IsCleared (contents_of self.old) (contents_of self.new) }
+        ensures rules { rules_of self.new ≡ rules_of self.old }
+    {
+        self.entities.clear();
+    }
+
+    /// The rows of a table, to be gone over. `NoSuchTable` where it is not there.
+    pub fn rows(&self, table: u64) -> Result<Fetch<'_, Rows>, StoreError>
+        ensures rows { IfOk result (λ rows. HasRows (contents_of self.now) table (fetched rows)) }
+        ensures entities { IfOk result (λ rows. AreOfEntities (contents_of self.now) (fetched rows)) }
+        ensures no_such_table { HasNoTable (contents_of self.now) table ↔ (result ≡ Err (NoSuchTable table)) }
+        ensures refused { IfErr result (λ error. error ≡ NoSuchTable table) }
+    {
+        self.entities.rows(table)
+    }
+
     /// The rules, in the order given to `new`.
-    pub fn rules(&self) -> &[StoreRule]
+    pub fn rules(&self) -> &[R]
         ensures { result.now ≡ rules_of self.now }
     {
         &self.rules
     }
+}
+
+impl<R: TableRule + Send> RuleStore<R> {
+    ghost use Rattle.std.specs.Prelude.{OnOk};
+    ghost use Rattle.shredstore.specs.Contents.{KeepsEntities};
+    ghost use Rattle.shredstore.specs.Stores.{contents_of, rules_of, situation_of};
+    ghost use Rattle.shredstore.specs.Ticks.{IsTick};
 
     /// Applies the rules one after the other, in the order given to `new`, those that touch other tables beside each other on
     /// threads. A refused rule ends the tick; what the rules that ran have done stays.
-    pub fn tick<R: Threads + Sync>(&mut self, rt: &R) -> Result<(), TickError>
-        ensures applied { OnOk result (AppliesAll (rules_of self.old) (contents_of self.old) (contents_of self.new)) }
-        ensures dispatched { IsTick (rules_of self.old) (situation_of self.old) result (situation_of self.new) }
+    pub fn tick<T: Threads + Sync>(&mut self, rt: &T) -> Result<(), TickError>
+        ensures applied { OnOk result (AppliesAll R.meaning (rules_of self.old) (contents_of self.old) (contents_of self.new)) }
+        ensures dispatched { IsTick R.meaning (rules_of self.old) (situation_of self.old) result (situation_of self.new) }
         ensures kept { KeepsEntities (contents_of self.old) (contents_of self.new) }
         ensures rules { rules_of self.new ≡ rules_of self.old }
     {
-        told(dispatched(rt, &mut self.dispatcher, &mut self.entities.world))
-    }
-
-    /// `tick`, on the caller's thread.
-    pub fn tick_seq(&mut self) -> Result<(), TickError>
-        ensures applied { OnOk result (AppliesAll (rules_of self.old) (contents_of self.old) (contents_of self.new)) }
-        ensures dispatched { IsTick (rules_of self.old) (situation_of self.old) result (situation_of self.new) }
-        ensures kept { KeepsEntities (contents_of self.old) (contents_of self.new) }
-        ensures rules { rules_of self.new ≡ rules_of self.old }
-    {
-        told(dispatched_in_order(&mut self.dispatcher, &mut self.entities.world))
+        told(dispatched(rt, &mut self.runner, &mut self.entities.world))
     }
 }
 

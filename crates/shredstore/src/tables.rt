@@ -1,11 +1,13 @@
 //! The tables of a store, in a world.
 ghost use Rattle.std.specs.Prelude.{◌≡◌, ◌==◌, ◌&&◌, [], ℕ, None, Some, IfOk, OnErr, OnOk, cond, is_some, nat_lt, true};
 ghost use Rattle.shred_world.specs.Worlds.{world_held};
-ghost use Rattle.shredstore.specs.Tables.{table_kind, table_id, table_of, values_in, IsWorldRemade, IsRemovedFrom};
+ghost use Rattle.std.specs.Option.{option_map};
+ghost use Rattle.shred_world.specs.Fetched.{fetched};
+ghost use Rattle.shredstore.specs.Tables.{table_kind, table_id, table_of, values_in, IsWorldRemade, AreTakenFrom};
 ghost use Rattle.shred_table.specs.Changes.{Stays, KeepsIdsOf};
 
 use crate::rows::Rows;
-use shred::{Only, OutOfMemory, World, only_id};
+use shred::{Fetch, Only, OutOfMemory, World, only_id};
 use std::alloc::Global;
 
 /// A world with so many tables, numbered from 0 on, of which none has rows.
@@ -22,14 +24,23 @@ pub fn empty_tables(alloc: Global, tables: u64) -> Result<World<Only<Rows>>, Out
     Ok(world)
 }
 
+/// The rows of a table, if it is there.
+pub fn rows_of(world: &World<Only<Rows>>, table: u64) -> Option<Fetch<'_, Rows>>
+    ensures { option_map (λ rows. table_of (fetched rows)) result ≡ world_held table_kind world.now (table_id table) }
+{
+    match world.try_fetch_by_id::<Rows>(only_id(table)) {
+        Ok(rows) => rows,
+        Err(_) => unreachable!(),
+    }
+}
+
 /// The value of an entity in a table, if it has one there.
 pub fn value_in(world: &World<Only<Rows>>, table: u64, entity: u64) -> Option<i64>
     ensures { result ≡ values_in (world_held table_kind world.now) entity table }
 {
-    match world.try_fetch_by_id::<Rows>(only_id(table)) {
-        Ok(Some(rows)) => rows.value(entity),
-        Ok(None) => None,
-        Err(_) => unreachable!(),
+    match rows_of(world, table) {
+        Some(rows) => rows.value(entity),
+        None => None,
     }
 }
 
@@ -53,21 +64,42 @@ pub fn set_in(
     }
 }
 
-// Takes away the value of an entity in a table, if it has one there.
-fn remove_in(world: &mut World<Only<Rows>>, table: u64, entity: u64)
-    ensures { IsWorldRemade (λ other old. cond (entity == other) None old) table world.old world.new }
+/// Takes away the value of an entity in a table, and answers it, if it had one there.
+pub fn remove_in(world: &mut World<Only<Rows>>, table: u64, entity: u64) -> Option<i64>
+    ensures had { result ≡ values_in (world_held table_kind world.old) entity table }
+    ensures removed { IsWorldRemade (λ other old. cond (entity == other) None old) table world.old world.new }
+{
+    match world.try_fetch_mut_by_id::<Rows>(only_id(table)) {
+        Ok(rows) => rows.remove(entity),
+        Err(_) => None,
+    }
+}
+
+// Takes away all values of a table.
+fn clear_in(world: &mut World<Only<Rows>>, table: u64)
+    ensures { IsWorldRemade (λ other old. None) table world.old world.new }
 {
     if let Ok(rows) = world.try_fetch_mut_by_id::<Rows>(only_id(table)) {
-        rows.remove(entity);
+        rows.clear();
     }
 }
 
 /// Takes away the values of an entity in the first so many tables.
 pub fn remove_everywhere(world: &mut World<Only<Rows>>, tables: u64, entity: u64)
-    ensures values { IsRemovedFrom tables entity world.old world.new }
+    ensures values { AreTakenFrom tables (λ other. entity == other) world.old world.new }
     ensures held { KeepsIdsOf (world_held table_kind) world.old world.new }
 {
     for table in 0..tables {
-        remove_in(world, table, entity);
+        let _ = remove_in(world, table, entity);
+    }
+}
+
+/// Takes away all values in the first so many tables.
+pub fn clear_everywhere(world: &mut World<Only<Rows>>, tables: u64)
+    ensures values { AreTakenFrom tables (λ other. true) world.old world.new }
+    ensures held { KeepsIdsOf (world_held table_kind) world.old world.new }
+{
+    for table in 0..tables {
+        clear_in(world, table);
     }
 }

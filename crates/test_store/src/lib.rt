@@ -6,7 +6,11 @@ mod calls;
 #[cfg(test)]
 mod demos;
 #[cfg(test)]
+mod own_rules;
+#[cfg(test)]
 mod refusals;
+#[cfg(test)]
+mod rows;
 #[cfg(test)]
 mod stores;
 #[cfg(test)]

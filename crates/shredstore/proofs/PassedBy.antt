@@ -1,0 +1,45 @@
+-- What is found where rows are passed by, entity after entity.
+use Rattle.std.proofs.Common.{◌≡◌, ℕ, ℤ, zero, suc, ◌+◌, ◌<◌, ◌≤◌, ◌==◌, Bool, true, false, if◌then◌else◌, [], ◌∷◌, length, Option, Some, None, refl, sym, ◌∙◌, arith}
+use Rattle.std.proofs.lemmas.Bool.Decides.{nat_tests}
+use Rattle.shredstore.specs.Joins.{AreSameFrom}
+use Rattle.shredstore.specs.Rows.{IsAscending, Pairs, entity_at, value_at}
+use Rattle.shredstore.proofs.Found.{value_absent}
+
+-- for the rows from the place on, those that are ahead have what the others have
+abbrev pub IsStillAhead : Pairs → ℕ → Pairs → Pairs → Type 0
+IsStillAhead rows place others ahead = (i : ℕ) → place ≤ i → i < length rows → value_at ahead (entity_at rows i) ≡ value_at others (entity_at rows i)
+
+-- the next one is passed by
+pub still-ahead : (rows : Pairs) → IsAscending rows → (place : ℕ) (others ahead rest : Pairs) → place < length rows → IsStillAhead rows place others ahead → AreSameFrom (entity_at rows place) ahead rest → IsStillAhead rows (place + 1) others rest
+still-ahead rows ascending place others ahead rest below still same i from in_range =
+    let rise = ascending place i (omega (arith, from)) in_range in
+    same (entity_at rows i) (omega (arith, rise)) ∙ still i (omega (arith, from)) in_range
+
+-- behind the first row the entities rise as well
+pub ascending-tail : (row : ℕ × ℤ) (rows : Pairs) → IsAscending (row ∷ rows) → IsAscending rows
+ascending-tail row rows ascending i j lt below = ascending (suc i) (suc j) (omega (arith, lt)) (omega (arith, below))
+
+-- rows behind the first are of greater entities, so nothing of theirs was passed by
+pub still-first : (row : ℕ × ℤ) (rows : Pairs) → IsAscending (row ∷ rows) → (others ahead : Pairs) → AreSameFrom row.0 others ahead → (i : ℕ) → i < length rows → value_at ahead (entity_at rows i) ≡ value_at others (entity_at rows i)
+still-first row rows ascending others ahead same i below = let rise = ascending zero (suc i) (omega arith) (omega (arith, below)) in same (entity_at rows i) (omega (arith, rise))
+
+-- a row of a smaller entity is not missed
+pub passed : (row : ℕ × ℤ) (rows : Pairs) (entity : ℕ) → row.0 < entity → AreSameFrom entity (row ∷ rows) rows
+passed row rows entity smaller later from = told (row.0 == later) refl where
+  told : (b : Bool) → (row.0 == later) ≡ b → value_at rows later ≡ (if b then Some row.1 else value_at rows later)
+  told true e = absurd (let same : row.0 ≡ later = grind (arith, nat_tests) in omega (arith, same, smaller, from))
+  told false e = refl
+
+-- where the first entity is greater, the entity has no value
+pub gone : (row : ℕ × ℤ) (rows : Pairs) (entity : ℕ) → IsAscending (row ∷ rows) → entity < row.0 → value_at (row ∷ rows) entity ≡ None
+gone row rows entity ascending greater = value_absent (row ∷ rows) entity none where
+  none : (i : ℕ) → i < length (row ∷ rows) → entity_at (row ∷ rows) i ≡ entity → ⊥
+  none zero below same = omega (arith, same, greater)
+  none (suc i) below same = let rise = ascending zero (suc i) (omega arith) below in omega (arith, same, greater, rise)
+
+-- the row of the entity has its value
+pub here : (row : ℕ × ℤ) (rows : Pairs) (entity : ℕ) → row.0 ≡ entity → value_at (row ∷ rows) entity ≡ Some row.1
+here row rows entity same = told (row.0 == entity) refl where
+  told : (b : Bool) → (row.0 == entity) ≡ b → (if b then Some row.1 else value_at rows entity) ≡ Some row.1
+  told true e = refl
+  told false e = absurd (grind (arith, nat_tests, same))

@@ -12,8 +12,8 @@
 # - What prints something is run on several numbers of workers besides, and has to end in the same way.
 # - random.txt has whole scripts, each behind a line `=== NUMBER`. The line `--- STATUS stdout` or `--- STATUS stderr`
 #   ends it, and what is printed there follows; nothing is printed on the other.
-# - NAME.dot and NAME.conflicts are what shredplan is to print of NAME.script, asked for that, worked out by hand. Of its
-#   svg NAME.classes has a line for each class, with the number of its elements.
+# - NAME.dot, NAME.report and NAME.conflicts are what shredplan is to print of NAME.script, asked for that, worked out by hand.
+#   Of its svg NAME.classes has a line for each class, with the number of its elements.
 # - Of arguments shredrun takes the word `demo` alone, and shows the demo then.
 set -euo pipefail
 cd "$(dirname "${BASH_SOURCE[0]}")"
@@ -77,13 +77,16 @@ compare_files() {
 
 # is_told_of_plan NAME STATUS: shredplan tells the row's script what shredrun tells it.
 is_told_of_plan() {
-    local program=("$shredplan" conflicts)
-    ends_so "$1, as a plan," "$room/script" "$2" /dev/null "$room/wanted-stderr"
+    local word program
+    for word in conflicts report; do
+        program=("$shredplan" "$word")
+        ends_so "$1, as a plan," "$room/script" "$2" /dev/null "$room/wanted-stderr"
+    done
 }
 
 compare_plans() {
     local wanted word program
-    for wanted in *.conflicts *.dot; do
+    for wanted in *.conflicts *.dot *.report; do
         word=${wanted##*.}
         program=("$shredplan" "$word")
         ends_so "$wanted" "${wanted%.*}.script" 0 "$wanted" /dev/null

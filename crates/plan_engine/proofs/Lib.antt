@@ -1,9 +1,12 @@
 pub mod Declaring
 pub mod Depending
+pub mod Greatest
 pub mod Knowing
+pub mod Leaving
 pub mod Naming
 pub mod Noting
 pub mod Picking
 pub mod Reading
+pub mod Reported
 pub mod Reporting
 pub mod Zipped

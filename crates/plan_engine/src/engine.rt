@@ -1,8 +1,11 @@
 //! From a script's bytes to what is shown of its plan.
 ghost use Rattle.std.specs.Prelude.{IfErr, IfOk};
-ghost use Rattle.plan_engine.specs.Endings.{HasToldPlan, HasStatus, IsNotShown, IsRefusedAsRead, IsRefusedByBuilders, IsScriptShown, IsShown};
+ghost use Rattle.std.specs.String.{string_bytes};
+ghost use Rattle.plan_engine.specs.Endings.{HasToldPlan, HasStatus, IsNotShown, IsRefusedAsRead, IsRefusedByBuilders, IsScriptShown, IsShown, AreTried, SaysOf};
 
+use crate::attempts::{Attempt, attempts_of};
 use crate::build::plans_of;
+use crate::conflicts::conflicts;
 use crate::digraph::dot;
 use crate::picture::svg;
 use crate::plans::Plans;
@@ -80,20 +83,43 @@ fn show_script<O: Write>(
     ensures not_shown { IfErr result (IsNotShown (O.contents out.old) (O.contents out.new)) }
     ensures refused { IfErr result (IsRefusedByBuilders script.entry) }
 {
+    // A script that is refused is told so, whatever came of the attempts.
+    let attempts = attempts_for(alloc, wanted, &script);
     let plans = match plans_of(alloc, script) {
         Ok(plans) => plans,
         Err(error) => return Err(error),
     };
-    let shown = show(alloc, wanted, &plans)?;
+    let attempts = attempts?;
+    let shown = show(alloc, wanted, &plans, attempts.as_slice())?;
     match print(out, shown.text.as_bytes()) {
         Ok(()) => Ok(shown.status),
         Err(_) => Err(ScriptError::OutputFailed),
     }
 }
 
+/// What is tried beforehand.
+fn attempts_for(
+    alloc: Global,
+    wanted: Wanted,
+    script: &Script<'_>,
+) -> Result<Vec<Attempt>, AllocError>
+    ensures { IfOk result (λ attempts. AreTried wanted script.now attempts.items) }
+{
+    match wanted {
+        Wanted::Report => attempts_of(alloc, script.plan.as_slice()),
+        _ => Ok(Vec::new(alloc)),
+    }
+}
+
 /// What is shown of the plans, with the status that goes with it.
-fn show(alloc: Global, wanted: Wanted, plans: &Plans<'_>) -> Result<Shown, AllocError>
-    ensures { IfOk result (λ shown. HasStatus wanted plans.now shown.status) }
+fn show(
+    alloc: Global,
+    wanted: Wanted,
+    plans: &Plans<'_>,
+    attempts: &[Attempt],
+) -> Result<Shown, AllocError>
+    ensures status { IfOk result (λ shown. HasStatus wanted plans.now shown.status) }
+    ensures text { IfOk result (λ shown. SaysOf wanted plans.now attempts.now (string_bytes shown.text)) }
 {
     match wanted {
         Wanted::Dot => Ok(Shown {
@@ -105,15 +131,19 @@ fn show(alloc: Global, wanted: Wanted, plans: &Plans<'_>) -> Result<Shown, Alloc
             status: 0,
         }),
         Wanted::Choices { denied } => {
-            let report = report(alloc, plans)?;
+            let conflicts = conflicts(alloc, plans)?;
             Ok(Shown {
-                text: report.text,
-                status: if denied && report.has_choices {
+                text: conflicts.text,
+                status: if denied && conflicts.has_choices {
                     DENIED
                 } else {
                     0
                 },
             })
         }
+        Wanted::Report => Ok(Shown {
+            text: report(alloc, plans, attempts)?,
+            status: 0,
+        }),
     }
 }

@@ -1,5 +1,7 @@
 //! Plans that are to be shown.
-ghost use Rattle.std.specs.Prelude.{◌≡◌, ◌++◌, IfOk, OnErr, OnOk};
+ghost use Rattle.std.specs.Prelude.{◌≡◌, ◌++◌, IfOk, OnErr, OnOk, Some};
+ghost use Rattle.std.specs.String.{string_bytes};
+ghost use Rattle.plan_engine.specs.Names.{full_name, path_name};
 ghost use Rattle.plan_engine.specs.Noted.{AreEarlier, DeclareSame, IsNoted};
 ghost use Rattle.plan_engine.specs.Plans.{HasChoices, order_of, stage_order};
 
@@ -57,6 +59,8 @@ pub(crate) struct FullName<'plan> {
 }
 
 impl fmt::Display for FullName<'_> {
+    ghost output = { λ name. Some (full_name name) };
+
     fn fmt<W: fmt::Write>(&self, f: &mut fmt::Formatter<W>) -> fmt::Result {
         let name = self.name;
         match self.batch {
@@ -78,7 +82,9 @@ impl Plan {
     }
 
     /// The full name of one of its entries.
-    pub(crate) fn full_name<'plan>(&'plan self, entry: &'plan Entry) -> FullName<'plan> {
+    pub(crate) fn full_name<'plan>(&'plan self, entry: &'plan Entry) -> FullName<'plan>
+        ensures { full_name result ≡ path_name self.now.batch (string_bytes entry.now.name) }
+    {
         let batch = match &self.batch {
             Some(batch) => Some(batch.name.as_str()),
             None => None,
@@ -176,7 +182,7 @@ impl Plan {
     }
 }
 
-/// Puts the ids of the groups of a stage behind those that are there.
+/// PutsBehind the ids of the groups of a stage behind those that are there.
 fn append_stage(ids: &mut Vec<usize>, groups: &[Vec<usize>]) -> Result<(), AllocError>
     ensures { OnOk result (ids.new.items ≡ ids.old.items ++ stage_order groups.now) }
 {

@@ -38,8 +38,8 @@ impl Touched {
     }
 }
 
-/// Puts those of the places at the end of the list that it lacks, each once.
-fn add_places(places: &mut Vec<usize>, more: &[usize]) -> Result<(), AllocError>
+/// PutsBehind those of the places at the end of the list that it lacks, each once.
+pub(crate) fn add_places(places: &mut Vec<usize>, more: &[usize]) -> Result<(), AllocError>
     ensures { OnOk result (places.new.items ≡ with_places places.old.items more.now) }
 {
     for place in more {
@@ -48,7 +48,7 @@ fn add_places(places: &mut Vec<usize>, more: &[usize]) -> Result<(), AllocError>
     Ok(())
 }
 
-/// Puts the place at the end of the list, where the list lacks it.
+/// PutsBehind the place at the end of the list, where the list lacks it.
 fn add_place(places: &mut Vec<usize>, place: usize) -> Result<(), AllocError>
     ensures { OnOk result (places.new.items ≡ with_place places.old.items (Some place)) }
 {

@@ -7,6 +7,8 @@ pub enum Wanted {
     Svg,
     /// The pairs whose order the planner chose, which may not be there where they are denied.
     Choices { denied: bool },
+    /// What stages take, the longest lanes, and the bound on the speed-up.
+    Report,
 }
 
 impl Wanted {
@@ -17,6 +19,7 @@ impl Wanted {
             _ if words.len() > 2 => None,
             ("dot", None) => Some(Wanted::Dot),
             ("svg", None) => Some(Wanted::Svg),
+            ("report", None) => Some(Wanted::Report),
             ("conflicts", None) => Some(Wanted::Choices { denied: false }),
             ("conflicts", Some("--deny")) => Some(Wanted::Choices { denied: true }),
             _ => None,

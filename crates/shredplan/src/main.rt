@@ -8,7 +8,7 @@ use std::{env, io};
 fn main(rt: HostRuntime) -> io::Result<ExitCode> {
     let words: Vec<String> = env::args(&rt)?.skip(1).collect(rt.alloc())?;
     let Some(wanted) = Wanted::by_words(&words) else {
-        eprintln!(rt; "usage: shredplan dot|svg|conflicts [--deny]")?;
+        eprintln!(rt; "usage: shredplan dot|svg|report|conflicts [--deny]")?;
         return Ok(ExitCode::from(1));
     };
     let status = run(

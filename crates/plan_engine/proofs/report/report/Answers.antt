@@ -1,19 +1,21 @@
-use Rattle.std.proofs.Common.{◌==◌, ◌∙◌, List, Vec, Global, ap, not, subst, sym, vec_len}
-use Rattle.std.proofs.lemmas.List.Folds.{Any-from_list_any, list_any-from_Any}
-use Rattle.std.specs.List.{AllZip, list_any}
-use Rattle.plan_engine.specs.declared.choices.Choice.{Choice}
-use Rattle.plan_engine.proofs.Reporting.{choice-full, full-choice}
+use Rattle.std.proofs.Common.{◌≡◌, ◌<◌, ℕ, List, get_or, length, subst}
+use Rattle.std.specs.String.{string_bytes}
+use Rattle.plan_engine.specs.Reports.{PutsPlanReport}
 use Rattle.plan_engine.specs.declared.plans.Plan.{Plan}
-use Rattle.plan_engine.specs.Plans.{HasChoices}
+use Rattle.plan_engine.proofs.Reported.{report-more}
 use Rattle.plan_engine.proofs.report.report.Goals as goal
+use denote.Ref.{Bor}
 
-pub returns : goal.returns
-returns c =
-    let plans = c.args.plans.now.plans.items in
-    let all = c.in_ok-choices.choices.items in
-    let is_full = λ (choices : Vec Choice Global). not (vec_len choices == 0) in
-    let zipped = subst (λ (plans : List Plan). AllZip HasChoices plans all) c.as_slice.ensures.value c.in_ok-choices.ensures in
-    let tested = c.are_any.ensures ∙ ap (list_any is_full) c.as_slice-3.ensures.value in (
-      λ yes. full-choice plans all zipped (Any-from_list_any is_full all (sym tested ∙ yes)),
-      λ any. tested ∙ list_any-from_Any is_full all (choice-full plans all zipped any),
-    )
+pub loop-place-preserved : goal.loop-place-preserved
+loop-place-preserved c =
+    let plans = c.args.plans.now in
+    let attempts = c.args.attempts.now in
+    let place = c.loop-place.place in
+    let plan = c.plan-item.result in
+    let text = c.loop-place.text in
+    let new = c.write_plan.new.text in
+    let same = c.deref-plan-items.ensures.value in
+    let within = subst (λ (all : List Plan). place < length all) same c.loop-place-test.true in
+    let is = subst (λ (all : List Plan). plan ≡ get_or all place plan) same c.plan-item.is in
+    let put = subst (λ (resources : List (Bor (List ℕ))). PutsPlanReport resources attempts place plan text new) c.as_slice-resources.ensures.value c.in_ok-write_plan.ensures in
+    report-more plans.resources.items attempts plans.plans.items (string_bytes text) (string_bytes new) place plan put.0 within is c.loop-place.invariant put.1 put.2

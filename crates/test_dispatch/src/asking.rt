@@ -2,8 +2,7 @@
 ghost use Rattle.std.specs.Prelude.{◌≡◌, IfOk};
 ghost use Rattle.shred_table.specs.Accessors.{batch_reads, batch_writes};
 
-use crate::calls::{dispatched, dispatcher_over, stages_of};
-use crate::planned_system::{Case, PLAIN, resources};
+use crate::calls::{dispatched, dispatcher_on};
 use shred::{
     BatchAccessor, DataError, Dispatcher, Fault, Kind, OutOfMemory, Read, ResourceId, RunningTime,
     System, View, World, Write,
@@ -12,7 +11,9 @@ use std::alloc::{AllocError, Global};
 use std::process::Abort;
 use std::test::Fail;
 use std::thread::Threads;
-use test_worlds::values::{Count, Flag, Value};
+use test_calls::calls::stages_of;
+use test_calls::declared::{Case, PLAIN, resources};
+use test_values::{Count, Flag, Value};
 
 /// What a system asks for.
 #[derive(Clone, Copy)]
@@ -159,7 +160,7 @@ fn dispatcher_of(
 ) -> Result<Dispatcher<Value, Asks>, Fail> {
     let stages = stages_of(alloc, systems)?;
     assert_eq!(rt; stages.len(), 1);
-    let dispatcher = dispatcher_over(alloc, stages);
+    let dispatcher = dispatcher_on(alloc, stages, 4);
     assert_eq!(rt; dispatcher.max_threads(), 2);
     Ok(dispatcher)
 }

@@ -1,14 +1,15 @@
 //! Systems of one stage that wait for each other.
 
-use crate::calls::stages_of;
-use crate::ended::{DONE, Ended, ended, stage_ended};
-use shred::{Dispatcher, Plain, Stage, ThreadLocal, World, new_dispatcher};
+use crate::calls::dispatcher_on;
+use shred::{Dispatcher, Plain, Stage, World};
 use std::alloc::{AllocError, Global};
 use std::process::Abort;
 use std::test::Fail;
 use std::thread::Threads;
+use test_calls::calls::stages_of;
+use test_calls::ended::{DONE, Ended, ended, stage_ended};
 use test_meeting::{Meets, TURNS, VAIN, nobody, waits_for};
-use test_worlds::values::Value;
+use test_values::Value;
 
 /// The first and the last system of so many, which wait for each other, and between them those that wait for nothing.
 fn systems_of(alloc: Global, count: usize, turns: u32) -> Result<Vec<Plain<Meets>>, AllocError> {
@@ -52,14 +53,6 @@ fn dispatched_seq(
     world: &mut World<Value>,
 ) -> Ended {
     ended(dispatcher.dispatch_seq(world))
-}
-
-fn dispatcher_on(
-    alloc: Global,
-    stages: Vec<Stage<Value, Plain<Meets>>>,
-    workers: usize,
-) -> Dispatcher<Value, Plain<Meets>> {
-    new_dispatcher(stages, ThreadLocal::new(alloc), workers)
 }
 
 /// How a run of these stages ends, over an empty world: of each, or of the first that is not Done.

@@ -1,10 +1,7 @@
 //! Systems that name what they read and write by its types, alone and in rounds.
 
-use shred::{
-    DataError, DispatchError, Dispatcher, DispatcherBuilder, Fault, First, Fourth, NoBatch, OneOf4,
-    Rounds, Second, SystemId, Systems2, Third, Typed, TypedSystem, View, World, first_system,
-    second_system, third_id,
-};
+use shred::prelude::*;
+use shred::{Counted, DispatchError, NoBatch, RunNow, SystemId, first_id, second_id, third_id};
 use std::process::Abort;
 use std::test::Fail;
 
@@ -15,17 +12,13 @@ type Value = OneOf4<i64, i64, i64, i64>;
 struct Turns;
 
 impl TypedSystem<Value> for Turns {
-    type Error = DataError;
-
-    type Reads = ();
-
-    type Writes = (First<i64>, Second<i64>, Third<i64>, Fourth<i64>);
+    type Data = Uses<(), (First<i64>, Second<i64>, Third<i64>, Fourth<i64>)>;
 
     fn run(
         &mut self,
         _view: &View<Value>,
         written: &mut (First<i64>, Second<i64>, Third<i64>, Fourth<i64>),
-    ) -> Result<(), Fault<DataError>> {
+    ) -> Ran {
         let last = written.3.0;
         written.3.0 = written.2.0;
         written.2.0 = written.1.0;
@@ -40,13 +33,9 @@ impl TypedSystem<Value> for Turns {
 struct Sums;
 
 impl TypedSystem<Value> for Sums {
-    type Error = DataError;
+    type Data = Uses<(First<i64>, Second<i64>), Third<i64>>;
 
-    type Reads = (First<i64>, Second<i64>);
-
-    type Writes = Third<i64>;
-
-    fn run(&mut self, view: &View<Value>, third: &mut Third<i64>) -> Result<(), Fault<DataError>> {
+    fn run(&mut self, view: &View<Value>, third: &mut Third<i64>) -> Ran {
         let first = view.fetch::<First<i64>>()?.0;
         third.0 = first.wrapping_add(view.fetch::<Second<i64>>()?.0);
         Ok(())
@@ -62,6 +51,105 @@ fn numbers(world: &World<Value>) -> [i64; 4] {
     let third = world.try_fetch::<Third<i64>>().map_or(0, |held| held.0);
     let fourth = world.try_fetch::<Fourth<i64>>().map_or(0, |held| held.0);
     [first, second, third, fourth]
+}
+
+/// The second number becomes twice the first.
+#[derive(Drop)]
+struct Doubles;
+
+impl ReadsWrites<First<i64>, Second<i64>> for Doubles {
+    fn run(&mut self, first: &First<i64>, second: &mut Second<i64>) {
+        second.0 = first.0.wrapping_mul(2);
+    }
+}
+
+/// The first two numbers change places.
+#[derive(Drop)]
+struct Swaps;
+
+impl Writes<(First<i64>, Second<i64>)> for Swaps {
+    fn run(&mut self, written: &mut (First<i64>, Second<i64>)) {
+        let first = written.0.0;
+        written.0.0 = written.1.0;
+        written.1.0 = first;
+    }
+}
+
+/// Reads what it writes, which no view allows.
+#[derive(Drop)]
+struct Overlaps;
+
+impl ReadsWrites<First<i64>, First<i64>> for Overlaps {
+    fn run(&mut self, _read: &First<i64>, written: &mut First<i64>) {
+        written.0 = 0;
+    }
+}
+
+/// Whether the run was refused by this error.
+fn is_refused_by(ran: Ran, error: DataError) -> bool {
+    match ran {
+        Err(Fault::Refused(told)) => told == error,
+        _ => false,
+    }
+}
+
+#[test]
+fn passed_systems_write_by_what_they_read(rt: HostRuntime) -> Result<(), Fail> {
+    let mut both: Dispatcher<Value, Systems2<_, _>> = DispatcherBuilder::new(rt.alloc())
+        .with(first_system(Doubles.into_system()), "doubles", &[])?
+        .with(second_system(Swaps.into_system()), "swaps", &["doubles"])?
+        .build();
+    let mut world = World::empty(rt.alloc());
+    world.insert(First(3))?;
+    world.insert(Second(1))?;
+    assert!(rt; both.dispatch(&rt, &mut world).is_ok());
+    assert_eq!(rt; numbers(&world), [6, 3, 0, 0]);
+    assert!(rt; both.dispatch(&rt, &mut world).is_ok());
+    assert_eq!(rt; numbers(&world), [12, 6, 0, 0]);
+    Ok(())
+}
+
+#[test]
+fn a_counted_system_counts_its_runs_and_refusals(rt: HostRuntime) -> Result<(), Fail> {
+    let mut doubles = Now(Counted::new(Doubles.into_system()));
+    let mut world: World<Value> = World::empty(rt.alloc());
+    world.insert(Second(1))?;
+    assert!(rt;
+        is_refused_by(
+            doubles.run_now(&rt, world.local()),
+            DataError::Missing(first_id(0))
+        )
+    );
+    assert_eq!(rt; numbers(&world), [0, 1, 0, 0]);
+    world.insert(First(3))?;
+    assert!(rt; doubles.run_now(&rt, world.local()).is_ok());
+    assert!(rt; doubles.run_now(&rt, world.local()).is_ok());
+    assert_eq!(rt; numbers(&world), [3, 6, 0, 0]);
+    world.remove::<Second<i64>>();
+    assert!(rt;
+        is_refused_by(
+            doubles.run_now(&rt, world.local()),
+            DataError::Missing(second_id(0))
+        )
+    );
+    assert_eq!(rt; doubles.0.runs(), 4);
+    assert_eq!(rt; doubles.0.refusals(), 2);
+    Ok(())
+}
+
+#[test]
+fn what_is_written_may_not_be_read(rt: HostRuntime) -> Result<(), Fail> {
+    let mut overlaps = Now(Overlaps.into_system());
+    let mut world: World<Value> = World::empty(rt.alloc());
+    world.insert(First(3))?;
+    assert!(rt;
+        is_refused_by(
+            overlaps.run_now(&rt, world.local()),
+            DataError::Taken(first_id(0))
+        )
+    );
+    assert_eq!(rt; numbers(&world), [3, 0, 0, 0]);
+    Ok(())
 }
 
 #[test]

@@ -1,2 +1,1 @@
-pub mod GivenBack
 mod BothHands

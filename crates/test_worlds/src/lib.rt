@@ -1,18 +1,8 @@
-//! Tests of worlds, views and bundles, with the values that most tests share.
+//! Tests of worlds and of views that are parted, and of calls of worlds and views whose memory is refused.
 #![tactic(auto)]
 
 #[cfg(test)]
-mod accessor_tests;
-#[cfg(test)]
-mod bundles;
-#[cfg(test)]
-mod chosen;
-#[cfg(test)]
 mod error_tests;
-#[cfg(test)]
-mod exec_tests;
-#[cfg(test)]
-mod lent_calls;
 #[cfg(test)]
 mod parted_in_two;
 #[cfg(test)]
@@ -21,10 +11,5 @@ mod parted_tests;
 mod parted_threads;
 #[cfg(test)]
 mod refusals;
-#[cfg(test)]
-mod shown;
-#[cfg(test)]
-mod tuples;
-pub mod values;
 #[cfg(test)]
 mod world;

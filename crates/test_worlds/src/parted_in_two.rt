@@ -8,11 +8,11 @@ ghost use Rattle.shred_table.specs.Slots.{among};
 ghost use Rattle.shred_table.specs.declared.id.ResourceId.{ResourceId};
 ghost use Rattle.shred_world.specs.Views.{may_read, may_write, is_out, view_held, IsSameView};
 ghost use Rattle.shred_world.specs.Worked.{KeepsHeldIds};
-ghost use Rattle.test_worlds.specs.Values.{kind_of};
+ghost use Rattle.test_values.specs.Values.{kind_of};
 
-use crate::values::{Count, Value};
 use shred_world::{Behind, DataError, OutOfMemory, ResourceId, Table, View};
 use std::alloc::Global;
+use test_values::{Count, Value};
 
 /// What is done over the hands of two parts. It gives back what it took out of them, and they hold the same ids after.
 pub trait OverTwo {

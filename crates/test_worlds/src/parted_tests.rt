@@ -1,10 +1,10 @@
 //! Views that are parted, worked over and joined.
 use crate::parted_threads::add_beside;
-use crate::values::{Count, Value};
 use shred_world::{Kind, ResourceId, World};
 use std::alloc::Global;
 use std::process::Abort;
 use std::test::Fail;
+use test_values::{Count, Value};
 
 fn number(dynamic_id: u64) -> ResourceId {
     ResourceId::from_type_id_and_dynamic_id(Kind(0), dynamic_id)

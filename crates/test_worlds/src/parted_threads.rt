@@ -7,13 +7,13 @@ ghost use Rattle.shred_table.specs.Parts.{HasNothingOut, HoldsSameIds, IsHandOf}
 ghost use Rattle.shred_table.specs.Shown.{IsSameSlots};
 ghost use Rattle.shred_table.specs.declared.id.ResourceId.{ResourceId};
 ghost use Rattle.shred_world.specs.Views.{view_held, may_write, IsSameView};
-ghost use Rattle.test_worlds.specs.Values.{kind_of, count_kind};
+ghost use Rattle.test_values.specs.Values.{kind_of, count_kind};
 
 use crate::parted_in_two::{OverTwo, TwoCounts, TwoOut, over_parts};
-use crate::values::{Count, Value};
 use shred_world::{Behind, Kind, OutOfMemory, ResourceId, Table, View, World};
 use std::alloc::Global;
 use std::thread::{Threads, join_mut};
+use test_values::{Count, Value};
 
 /// What may be worked over beside another of its kind, over something that both look at.
 trait Half<K> {

@@ -1,5 +1,4 @@
 //! The world and its calls, as rows of a call and its answer.
-use crate::values::{Count, Name, Value};
 use shred_world::{
     DefaultProvider, Kind, PanicHandler, ReplaceError, ResourceId, Resources, SetupHandler, Steps,
     World, WorldError, check_intersection,
@@ -7,6 +6,7 @@ use shred_world::{
 use std::alloc::Global;
 use std::process::Abort;
 use std::test::Fail;
+use test_values::{Count, Name, Value};
 
 /// A call of a world, for a count. One by an id is for a number of kind 0, or for the id of a name where it says so.
 #[derive(Clone, Copy)]

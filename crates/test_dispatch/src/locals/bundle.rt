@@ -1,11 +1,11 @@
 //! A thread-local system that takes a bundle on the whole world.
 
-use crate::ended::{DONE, run_ended};
 use crate::locals::script::{Script, expect_counts, world_of};
 use shred::{DispatcherBuilder, Fault, LocalWorld, NoBatch, RunNow, World, Write};
 use std::test::Fail;
 use std::thread::Threads;
-use test_worlds::values::{Count, Value};
+use test_calls::ended::{DONE, run_ended};
+use test_values::{Count, Value};
 
 /// Adds 1 to the count, in a bundle.
 #[derive(Drop)]

@@ -1,13 +1,13 @@
 //! Dispatchers of staged and thread-local systems, from setup to disposal.
 
-use crate::ended::{DONE, Ended, NO_MEMORY, ended, run_ended};
 use crate::locals::script::{IDLE, Script, expect_counts, world_of};
 use shred::{AddError, Dispatcher, DispatcherBuilder, Now, World};
 use std::alloc::Global;
 use std::process::Abort;
 use std::test::Fail;
 use std::thread::Threads;
-use test_worlds::values::Value;
+use test_calls::ended::{DONE, Ended, NO_MEMORY, ended, run_ended};
+use test_values::Value;
 
 #[derive(Clone, Copy)]
 enum Call {

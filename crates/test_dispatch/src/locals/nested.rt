@@ -9,7 +9,7 @@ use shred::{
 use std::alloc::Global;
 use std::test::Fail;
 use std::thread::Threads;
-use test_worlds::values::Value;
+use test_values::Value;
 
 /// A system that touches nothing, with the error of a dispatcher.
 #[derive(Drop)]

@@ -1,16 +1,14 @@
 //! A system that does to one count what its script says.
-ghost use Rattle.std.specs.Prelude.{◌≡◌, [], ◌∷◌};
+ghost use Rattle.std.specs.Prelude.{[], ◌∷◌};
 ghost use Rattle.shred_run.specs.declared.system.RunningTime.TheVariants.{Average};
 ghost use Rattle.shred_table.specs.Id.{id_of};
-ghost use Rattle.test_worlds.specs.Values.{count_kind};
+ghost use Rattle.test_values.specs.Values.{count_kind};
 
-use shred::{
-    BatchAccessor, Fault, Kind, OutOfMemory, ResourceId, RunningTime, System, View, World,
-    WorldError,
-};
+use shred::{BatchAccessor, Fault, OutOfMemory, RunningTime, System, View, World, WorldError};
 use std::alloc::Global;
 use std::process::Abort;
-use test_worlds::values::{Count, Value};
+use test_calls::counts::{answer_of, count_at, count_id, put};
+use test_values::{Count, Value};
 
 /// What a system does to the count under its number. Where a code is not 0, it then refuses with that.
 #[derive(Clone, Copy)]
@@ -42,31 +40,6 @@ pub(crate) const IDLE: Script = Script {
     leaves: None,
     dispose_code: 0,
 };
-
-pub(crate) fn count_id(number: u64) -> ResourceId
-    ensures { result ≡ id_of count_kind number }
-{
-    ResourceId::from_type_id_and_dynamic_id(Kind(0), number)
-}
-
-fn answer_of(code: u8) -> Result<(), Fault<u8>> {
-    if code == 0 {
-        Ok(())
-    } else {
-        Err(Fault::Refused(code))
-    }
-}
-
-// Puts the count there, if there is one.
-fn put(world: &mut World<Value>, number: u64, count: Option<i64>) -> Result<(), Fault<u8>> {
-    match count {
-        Some(count) => match world.insert_by_id(count_id(number), Count(count)) {
-            Ok(()) => Ok(()),
-            Err(_) => Err(Fault::OutOfMemory),
-        },
-        None => Ok(()),
-    }
-}
 
 // `put`, and then the answer of the code.
 fn put_and_answer(
@@ -150,13 +123,6 @@ pub(crate) fn world_of(alloc: Global, counts: &[Option<i64>]) -> Result<World<Va
         }
     }
     Ok(world)
-}
-
-fn count_at(world: &World<Value>, number: u64) -> Option<i64> {
-    match world.try_fetch_by_id::<Count>(count_id(number)) {
-        Ok(Some(count)) => Some(count.0),
-        _ => None,
-    }
 }
 
 /// The world holds just these of the counts from 0 on.

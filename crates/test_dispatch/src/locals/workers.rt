@@ -1,13 +1,13 @@
 //! Plans on several counts of workers.
 
-use crate::ended::{DONE, ended};
 use crate::locals::script::{IDLE, Script, expect_counts, world_of};
 use shred::{AddError, DispatcherBuilder, SystemId};
 use std::alloc::Global;
 use std::process::Abort;
 use std::test::Fail;
 use std::thread::Threads;
-use test_worlds::values::Value;
+use test_calls::ended::{DONE, ended};
+use test_values::Value;
 
 /// A system that adds the amount to the count under its number, after a barrier or not.
 struct Planned {

@@ -1,9 +1,8 @@
 //! Bundles of three parts, taken of a world and of a view.
 use crate::refusals::{Ended, expect_right};
-use crate::shown::count_in;
-use crate::values::{Count, Flag, Name, Value};
 use shred_world::{DataError, Kind, OutOfMemory, Read, ResourceId, SystemData, View, World, Write};
 use std::alloc::Global;
+use test_values::{Count, Flag, Name, Value, count_in};
 
 fn id(kind: u32) -> ResourceId {
     ResourceId::from_type_id(Kind(kind))

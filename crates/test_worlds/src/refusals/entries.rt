@@ -1,9 +1,8 @@
 //! Resources that are put into a world.
 use crate::refusals::{Ended, expect_right};
-use crate::shown::count_in;
-use crate::values::{Count, Name, Value};
 use shred_world::{World, WorldError};
 use std::alloc::Global;
+use test_values::{Count, Name, Value, count_in};
 
 // Two resources, of which the second takes the place of the first. A refusal leaves what was held.
 fn insert_twice(alloc: Global) -> Ended {

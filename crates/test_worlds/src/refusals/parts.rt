@@ -1,12 +1,12 @@
 //! A view that is parted.
 ghost use Rattle.std.specs.Prelude.{◌≡◌, false};
 ghost use Rattle.shred_table.specs.Id.{id_of, same_id};
-ghost use Rattle.test_worlds.specs.Values.{count_kind};
+ghost use Rattle.test_values.specs.Values.{count_kind};
 
 use crate::refusals::{Ended, expect_right};
-use crate::values::{Count, Value};
 use shred_world::{Kind, OutOfMemory, ResourceId, View, ViewWork, World};
 use std::alloc::Global;
+use test_values::{Count, Value};
 
 fn number(dynamic_id: u64) -> ResourceId
     ensures { result ≡ id_of count_kind dynamic_id }

@@ -4,8 +4,8 @@ use Rattle.shred_table.specs.declared.table.Table.{Table}
 use Rattle.shred_world.specs.Beside.{lent_behind}
 use Rattle.shred_table.specs.Parts.{Pair, HasNothingOut, HoldsSameIds, IsHandOf}
 use Rattle.shred_table.specs.Shown.{IsSameSlots}
-use Rattle.test_worlds.specs.Values.{kind_of}
-use Rattle.test_worlds.specs.declared.values.Value.{Value}
+use Rattle.test_values.specs.Values.{kind_of}
+use Rattle.test_values.specs.declared.values.Value.{Value}
 use Rattle.test_worlds.proofs.BothHands.{both-given, both-related, both-hold}
 use Rattle.test_worlds.proofs.parted_in_two.over_hands.Goals as goal
 

@@ -9,8 +9,8 @@ use Rattle.shred_table.specs.Slots.{slot_at}
 use Rattle.shred_world.proofs.Parted.Beside.{held-kept, same-again}
 use Rattle.shred_table.proofs.Parted.Pairs.{zip-length, written-over}
 use Rattle.shred_world.proofs.Parted.Hands.{fit-again}
-use Rattle.test_worlds.specs.Values.{kind_of}
-use Rattle.test_worlds.specs.declared.values.Value.{Value}
+use Rattle.test_values.specs.Values.{kind_of}
+use Rattle.test_values.specs.declared.values.Value.{Value}
 use Rattle.test_worlds.proofs.parted_in_two.over_parts.Goals as goal
 
 pub behind-behind-requires : goal.behind-behind-requires

@@ -9,10 +9,10 @@ use Rattle.shred_world.specs.Grants.{Grant}
 use Rattle.shred_world.specs.Worlds.{local_held, local_slot}
 use Rattle.shred_world.proofs.Views.HeldKinds.{slot_held-same_kind}
 use Rattle.shred_world.proofs.Views.KeptIds.{ids-kept}
-use Rattle.test_worlds.specs.Values.{kind_of, count_kind}
-use Rattle.test_worlds.specs.declared.values.Value.{Value}
-use Rattle.test_worlds.specs.declared.values.Value.TheVariants.{Count as counted}
-use Rattle.test_worlds.proofs.GivenBack.{held-given}
+use Rattle.test_values.specs.Values.{kind_of, count_kind}
+use Rattle.test_values.specs.declared.values.Value.{Value}
+use Rattle.test_values.specs.declared.values.Value.TheVariants.{Count as counted}
+use Rattle.test_values.proofs.GivenBack.{held-given}
 use Rattle.test_dispatch.proofs.locals.bundle.TakesBundleRunNowValue.run_now.Goals as goal
 
 pub returns-in-Ok-clause-kinds : goal.returns-in-Ok-clause-kinds

@@ -1,4 +1,0 @@
-//! Tests of the examples: each is run once.
-
-mod each_once;
-mod own_bundle;

@@ -12,7 +12,7 @@ loop-rule-preserved g c =
     let rule = c.rule-item.result in
     subst (λ l. IsPlanned g.R.TableRule.meaning l (built c.add_rule.new.builder)) (sym (take_more rules i rule c.loop-rule-test.true))
     (subst (λ item. IsPlanned g.R.TableRule.meaning (take i rules ++ item ∷ []) (built c.add_rule.new.builder)) c.rule-item.is
-      (planned-more g.R.TableRule.meaning (take i rules) rule (built c.loop-rule.builder) (built c.add_rule.new.builder) c.loop-rule.invariant c.in_ok-add_rule.ensures))
+    (planned-more g.R.TableRule.meaning (take i rules) rule (built c.loop-rule.builder) (built c.add_rule.new.builder) c.loop-rule.invariant c.in_ok-add_rule.ensures))
 
 pub returns : goal.returns
 returns g c =

@@ -2,6 +2,7 @@
 #![tactic(auto)]
 
 ghost use Rattle.std.specs.Prelude.{◌-ℤ◌};
+ghost use Rattle.shredstore.specs.Meaning.{checked};
 
 use shredstore::{RuleStore, TableRule};
 
@@ -16,7 +17,7 @@ const CURE: u64 = 2;
 struct Takes(u64, u64);
 
 impl TableRule for Takes {
-    ghost meaning = { λ rule. record { written = rule.0; read = rule.1; made = λ value more. value -ℤ more } };
+    ghost meaning = { λ rule. checked rule.0 rule.1 (λ value more. value -ℤ more) };
 
     fn writes(&self) -> u64 {
         self.0

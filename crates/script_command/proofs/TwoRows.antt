@@ -1,5 +1,5 @@
 -- The rows of the two entities.
-use Rattle.std.proofs.Common.{◌≡◌, ℕ, ℤ, ◌∙◌, ◌+◌, ◌+ℤ◌, ◌++◌, List, Option, Some, None, codes, pos, subst}
+use Rattle.std.proofs.Common.{◌≡◌, ℕ, ℤ, ◌∙◌, ◌+◌, ◌+ℤ◌, ◌++◌, List, Option, Some, None, codes, pos, refl, ap, subst}
 use Rattle.std.proofs.KnownBytes.{Appends-trans}
 use Rattle.std.specs.Io.KnownBytes.{Appends}
 use Rattle.script_text.specs.Texts.{line_of}
@@ -9,23 +9,36 @@ use Rattle.shredstore.specs.Meaning.{meaning_of}
 use Rattle.shredstore.specs.Rows.{made_beside}
 use Rattle.shredstore.specs.Rules.{applied_all}
 use Rattle.shredstore.specs.declared.rule.StoreRule.{StoreRule}
+use Rattle.shredstore.specs.declared.rule.StoreRule.TheVariants.{Add, Set}
 
 -- the sum, where both are there
 abbrev pub summed : Option ℤ → Option ℤ → Option ℤ
-summed value more = made_beside (λ a b. a +ℤ b) value more
+summed (Some value) (Some more) = Some (value +ℤ more)
+summed (Some value) None = Some value
+summed None more = None
 
 -- 5, where there is a value
 abbrev pub fived : Option ℤ → Option ℤ
-fived value = made_beside (λ a b. pos 5) value value
+fived (Some value) = Some (pos 5)
+fived None = None
+
+sums : (x y : ℕ) (value more : Option ℤ) → made_beside (meaning_of (Add x y)) value more ≡ summed value more
+sums x y (Some value) (Some more) = refl
+sums x y (Some value) None = refl
+sums x y None more = refl
+
+fives : (x : ℕ) (value : Option ℤ) → made_beside (meaning_of (Set x (pos 5))) value value ≡ fived value
+fives x (Some value) = refl
+fives x None = refl
 
 -- what the rules make of a row
 pub ticked : (old new : Contents) (rules : List StoreRule) → rules ≡ demo_rules → ((entity table : ℕ) → new.facts.value entity table ≡ applied_all meaning_of rules old.facts.value entity table) → (entity : ℕ) (a b c : Option ℤ) → HasRow old entity a b c → HasRow new entity (summed a b) (fived b) (summed c (summed a b))
 ticked old new rules same applies entity a b c row =
     let made : (table : ℕ) → new.facts.value entity table ≡ applied_all meaning_of demo_rules old.facts.value entity table = λ table. applies entity table ∙ (λ i. applied_all meaning_of (same i) old.facts.value entity table) in
     record {
-      first = made 0 ∙ (λ i. summed (row.first i) (row.second i));
-      second = made 1 ∙ (λ i. fived (row.second i));
-      third = made 2 ∙ (λ i. summed (row.third i) (summed (row.first i) (row.second i)));
+      first = made 0 ∙ (λ i. made_beside (meaning_of (Add 0 1)) (row.first i) (row.second i)) ∙ sums 0 1 a b;
+      second = made 1 ∙ (λ i. made_beside (meaning_of (Set 1 (pos 5))) (row.second i) (row.second i)) ∙ fives 1 b;
+      third = made 2 ∙ (λ i. made_beside (meaning_of (Add 2 0)) (row.third i) (made_beside (meaning_of (Add 0 1)) (row.first i) (row.second i))) ∙ ap (made_beside (meaning_of (Add 2 0)) c) (sums 0 1 a b) ∙ sums 2 0 c (summed a b);
     }
 
 -- two entities were made, and values were set

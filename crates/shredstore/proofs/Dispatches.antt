@@ -1,14 +1,14 @@
 -- What a dispatch of a store's rules leaves.
-use Rattle.std.proofs.Common.{◌≡◌, ℕ, ℤ, suc, ◌+◌, ◌<◌, ◌==◌, Bool, true, false, cond, List, [], ◌∷◌, length, Option, Some, None, Ok, Err, Result, slice_get, refl, sym, ◌∙◌, ap, subst, subst₂, arith, ◌⊎◌, inl, inr}
+use Rattle.std.proofs.Common.{◌≡◌, ℕ, ℤ, ◌+◌, ◌<◌, ◌==◌, Bool, true, false, cond, List, [], ◌∷◌, length, Option, Some, None, Ok, Err, Result, slice_get, refl, sym, ◌∙◌, ap, subst, subst₂, arith, ◌⊎◌, inl, inr}
 use Rattle.std.proofs.lemmas.Bool.Decides.{nat_tests}
 use Rattle.std.proofs.lemmas.Option.{slice_get_within}
 use Rattle.std.proofs.Math.Logic.{∥∥₁_elim, ∥∥₁_map}
 use Rattle.std.proofs.Props.{props}
 use Rattle.std.proofs.lemmas.List.Elements.{All-contains, All-from_recursion}
-use Rattle.std.specs.Prelude.{OnOk, is_some}
+use Rattle.std.specs.Prelude.{IsSome, OnOk, is_some}
 use Rattle.std.specs.List.{AllByRecursion}
 use Rattle.std.specs.Option.{option_map}
-use Rattle.shred_model.specs.Access.{Access}
+use Rattle.shred_model.specs.Access.{Access, Declares}
 use Rattle.shred_model.specs.Plan.{PlanEntry, Plan, entry_at}
 use Rattle.shred_model.specs.Record.{Agent}
 use Rattle.shred_model.specs.Runs.{Answer}
@@ -35,22 +35,28 @@ use Rattle.shredstore.specs.declared.rule_system.RuleSystem.{RuleSystem}
 use Rattle.shredstore.specs.Facts.{OnlyLive, Values}
 use Rattle.shredstore.specs.Meaning.{Meaning}
 use Rattle.shredstore.specs.Plans.{RuleState, RulesOver, RunsRules, rule_relations, rule_state}
-use Rattle.shredstore.specs.Rows.{Pairs, made_beside}
+use Rattle.shredstore.specs.Rows.{IsRefusedFor, Pairs, made_beside}
 use Rattle.shredstore.specs.RuleSteps.{IsRuleFault, AppliesRule}
-use Rattle.shredstore.specs.Rules.{IsFirstOverflow, applied, applied_all, with_table}
+use Rattle.shredstore.specs.Rules.{applied, applied_all, with_table}
 use Rattle.shredstore.specs.Tables.{table_kind, table_id, value_in, values_in}
 use Rattle.shredstore.specs.Ticks.{RulesDispatched, IsOfSystems, IsOverflowOf, IsTick, RuleRecord, Tells}
-use Rattle.shredstore.proofs.KeptStates.{Keeps, KeepsRows, replay-found, replay-keeps}
+use Rattle.shredstore.proofs.KeptStates.{Found, Keeps, KeepsRows, replay-found, replay-keeps}
 use Rattle.shredstore.proofs.Lists.{AllByRecursion-weaker}
 use Rattle.shredstore.proofs.PlanOrder.{order-at, order-counts}
 use Rattle.shredstore.proofs.RuleRuns.{HasItsRule, entries-run, in-order}
 use Rattle.shredstore.proofs.Ticked.{runs-apply}
 
 -- what is made of a value is where the value is
-made-some : (made : ℤ → ℤ → ℤ) (value more : Option ℤ) → is_some (made_beside made value more) ≡ is_some value
-made-some made (Some v) (Some m) = refl
-made-some made (Some v) None = refl
-made-some made None more = refl
+made-some : (rule : Meaning) (value more : Option ℤ) → is_some (made_beside rule value more) ≡ is_some value
+made-some rule (Some v) (Some m) = refl
+made-some rule (Some v) None = refl
+made-some rule None more = refl
+
+-- a rule is refused only for a value that is there
+first-some : (rule : Meaning) (value more : Option ℤ) → IsRefusedFor rule value more → IsSome value
+first-some rule (Some v) (Some m) refused = refl
+first-some rule (Some v) None refused = refl
+first-some rule None more refused = absurd refused
 
 -- where a column has values just where the table has, the values with it are where they were
 with-rows : (value : Values) (x : ℕ) (column : ℕ → Option ℤ) → ((entity : ℕ) → is_some (column entity) ≡ is_some (value entity x)) → (entity table : ℕ) → is_some (with_table value x column entity table) ≡ is_some (value entity table)
@@ -61,7 +67,7 @@ with-rows value x column same entity table = told (x == table) refl where
 
 -- a rule gives no entity a value in a table where it has none, and takes none away
 applied-rows : (rule : Meaning) (value : Values) (entity table : ℕ) → is_some (applied rule value entity table) ≡ is_some (value entity table)
-applied-rows rule value = with-rows value rule.written (λ entity. made_beside rule.made (value entity rule.written) (value entity rule.read)) (λ entity. made-some rule.made (value entity rule.written) (value entity rule.read))
+applied-rows rule value = with-rows value rule.written (λ entity. made_beside rule (value entity rule.written) (value entity rule.read)) (λ entity. made-some rule (value entity rule.written) (value entity rule.read))
 
 step-rows : {S : Type 0} (meaning : S → Meaning) (rule after : S) (seen left : Held (Only Pairs)) (outcome : Outcome Overflow) → AppliesRule meaning rule seen outcome after left → KeepsRows seen left
 step-rows meaning rule after seen left (Ok ended) (kept, (fit, is)) entity table = ap is_some (is entity table) ∙ applied-rows (meaning rule) (values_in seen) entity table
@@ -74,21 +80,26 @@ some-kept f (Some a) None e = absurd (cc)
 some-kept f None (Some b) e = absurd (cc)
 
 module _ {R : Type 0} (meaning : R → Meaning) where
+  -- what a record does not declare it does not see
+  sees-own : (access : Access ResourceId) (r : RuleRecord R) → r.access ≡ access → ((id : ResourceId) → (Declares access id → ⊥) → r.seen id ≡ None) → (id : ResourceId) → (Declares r.access id → ⊥) → r.seen id ≡ None
+  sees-own access r declared sees id out = sees id (λ d. out (subst (λ (a : Access ResourceId). Declares a id) (sym declared) d))
+
   -- each record of a dispatch keeps its state, and which entities have values
   of-step : (access : Access ResourceId) (outcome : Outcome Overflow) (r : RuleRecord R) → IsNestedStep table_kind (rule_relations meaning).steps of_system (λ ended. done) access outcome r → Keeps r
   of-step access outcome r step =
       let (old, new, before, after, lies) = step.lies in
       let same : new.0 ≡ old.0 = lies.0.0 in
-      record { state = after ∙ ap (λ (s : RuleSystem R). of_system (record { 0 = s })) same ∙ sym before; rows = step-rows (λ system. meaning system.0) old.0 new.0 r.seen r.left outcome lies.0 }
+      record { state = after ∙ ap (λ (s : RuleSystem R). of_system (record { 0 = s })) same ∙ sym before; rows = step-rows (λ system. meaning system.0) old.0 new.0 r.seen r.left outcome lies.0; sees_only = sees-own access r step.declared step.sees_only }
 
-  of-call : (before after : NoBatch Overflow) (r : RuleRecord R) → r.before ≡ of_controller before → r.after ≡ of_controller after → after ≡ before → r.left ≡ r.seen → Keeps r
-  of-call before after r is_before is_after same left = record { state = is_after ∙ ap (λ (c : NoBatch Overflow). of_controller c) same ∙ sym is_before; rows = λ entity table. ap (λ h. is_some (value_in (h (table_id table)) entity)) left }
+  of-call : (access : Access ResourceId) (before after : NoBatch Overflow) (r : RuleRecord R) → r.access ≡ access → ((id : ResourceId) → (Declares access id → ⊥) → r.seen id ≡ None) → r.before ≡ of_controller before → r.after ≡ of_controller after → after ≡ before → r.left ≡ r.seen → Keeps r
+  of-call access before after r declared sees is_before is_after same left =
+      record { state = is_after ∙ ap (λ (c : NoBatch Overflow). of_controller c) same ∙ sym is_before; rows = λ entity table. ap (λ h. is_some (value_in (h (table_id table)) entity)) left; sees_only = sees-own access r declared sees }
 
   of-begin : (access : Access ResourceId) (answer : Result ℕ (Fault Overflow)) (r : RuleRecord R) → IsNestedStep table_kind (rule_relations meaning).begins of_controller bound access answer r → Keeps r
-  of-begin access answer r step = of-call step.lies.0 step.lies.1 r step.lies.2 step.lies.3 step.lies.4.0.state step.lies.4.0.values
+  of-begin access answer r step = of-call access step.lies.0 step.lies.1 r step.declared step.sees_only step.lies.2 step.lies.3 step.lies.4.0.state step.lies.4.0.values
 
   of-ask : (access : Access ResourceId) (answer : Result Bool (Fault Overflow)) (r : RuleRecord R) → IsNestedStep table_kind (rule_relations meaning).asks of_controller again access answer r → Keeps r
-  of-ask access answer r step = of-call step.lies.0 step.lies.1 r step.lies.2 step.lies.3 step.lies.4.0.state step.lies.4.0.values
+  of-ask access answer r step = of-call access step.lies.0 step.lies.1 r step.declared step.sees_only step.lies.2 step.lies.3 step.lies.4.0.state step.lies.4.0.values
 
   of-agent : (occupant : Option Occupant) (r : RuleRecord R) → TookStep table_kind (rule_relations meaning) occupant r → Keeps r
   of-agent (Some a_system) r (outcome, step) = of-step r.access outcome r step
@@ -98,7 +109,7 @@ module _ {R : Type 0} (meaning : R → Meaning) where
 
   module _ (before : RulesOver R) (answer : Answer (DispatchError Overflow)) (after : RulesOver R) (ran : RulesDispatched meaning before answer after) where
     all-keep : AllByRecursion Keeps ran.list
-    all-keep = AllByRecursion-weaker (IsAgentStep table_kind (rule_relations meaning) (occupants_of before)) Keeps (λ r took. let own = of-agent (occupants_of before r.agent) (record r { agent = [] }) took in record { state = own.state; rows = own.rows }) ran.list ran.steps
+    all-keep = AllByRecursion-weaker (IsAgentStep table_kind (rule_relations meaning) (occupants_of before)) Keeps (λ r took. let own = of-agent (occupants_of before r.agent) (record r { agent = [] }) took in record { state = own.state; rows = own.rows; sees_only = own.sees_only }) ran.list ran.steps
 
     kept : ((path : Agent) → (configuration_in after).states path ≡ (configuration_in before).states path) × KeepsRows before.values after.values
     kept = replay-keeps ran.list (configuration_in before) (configuration_in after) all-keep ran.replays
@@ -158,8 +169,8 @@ module _ {R : Type 0} (meaning : R → Meaning) where
         let (own, told, lists, system, state) = runs.stands place t.entry t.stands in
         let inside = subst (λ (a : Agent). IsWithinEntries (occupants_of before) before.plan a t.r.access) t.inside (among-has (λ r. IsWithinEntries (occupants_of before) before.plan r.agent r.access) ran.within) in
         let at : t.r.agent ≡ place = t.inside ∙ ap (λ (path : Agent). t.stage ∷ (t.group ∷ (t.place ∷ path))) (itself place t.path (λ plan. IsWithinEntries (λ deeper. occupants_of before (t.stage ∷ (t.group ∷ (t.place ∷ deeper)))) plan t.path t.r.access) system inside.3) in
-        let found = among-has (λ r. (configuration_in before).states r.agent ≡ Some r.before) (replay-found ran.list (configuration_in before) (configuration_in after) (all-keep before answer after ran) ran.replays) in
-        let e : Some t.r.before ≡ Some (of_system (rule_state own)) = sym found ∙ ap (configuration_in before).states at ∙ state in
+        let found = among-has (Found (configuration_in before)) (replay-found ran.list (configuration_in before) (configuration_in after) (all-keep before answer after ran) ran.replays) in
+        let e : Some t.r.before ≡ Some (of_system (rule_state own)) = sym found.state ∙ ap (configuration_in before).states at ∙ state in
         let its : t.r.before ≡ of_system (rule_state own) = cc in
         let took = among-has (IsAgentStep table_kind (rule_relations meaning) (occupants_of before)) ran.steps in
         let step = subst (λ (o : Option Occupant). TookStep table_kind (rule_relations meaning) o (record t.r { agent = [] })) (ap (occupants_of before) at ∙ system) took in
@@ -212,6 +223,19 @@ module _ {R : Type 0} (meaning : R → Meaning) where
   pub tick-told : (rules : List R) (before after : RulesOver R) → ∥ RunsRules meaning rules before ∥₁ → (answer : Answer (DispatchError Overflow)) (result : Answer TickError) → RulesDispatched meaning before answer after → Tells answer result → IsTick meaning rules before result after
   tick-told rules before after runs answer result ran tells =
       record { answer = answer; dispatch = ran; tells = tells; overflow = λ place entity is. ∥∥₁_map runs (λ r. overflow-told rules before after r answer ran result tells place entity is); no_want = λ place is. ∥∥₁_elim runs (Prim.hlevel props) (λ r. never-wants rules before after r answer ran result tells place is) }
+
+  -- the entity that it tells had a value before, so it is live
+  pub overflow-live : (rules : List R) (before after : RulesOver R) (result : Answer TickError) → IsTick meaning rules before result after → (live : ℕ → Bool) → OnlyLive live (values_in before.values) → (place entity : ℕ) → result ≡ Err (tick.Overflow place entity) → live entity ≡ true
+  overflow-live rules before after result ticked live only place entity is = ∥∥₁_elim (ticked.overflow place entity is) (Prim.hlevel props) its where
+    ran : RulesDispatched meaning before ticked.answer after
+    ran = ticked.dispatch
+
+    its : IsOverflowOf meaning rules before.plan ran.list place entity → live entity ≡ true
+    its overflow =
+        let all = replay-found ran.list (configuration_in before) (configuration_in after) (all-keep before ticked.answer after ran) ran.replays in
+        let found = All-contains (Found (configuration_in before)) ran.list overflow.r (All-from_recursion (Found (configuration_in before)) ran.list all) overflow.among in
+        let rule = meaning overflow.own in
+        only entity rule.written (found.rows entity rule.written (first-some rule (values_in overflow.r.seen entity rule.written) (values_in overflow.r.seen entity rule.read) overflow.first.here))
 
   applies : (old new : RuleState R) (seen left : Held (Only Pairs)) → (rule_relations meaning).steps old seen (Ok tt) new left → (new ≡ old) × ((entity table : ℕ) → values_in left entity table ≡ applied (meaning old.0.0) (values_in seen) entity table)
   applies old new seen left lies = (ap (λ (s : RuleSystem R). record { 0 = s }) lies.0.0, lies.0.1.1)

@@ -94,3 +94,16 @@ live-keys next (key ∷ keys) sorted below =
 pub live-count : (next : ℕ) (keys : List ℕ) → IsStrictlySortedBy nat_cmp keys → ((entity : ℕ) → Holds keys entity ≡ true → entity < next) → length keys ≡ live_below (Holds keys) next
 live-count next keys sorted below =
     live-keys next keys sorted (all-below next keys (λ entity there. below entity (same-has keys entity ∙ there))) ∙ sym (live-same (Holds keys) (Has keys) (same-has keys) next)
+
+-- where there is no key, none is live
+pub none-live : (keys : List ℕ) → length keys ≡ 0 → (entity : ℕ) → Holds keys entity ≡ false
+none-live [] none entity = refl
+none-live (key ∷ keys) none entity = absurd (omega (arith, none))
+
+-- and the other way round
+pub all-dead : (keys : List ℕ) → ((entity : ℕ) → Holds keys entity ≡ false) → length keys ≡ 0
+all-dead [] dead = refl
+all-dead (key ∷ keys) dead =
+    let own : (key == key) ≡ true = grind (arith, nat_tests) in
+    let no : true ≡ false = sym (ap (λ b. b || Holds keys key) (same-key key key ∙ own)) ∙ dead key in
+    absurd (cc)

@@ -14,7 +14,8 @@ use Rattle.shred_run.specs.declared.work.Work.{Work}
 use Rattle.shred_run.specs.declared.work.Work.TheVariants.{System}
 use Rattle.shred_run.specs.Occupants.{a_system, by_path, inside_each, of_system, work_occupants, work_states}
 use Rattle.shred_stage.specs.declared.dispatch.rule.Rule.TheVariants.{Ordered}
-use Rattle.shred.specs.Built.{IsConsistent, IsNewBuilt, IsRuleSet, KeepsAdditionIfOrdered}
+use Rattle.shred_stage.specs.Earlier.{HasId}
+use Rattle.shred.specs.Built.{IsConsistent, IsNewBuilt, IsPoolSet, IsRuleSet, KeepsAdditionIfOrdered}
 use Rattle.shredstore.specs.declared.rule.Overflow.{Overflow}
 use Rattle.shredstore.specs.Meaning.{Meaning}
 use Rattle.shredstore.specs.Plans.{IsAddedRule, IsPlanned, RuleState, RulesBuilt, RulesOver, RunsRules, rule_state}
@@ -34,6 +35,17 @@ planned-none meaning empty ordered new set = record {
   nothing : {e : PlanEntry ResourceId} (place : Agent) → entry_at {I = ResourceId} [] place ≡ Some e → ⊥
   nothing [] at = cc
   nothing (n ∷ place) at = cc
+
+-- on another number of threads
+pub planned-pool : {R : Type 0} (meaning : R → Meaning) (rules : List R) (old new : RulesBuilt R) (threads : ℕ) → IsPlanned meaning rules old → IsPoolSet old new threads → IsPlanned meaning rules new
+planned-pool meaning rules old new threads planned set = record {
+  ordered = set.rule ∙ planned.ordered;
+  next = set.next ∙ planned.next;
+  each = λ id below. subst (λ (p : Plan ResourceId). HasId p id) (sym set.plan) (planned.each id below);
+  stands = λ place entry at.
+      let (rule, told, lists, there) = planned.stands place entry (sym (ap (λ (p : Plan ResourceId). entry_at p place) set.plan) ∙ at) in
+      (rule, told, lists, set.states place ∙ there);
+}
 
 slice_get-left : {X : Type 0} (xs ys : List X) (k : ℕ) (x : X) → slice_get xs k ≡ Some x → slice_get (xs ++ ys) k ≡ Some x
 slice_get-left [] ys k x e = absurd (let f : None ≡ Some x = e in cc)

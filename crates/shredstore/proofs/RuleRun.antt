@@ -8,9 +8,9 @@ use Rattle.shred_table.specs.Slots.{with_at}
 use Rattle.shred_world.specs.declared.world.view.View.{View}
 use Rattle.shred_world.specs.Views.{IsSameView, declared_held, may_read, may_write, view_held}
 use Rattle.shredstore.specs.Meaning.{Meaning}
-use Rattle.shredstore.specs.Rows.{IsLeastUnfit, NoneUnfit, Pairs, made_beside, value_at}
-use Rattle.shredstore.specs.Rules.{AllMadeFit, IsFirstOverflow, applied}
-use Rattle.shredstore.specs.Tables.{IsLeastUnfitIn, IsRemade, MakesIn, NoneUnfitIn, table_kind, table_id, table_of, value_in, values_in}
+use Rattle.shredstore.specs.Rows.{IsLeastRefused, NoneRefused, Pairs, made_beside, value_at}
+use Rattle.shredstore.specs.Rules.{RefusesNone, IsFirstRefused, applied}
+use Rattle.shredstore.specs.Tables.{IsLeastRefusedIn, IsRemade, MakesIn, NoneRefusedIn, table_kind, table_id, table_of, value_in, values_in}
 use Rattle.shredstore.proofs.RemadeTables.{not-remade, remade, remade-others, remade-values}
 use Rattle.shredstore.proofs.Shown.{may_read-same}
 use Rattle.shredstore.proofs.Told.{same_id-true}
@@ -46,24 +46,24 @@ module _ (old new : View (Only Pairs)) (same : IsSameView old new) (made : ℕ �
     told (Some was) is (rows, each, shown) = remade made table (declared_held table_kind old) (declared_held table_kind new) was.0 rows (declared old (table_id table) may ∙ is) each (put rows shown)
 
 -- where the rule was applied to its tables, and all that it makes fits
-pub made-step : (old new : View (Only Pairs)) → IsSameView old new → (rule : Meaning) (x y : ℕ) → x ≡ rule.written → y ≡ rule.read → may_read old (table_id rule.written) ≡ true → may_read old (table_id rule.read) ≡ true → NoneUnfitIn rule.made x y old → MakesIn rule.made x y old new
-    → AllMadeFit rule (values_in (declared_held table_kind old)) × ((entity table : ℕ) → values_in (declared_held table_kind new) entity table ≡ applied rule (values_in (declared_held table_kind old)) entity table)
+pub made-step : (old new : View (Only Pairs)) → IsSameView old new → (rule : Meaning) (x y : ℕ) → x ≡ rule.written → y ≡ rule.read → may_read old (table_id rule.written) ≡ true → may_read old (table_id rule.read) ≡ true → NoneRefusedIn rule x y old → MakesIn rule x y old new
+    → RefusesNone rule (values_in (declared_held table_kind old)) × ((entity table : ℕ) → values_in (declared_held table_kind new) entity table ≡ applied rule (values_in (declared_held table_kind old)) entity table)
 made-step old new same rule x y written read may_written may_read unfit makes =
-    let fit = subst₂ (λ (a b : ℕ). NoneUnfitIn rule.made a b old) written read unfit in
-    let done = subst₂ (λ (a b : ℕ). MakesIn rule.made a b old new) written read makes in
+    let fit = subst₂ (λ (a b : ℕ). NoneRefusedIn rule a b old) written read unfit in
+    let done = subst₂ (λ (a b : ℕ). MakesIn rule a b old new) written read makes in
     let own = declared old (table_id rule.written) may_written in
     let other = declared old (table_id rule.read) may_read in
     let beside = view_held table_kind old (table_id rule.read) in (
-      subst (λ (o : Option (Only Pairs)). NoneUnfit rule.made (value_in o) (value_in (declared_held table_kind old (table_id rule.read)))) (sym own) (subst (λ (o : Option (Only Pairs)). NoneUnfit rule.made (value_in (view_held table_kind old (table_id rule.written))) (value_in o)) (sym other) fit),
-      λ entity table. remade-values (λ e value. made_beside rule.made value (value_in beside e)) rule.written (declared_held table_kind old) (declared_held table_kind new) (λ e nothing. refl)
-          (declared-remade old new same (λ e value. made_beside rule.made value (value_in beside e)) rule.written may_written done) entity table
-          ∙ ap (λ o. cond (rule.written == table) (made_beside rule.made (values_in (declared_held table_kind old) entity rule.written) (value_in o entity)) (values_in (declared_held table_kind old) entity table)) (sym other),
+      subst (λ (o : Option (Only Pairs)). NoneRefused rule (value_in o) (value_in (declared_held table_kind old (table_id rule.read)))) (sym own) (subst (λ (o : Option (Only Pairs)). NoneRefused rule (value_in (view_held table_kind old (table_id rule.written))) (value_in o)) (sym other) fit),
+      λ entity table. remade-values (λ e value. made_beside rule value (value_in beside e)) rule.written (declared_held table_kind old) (declared_held table_kind new) (λ e nothing. refl)
+          (declared-remade old new same (λ e value. made_beside rule value (value_in beside e)) rule.written may_written done) entity table
+          ∙ ap (λ o. cond (rule.written == table) (made_beside rule (values_in (declared_held table_kind old) entity rule.written) (value_in o entity)) (values_in (declared_held table_kind old) entity table)) (sym other),
     )
 
 -- where it was refused
-pub least-step : (old : View (Only Pairs)) (rule : Meaning) (x y entity : ℕ) → x ≡ rule.written → y ≡ rule.read → may_read old (table_id rule.written) ≡ true → may_read old (table_id rule.read) ≡ true → IsLeastUnfitIn rule.made x y old entity
-    → IsFirstOverflow rule (values_in (declared_held table_kind old)) entity
+pub least-step : (old : View (Only Pairs)) (rule : Meaning) (x y entity : ℕ) → x ≡ rule.written → y ≡ rule.read → may_read old (table_id rule.written) ≡ true → may_read old (table_id rule.read) ≡ true → IsLeastRefusedIn rule x y old entity
+    → IsFirstRefused rule (values_in (declared_held table_kind old)) entity
 least-step old rule x y entity written read may_written may_read unfit =
-    let least = subst₂ (λ (a b : ℕ). IsLeastUnfitIn rule.made a b old entity) written read unfit in
-    subst (λ (o : Option (Only Pairs)). IsLeastUnfit rule.made (value_in o) (value_in (declared_held table_kind old (table_id rule.read))) entity) (sym (declared old (table_id rule.written) may_written))
-    (subst (λ (o : Option (Only Pairs)). IsLeastUnfit rule.made (value_in (view_held table_kind old (table_id rule.written))) (value_in o) entity) (sym (declared old (table_id rule.read) may_read)) least)
+    let least = subst₂ (λ (a b : ℕ). IsLeastRefusedIn rule a b old entity) written read unfit in
+    subst (λ (o : Option (Only Pairs)). IsLeastRefused rule (value_in o) (value_in (declared_held table_kind old (table_id rule.read))) entity) (sym (declared old (table_id rule.written) may_written))
+    (subst (λ (o : Option (Only Pairs)). IsLeastRefused rule (value_in (view_held table_kind old (table_id rule.written))) (value_in o) entity) (sym (declared old (table_id rule.read) may_read)) least)

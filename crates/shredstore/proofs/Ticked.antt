@@ -26,12 +26,12 @@ Touches rule id = Declares (record { reads = rule_reads rule; writes = rule_writ
 -- what a rule makes of values depends on those of its tables alone
 applied-same : (entity table : ℕ) (value other : Values) (rule : Meaning) → ((t : ℕ) → Touches rule (table_id t) → value entity t ≡ other entity t) → value entity table ≡ other entity table → applied rule value entity table ≡ applied rule other entity table
 applied-same entity table value other rule same here i =
-    cond (rule.written == table) (made_beside rule.made (same rule.written (inr (zero, omega arith, refl)) i) (same rule.read (inl (zero, omega arith, refl)) i)) (here i)
+    cond (rule.written == table) (made_beside rule (same rule.written (inr (zero, omega arith, refl)) i) (same rule.read (inl (zero, omega arith, refl)) i)) (here i)
 
 -- and it leaves those of other tables
 applied-else : (entity table : ℕ) (value : Values) (rule : Meaning) → (Touches rule (table_id table) → ⊥) → applied rule value entity table ≡ value entity table
 applied-else entity table value rule out = told (rule.written == table) refl where
-  told : (b : Bool) → (rule.written == table) ≡ b → cond b (made_beside rule.made (value entity rule.written) (value entity rule.read)) (value entity table) ≡ value entity table
+  told : (b : Bool) → (rule.written == table) ≡ b → cond b (made_beside rule (value entity rule.written) (value entity rule.read)) (value entity table) ≡ value entity table
   told true e = absurd (out (inr (zero, omega arith, (let same : rule.written ≡ table = grind (arith, nat_tests) in ap table_id same))))
   told false e = refl
 

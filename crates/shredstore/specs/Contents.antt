@@ -1,6 +1,6 @@
 -- What a store has: its facts, the number of the next entity, and how many tables there are.
 use Rattle.std.specs.Prelude.{◌≡◌, ◌+◌, ◌==◌, ◌&&◌, ℕ, ℤ, true, false, cond, Some, None, IsSome, ◌<◌, ◌-◌, ◌^◌}
-use Rattle.shredstore.specs.Facts.{Facts}
+use Rattle.shredstore.specs.Facts.{Facts, live_below}
 use Rattle.shredstore.specs.Rows.{Pairs, value_at}
 use Rattle.shredstore.specs.declared.error.StoreError.{StoreError}
 use Rattle.shredstore.specs.declared.error.StoreError.TheVariants.{OutOfMemory as NoMemory}
@@ -66,17 +66,29 @@ pub record KeepsEntities (old new : Contents) : Type 0 where
   pub next : new.next ≡ old.next
   pub tables : new.tables ≡ old.tables
 
+-- how many entities are live
+abbrev pub live_in : Contents → ℕ
+live_in contents = live_below contents.facts.live contents.next
+
+-- live entities have numbers below the next one
+abbrev pub AreBelowNext : Contents → Type 0
+AreBelowNext contents = (entity : ℕ) → contents.facts.live entity ≡ true → entity < contents.next
+
 -- memory was wanting for a value that the entity has not got in the table, where both are there
 abbrev pub IsWithoutSpace : Contents → ℕ → ℕ → StoreError → Type 0
 IsWithoutSpace contents entity table error = table < contents.tables → contents.facts.live entity ≡ true → (error ≡ NoMemory) × (contents.facts.value entity table ≡ None)
 
--- there is no table of this number
-abbrev pub HasNoTable : Contents → ℕ → Type 0
-HasNoTable contents table = table < contents.tables → ⊥
-
 -- the entity is not live
 abbrev pub IsDead : Contents → ℕ → Type 0
 IsDead contents entity = contents.facts.live entity ≡ false
+
+-- no entity is live
+abbrev pub HasNoEntity : Contents → Type 0
+HasNoEntity contents = (entity : ℕ) → IsDead contents entity
+
+-- there is no table of this number
+abbrev pub HasNoTable : Contents → ℕ → Type 0
+HasNoTable contents table = table < contents.tables → ⊥
 
 -- there is a number for one more entity
 abbrev pub HasNumberLeft : Contents → Type 0
@@ -86,6 +98,10 @@ HasNumberLeft contents = contents.next ≡ 2 ^ 64 - 1 → ⊥
 abbrev pub HasRows : Contents → ℕ → Pairs → Type 0
 HasRows contents table rows = (entity : ℕ) → value_at rows entity ≡ contents.facts.value entity table
 
+-- the entity is live, and below the next number
+abbrev pub IsLive : Contents → ℕ → Type 0
+IsLive contents entity = (contents.facts.live entity ≡ true) × (entity < contents.next)
+
 -- the entities of these rows are live, and below the next number
 abbrev pub AreOfEntities : Contents → Pairs → Type 0
-AreOfEntities contents rows = (entity : ℕ) → IsSome (value_at rows entity) → (contents.facts.live entity ≡ true) × (entity < contents.next)
+AreOfEntities contents rows = (entity : ℕ) → IsSome (value_at rows entity) → IsLive contents entity

@@ -1,6 +1,6 @@
 -- Rows of a table: values by entity, in ascending order of the entities.
-use Rattle.std.specs.Prelude.{◌≡◌, ◌≢◌, ℕ, ℤ, ◌<◌, ◌≤◌, ◌==◌, if◌then◌else◌, List, [], ◌∷◌, length, map, Option, Some, None, FitsSigned, slice_index_or, pos}
-use Rattle.std.specs.Int.{w64}
+use Rattle.std.specs.Prelude.{◌≡◌, ◌≢◌, ℕ, ℤ, ◌<◌, ◌≤◌, ◌==◌, if◌then◌else◌, List, [], ◌∷◌, length, map, Option, Some, None, slice_index_or, pos}
+use Rattle.shredstore.specs.Meaning.{Meaning}
 
 -- an entity, then its value
 abbrev pub Pairs : Type 0
@@ -35,48 +35,48 @@ pub record IsChangedAt (old new : Pairs) (entity : ℕ) (value : Option ℤ) : T
   pub its : value_at new entity ≡ value
   pub others : (other : ℕ) → other ≢ entity → value_at new other ≡ value_at old other
 
--- what is made of a value and of the one beside it; a value that has none beside it stays
-abbrev pub made_beside : (ℤ → ℤ → ℤ) → Option ℤ → Option ℤ → Option ℤ
-made_beside made (Some value) (Some more) = Some (made value more)
-made_beside made (Some value) None = Some value
-made_beside made None more = None
+-- what the rule makes of a value and of the one beside it; a value that has none beside it stays
+abbrev pub made_beside : Meaning → Option ℤ → Option ℤ → Option ℤ
+made_beside rule (Some value) (Some more) = Some (rule.made value more)
+made_beside rule (Some value) None = Some value
+made_beside rule None more = None
 
--- both have a value, and what is made of them does not fit into 64 bits with sign
-abbrev pub IsUnfit : (ℤ → ℤ → ℤ) → Option ℤ → Option ℤ → Type 0
-IsUnfit made (Some value) (Some more) = FitsSigned w64 (made value more) → ⊥
-IsUnfit made (Some value) None = ⊥
-IsUnfit made None more = ⊥
+-- both are there, and the rule is refused for them
+abbrev pub IsRefusedFor : Meaning → Option ℤ → Option ℤ → Type 0
+IsRefusedFor rule (Some value) (Some more) = rule.refused value more
+IsRefusedFor rule (Some value) None = ⊥
+IsRefusedFor rule None more = ⊥
 
--- What is made of this entity's values does not fit, and of no smaller entity is that so.
-pub record IsLeastUnfit (made : ℤ → ℤ → ℤ) (first second : ℕ → Option ℤ) (entity : ℕ) : Type 0 where
-  pub unfit : IsUnfit made (first entity) (second entity)
-  pub least : (other : ℕ) → IsUnfit made (first other) (second other) → entity ≤ other
+-- The rule is refused for the values of this entity, and for those of no smaller one.
+pub record IsLeastRefused (rule : Meaning) (first second : ℕ → Option ℤ) (entity : ℕ) : Type 0 where
+  pub here : IsRefusedFor rule (first entity) (second entity)
+  pub least : (other : ℕ) → IsRefusedFor rule (first other) (second other) → entity ≤ other
 
--- what is made fits for each entity
-abbrev pub NoneUnfit : (ℤ → ℤ → ℤ) → (ℕ → Option ℤ) → (ℕ → Option ℤ) → Type 0
-NoneUnfit made first second = (entity : ℕ) → IsUnfit made (first entity) (second entity) → ⊥
+-- it is refused for those of no entity
+abbrev pub NoneRefused : Meaning → (ℕ → Option ℤ) → (ℕ → Option ℤ) → Type 0
+NoneRefused rule first second = (entity : ℕ) → IsRefusedFor rule (first entity) (second entity) → ⊥
 
 -- each row with the value that these make of its entity and its value
 abbrev pub each_row : (ℕ → ℤ → ℤ) → Pairs → Pairs
 each_row made rows = map (λ row. (row.0, made row.0 row.1)) rows
 
--- what is made of a value and of the one beside it, where there is one
-abbrev pub row_made : (ℤ → ℤ → ℤ) → ℤ → Option ℤ → ℤ
-row_made made value (Some more) = made value more
-row_made made value None = value
+-- what the rule makes of a value and of the one beside it, where there is one
+abbrev pub row_made : Meaning → ℤ → Option ℤ → ℤ
+row_made rule value (Some more) = rule.made value more
+row_made rule value None = value
 
 -- the value of the row at a place
 abbrev pub row_value : Pairs → ℕ → ℤ
 row_value rows place = let row = slice_index_or rows place (0, pos 0) in row.1
 
--- what is made of each row's value and of what these have for its entity fits
-abbrev pub AllFit : (ℤ → ℤ → ℤ) → (ℕ → Option ℤ) → Pairs → Type 0
-AllFit made more rows = (i : ℕ) → i < length rows → IsUnfit made (Some (row_value rows i)) (more (entity_at rows i)) → ⊥
+-- the rule is refused for no row's value beside what these have for its entity
+abbrev pub NoRowRefused : Meaning → (ℕ → Option ℤ) → Pairs → Type 0
+NoRowRefused rule more rows = (i : ℕ) → i < length rows → IsRefusedFor rule (Some (row_value rows i)) (more (entity_at rows i)) → ⊥
 
--- what is made of each row's value twice fits
-abbrev pub AllFitTwice : (ℤ → ℤ → ℤ) → Pairs → Type 0
-AllFitTwice made rows = (i : ℕ) → i < length rows → IsUnfit made (Some (row_value rows i)) (Some (row_value rows i)) → ⊥
+-- it is refused for no row's value beside itself
+abbrev pub NoRowRefusedTwice : Meaning → Pairs → Type 0
+NoRowRefusedTwice rule rows = (i : ℕ) → i < length rows → IsRefusedFor rule (Some (row_value rows i)) (Some (row_value rows i)) → ⊥
 
--- each entity with a value has what is made of it and of what the other rows have for it
-abbrev pub AreMade : (ℤ → ℤ → ℤ) → (rows other new : Pairs) → Type 0
-AreMade made rows other new = (entity : ℕ) → value_at new entity ≡ made_beside made (value_at rows entity) (value_at other entity)
+-- each entity with a value has what the rule makes of it and of what the other rows have for it
+abbrev pub AreMade : Meaning → (rows other new : Pairs) → Type 0
+AreMade rule rows other new = (entity : ℕ) → value_at new entity ≡ made_beside rule (value_at rows entity) (value_at other entity)

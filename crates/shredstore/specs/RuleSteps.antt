@@ -10,14 +10,14 @@ use Rattle.shredstore.specs.declared.rule.Overflow.{Overflow}
 use Rattle.shredstore.specs.Facts.{Values}
 use Rattle.shredstore.specs.Meaning.{Meaning}
 use Rattle.shredstore.specs.Rows.{Pairs}
-use Rattle.shredstore.specs.Rules.{AllMadeFit, IsFirstOverflow, applied}
+use Rattle.shredstore.specs.Rules.{RefusesNone, IsFirstRefused, applied}
 use Rattle.shredstore.specs.Tables.{table_id, values_in}
 
--- it reads its second table
+-- the table that it reads
 abbrev pub rule_reads : Meaning → List ResourceId
 rule_reads rule = table_id rule.read ∷ []
 
--- and writes its first one
+-- and the one that it writes
 abbrev pub rule_writes : Meaning → List ResourceId
 rule_writes rule = table_id rule.written ∷ []
 
@@ -26,13 +26,13 @@ pub record HasListsOf (rule : Meaning) (access : Access ResourceId) : Type 0 whe
   pub same_reads : (id : ResourceId) → Contains access.reads id ↔ Contains (rule_reads rule) id
   pub same_writes : access.writes ≡ rule_writes rule
 
--- a rule is refused for the first entity for which what is made does not fit, and never for want of memory
+-- a rule is refused for the first entity whose values are refused, and never for want of memory
 abbrev pub IsRuleFault : Meaning → Values → Fault Overflow → Type 0
-IsRuleFault rule value (Refused overflow) = IsFirstOverflow rule value overflow.entity
+IsRuleFault rule value (Refused overflow) = IsFirstRefused rule value overflow.entity
 IsRuleFault rule value OutOfMemory = ⊥
 
--- A run keeps the rule. Where it is Done, all that is made fits, and the entities have what the rule makes of their values; where it is refused, nothing changes.
+-- A run keeps the rule. Where it is Done, it is refused for no entity, and the entities have what the rule makes of their values; where it is refused, nothing changes.
 abbrev pub AppliesRule : {S : Type 0} → (S → Meaning) → Step (Only Pairs) S Overflow
 AppliesRule meaning rule seen outcome after left = (after ≡ rule) × MatchResult outcome
-    (λ done. AllMadeFit (meaning rule) (values_in seen) × ((entity table : ℕ) → values_in left entity table ≡ applied (meaning rule) (values_in seen) entity table))
+    (λ done. RefusesNone (meaning rule) (values_in seen) × ((entity table : ℕ) → values_in left entity table ≡ applied (meaning rule) (values_in seen) entity table))
     (λ fault. IsRuleFault (meaning rule) (values_in seen) fault × ((id : ResourceId) → left id ≡ seen id))

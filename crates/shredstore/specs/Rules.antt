@@ -2,7 +2,7 @@
 use Rattle.std.specs.Prelude.{ℕ, ℤ, ◌==◌, nat_lt, cond, List, [], ◌∷◌, Option, Some, None, ◌≡◌}
 use Rattle.shredstore.specs.Facts.{Values}
 use Rattle.shredstore.specs.Meaning.{Meaning}
-use Rattle.shredstore.specs.Rows.{IsLeastUnfit, NoneUnfit, made_beside}
+use Rattle.shredstore.specs.Rows.{IsLeastRefused, NoneRefused, made_beside}
 use Rattle.shredstore.specs.Contents.{Contents}
 
 -- what the entities have in one table
@@ -13,17 +13,17 @@ in_table value table entity = value entity table
 abbrev pub with_table : Values → ℕ → (ℕ → Option ℤ) → Values
 with_table value table column entity other = cond (table == other) (column entity) (value entity other)
 
--- each entity with a value in both tables of the rule has in the first what is made of the two
+-- each entity with a value in both tables of the rule has in the one that it writes what it makes of the two
 abbrev pub applied : Meaning → Values → Values
-applied rule value = with_table value rule.written (λ entity. made_beside rule.made (value entity rule.written) (value entity rule.read))
+applied rule value = with_table value rule.written (λ entity. made_beside rule (value entity rule.written) (value entity rule.read))
 
--- all that is made fits
-abbrev pub AllMadeFit : Meaning → Values → Type 0
-AllMadeFit rule value = NoneUnfit rule.made (in_table value rule.written) (in_table value rule.read)
+-- the rule is refused for no entity's values
+abbrev pub RefusesNone : Meaning → Values → Type 0
+RefusesNone rule value = NoneRefused rule (in_table value rule.written) (in_table value rule.read)
 
--- what is made for this entity does not fit, and it is the least such entity
-abbrev pub IsFirstOverflow : Meaning → Values → ℕ → Type 0
-IsFirstOverflow rule value entity = IsLeastUnfit rule.made (in_table value rule.written) (in_table value rule.read) entity
+-- it is refused for those of this entity, which is the least such one
+abbrev pub IsFirstRefused : Meaning → Values → ℕ → Type 0
+IsFirstRefused rule value entity = IsLeastRefused rule (in_table value rule.written) (in_table value rule.read) entity
 
 -- the first table of the rule that is not among so many
 abbrev pub missing : ℕ → Meaning → Option ℕ

@@ -1,7 +1,9 @@
 -- What a store has, and what its rules stand in.
 use Rattle.std.specs.Prelude.{List}
 use Rattle.shred.specs.Dispatchers.{dispatcher_over}
+use Rattle.shred.specs.KeptDispatchers.{dispatcher_of}
 use Rattle.shred.specs.declared.dispatch.dispatcher.Dispatcher.{Dispatcher}
+use Rattle.shred.specs.declared.dispatch.kept_dispatcher.KeptDispatcher.{KeptDispatcher}
 use Rattle.shred_run.specs.declared.no_batch.NoBatch.{NoBatch}
 use Rattle.shred_run.specs.declared.now.Now.{Now}
 use Rattle.shred_table.specs.declared.only.Only.{Only}
@@ -24,3 +26,7 @@ rules_of store = store.rules.items
 -- the plan of its rules, over its tables
 abbrev pub situation_of : {R N A M B : Type 0} {vd : _} {sd : _} {ad : _} {cd : _} {bd : _} {dd : _} → StoreOver R (Dispatcher (Only Pairs) (RuleState R) (NoBatch Overflow) (Now (RuleState R)) N A M B vd sd ad cd bd) dd → RulesOver R
 situation_of store = dispatcher_over table_kind store.runner store.entities.world
+
+-- the same, where it runs on workers that are kept
+abbrev pub kept_situation_of : {T R N A B : Type 0} {vd : _} {sd : _} {ad : _} {cd : _} {bd : _} {dd : _} → StoreOver R (KeptDispatcher T (Only Pairs) (RuleState R) (NoBatch Overflow) (Now (RuleState R)) N A B vd sd ad cd bd) dd → RulesOver R
+kept_situation_of store = dispatcher_over table_kind (dispatcher_of store.runner) store.entities.world

@@ -8,7 +8,8 @@ use Rattle.shred_table.specs.declared.id.ResourceId.{ResourceId}
 use Rattle.shred_table.specs.declared.only.Only.{Only}
 use Rattle.shred_world.specs.Worked.{Held}
 use Rattle.shredstore.specs.Facts.{Values}
-use Rattle.shredstore.specs.Rows.{IsLeastUnfit, NoneUnfit, Pairs, made_beside, value_at}
+use Rattle.shredstore.specs.Meaning.{Meaning}
+use Rattle.shredstore.specs.Rows.{IsLeastRefused, NoneRefused, Pairs, made_beside, value_at}
 use Rattle.shred_world.specs.declared.world.World.{World}
 use Rattle.shred_world.specs.declared.world.view.View.{View}
 use Rattle.shred_world.specs.Views.{view_held}
@@ -49,17 +50,17 @@ column_in view table entity = value_in (view_held table_kind view (table_id tabl
 abbrev pub IsRemadeIn : (ℕ → Option ℤ → Option ℤ) → ℕ → View (Only Pairs) → View (Only Pairs) → Type 0
 IsRemadeIn made table old new = IsRemade made table (view_held table_kind old) (view_held table_kind new)
 
--- what is made of the values that each entity has in both tables, as the view shows them, fits
-abbrev pub NoneUnfitIn : (ℤ → ℤ → ℤ) → ℕ → ℕ → View (Only Pairs) → Type 0
-NoneUnfitIn made x y view = NoneUnfit made (column_in view x) (column_in view y)
+-- the rule is refused for the values of no entity in the two tables, as the view shows them
+abbrev pub NoneRefusedIn : Meaning → ℕ → ℕ → View (Only Pairs) → Type 0
+NoneRefusedIn rule x y view = NoneRefused rule (column_in view x) (column_in view y)
 
--- for this entity it does not, and it is the least of those
-abbrev pub IsLeastUnfitIn : (ℤ → ℤ → ℤ) → ℕ → ℕ → View (Only Pairs) → ℕ → Type 0
-IsLeastUnfitIn made x y view entity = IsLeastUnfit made (column_in view x) (column_in view y) entity
+-- it is for those of this entity, which is the least such one
+abbrev pub IsLeastRefusedIn : Meaning → ℕ → ℕ → View (Only Pairs) → ℕ → Type 0
+IsLeastRefusedIn rule x y view entity = IsLeastRefused rule (column_in view x) (column_in view y) entity
 
--- each entity has in the first table what is made of its value there and of that in the second
-abbrev pub MakesIn : (ℤ → ℤ → ℤ) → ℕ → ℕ → View (Only Pairs) → View (Only Pairs) → Type 0
-MakesIn made x y old new = IsRemadeIn (λ entity value. made_beside made value (column_in old y entity)) x old new
+-- each entity has in the first table what the rule makes of its value there and of that in the second
+abbrev pub MakesIn : Meaning → ℕ → ℕ → View (Only Pairs) → View (Only Pairs) → Type 0
+MakesIn rule x y old new = IsRemadeIn (λ entity value. made_beside rule value (column_in old y entity)) x old new
 
 -- `IsRemade`, of what a world holds before and after
 abbrev pub IsWorldRemade : (ℕ → Option ℤ → Option ℤ) → ℕ → World (Only Pairs) → World (Only Pairs) → Type 0

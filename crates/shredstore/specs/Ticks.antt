@@ -13,10 +13,11 @@ use Rattle.shred_stage.specs.declared.dispatch.dispatch_error.DispatchError.TheV
 use Rattle.shredstore.specs.declared.error.TickError.{TickError}
 use Rattle.shredstore.specs.declared.error.TickError.TheVariants.{Memory, Overflow, RuleMemory}
 use Rattle.shredstore.specs.declared.rule.Overflow as rule
+use Rattle.shredstore.specs.Contents.{Contents, IsLive}
 use Rattle.shredstore.specs.Meaning.{Meaning}
 use Rattle.shredstore.specs.Plans.{RuleState, RulesOver, rule_relations, rule_state}
 use Rattle.shredstore.specs.Rows.{Pairs}
-use Rattle.shredstore.specs.Rules.{IsFirstOverflow}
+use Rattle.shredstore.specs.Rules.{IsFirstRefused}
 use Rattle.shredstore.specs.Tables.{table_kind, values_in}
 use Rattle.shred_table.specs.declared.id.ResourceId.{ResourceId}
 use Rattle.shred_table.specs.declared.only.Only.{Only}
@@ -44,12 +45,16 @@ Tells (Ok done) result = result ≡ Ok tt
 Tells (Err refused) (Ok done) = ⊥
 Tells (Err refused) (Err error) = TellsError refused error
 
+-- an entity that it tells is live, and below the next number
+abbrev pub TellsLive : Contents → Answer TickError → Type 0
+TellsLive contents result = (place entity : ℕ) → result ≡ Err (Overflow place entity) → IsLive contents entity
+
 -- a step of a rule
 abbrev pub RuleRecord : Type 0 → Type 0
 RuleRecord R = NestedRecord (Only Pairs) (RuleState R) (NoBatch rule.Overflow) rule.Overflow
 
 module _ {R : Type 0} (meaning : R → Meaning) where
-  -- The rule at this place took one of the steps, in the entry of the plan whose id is the place, and was refused for the entity. Of the values that it saw there, that is the least for which what is made does not fit.
+  -- The rule at this place took one of the steps, in the entry of the plan whose id is the place, and was refused for the entity. Of the values that it saw there, that is the least for whose values it is refused.
   pub record IsOverflowOf (rules : List R) (plan : Plan ResourceId) (list : List (RuleRecord R)) (place entity : ℕ) : Type 0 where
     pub below : place < length rules
     pub own : R
@@ -61,7 +66,7 @@ module _ {R : Type 0} (meaning : R → Meaning) where
     pub id : entry.id ≡ place
     pub its : r.before ≡ of_system (rule_state own)
     pub ended : r.outcome ≡ Err (Refused (record { entity = entity }))
-    pub first : IsFirstOverflow (meaning own) (values_in r.seen) entity
+    pub first : IsFirstRefused (meaning own) (values_in r.seen) entity
 
   -- The plan of the rules was dispatched, and this was told of its answer; an `Overflow` is one of the rule that it names, and no rule wants memory.
   pub record IsTick (rules : List R) (before : RulesOver R) (result : Answer TickError) (after : RulesOver R) : Type 0 where

@@ -27,9 +27,9 @@ pub struct Entities {
 impl Entities {
     ghost use Rattle.shred_world.specs.Fetched.{fetched};
     ghost use Rattle.std.specs.Prelude.{◌≡◌, ◌↔◌, ◌<◌, ◌-◌, ◌^◌, true, false, Err, IfErr, IfOk, OnErr, OnOk};
-    ghost use Rattle.shredstore.specs.Contents.{AreOfEntities, HasRows, IsCleared, IsCreated, IsDeleted, IsEmpty, IsSame, IsValueRemoved, IsValueSet};
+    ghost use Rattle.shredstore.specs.Contents.{AreBelowNext, AreOfEntities, HasNoEntity, HasRows, IsCleared, IsCreated, IsDeleted, IsEmpty, IsSame, IsValueRemoved, IsValueSet, live_in};
     ghost use Rattle.shredstore.specs.EntityFacts.{contents_in};
-    ghost use Rattle.shredstore.specs.Facts.{OnlyLive, live_below};
+    ghost use Rattle.shredstore.specs.Facts.{OnlyLive};
     ghost use Rattle.shredstore.specs.declared.error.StoreError.TheVariants.{EntitiesExhausted, NoSuchEntity, NoSuchTable, OutOfMemory as NoMemory};
 
     /// No entity is live, and there are so many tables.
@@ -64,7 +64,7 @@ impl Entities {
         Ok(entity)
     }
 
-    /// Whether the entity was live. It is not from now on, and has no values.
+    /// Whether the entity was live. It is not from now on, and has no values: those of all greater entities are moved, in each table.
     pub fn delete(&mut self, entity: Entity) -> bool
         ensures was_live { result ≡ (contents_in self.old).facts.live entity.0 }
         ensures deleted { IsDeleted (contents_in self.old) (contents_in self.new) entity.0 }
@@ -109,19 +109,29 @@ impl Entities {
 
     /// Whether the entity is live.
     pub fn is_live(&self, entity: Entity) -> bool
-        ensures { result ≡ (contents_in self.now).facts.live entity.0 }
+        ensures live { result ≡ (contents_in self.now).facts.live entity.0 }
+        ensures below { AreBelowNext (contents_in self.now) }
     {
         self.live.contains(&entity.0)
     }
 
     /// How many entities are live.
     pub fn len(&self) -> usize
-        ensures { result ≡ live_below (contents_in self.now).facts.live (contents_in self.now).next }
+        ensures count { result ≡ live_in (contents_in self.now) }
+        ensures below { AreBelowNext (contents_in self.now) }
     {
         self.live.len()
     }
 
-    /// Takes away the value of an entity in a table, and answers it, if it had one there.
+    /// Whether no entity is live.
+    pub fn is_empty(&self) -> bool
+        ensures { (result ≡ true) ↔ HasNoEntity (contents_in self.now) }
+    {
+        self.live.is_empty()
+    }
+
+    /// Takes away the value of an entity in a table, and answers it: none where it had none there, or where there is no such table or
+    /// entity. The values of all greater entities of the table are moved.
     pub fn remove(&mut self, entity: Entity, table: u64) -> Option<i64>
         ensures had { result ≡ (contents_in self.old).facts.value entity.0 table }
         ensures removed { IsValueRemoved (contents_in self.old) (contents_in self.new) entity.0 table }
@@ -129,7 +139,7 @@ impl Entities {
         remove_in(&mut self.world, table, entity.0)
     }
 
-    /// No entity is live from now on. Their numbers are not used again.
+    /// No entity is live from now on, and none has a value. Their numbers are not used again.
     pub fn clear(&mut self)
         ensures { IsCleared (contents_in self.old) (contents_in self.new) }
     {
@@ -137,7 +147,7 @@ impl Entities {
         self.live.clear();
     }
 
-    /// The rows of a table, to be gone over. `NoSuchTable` where it is not there.
+    /// The rows of a table, to be read, gone over and joined. `NoSuchTable` where it is not there.
     pub fn rows(&self, table: u64) -> Result<Fetch<'_, Rows>, StoreError>
         ensures rows { IfOk result (λ rows. HasRows (contents_in self.now) table (fetched rows)) }
         ensures entities { IfOk result (λ rows. AreOfEntities (contents_in self.now) (fetched rows)) }

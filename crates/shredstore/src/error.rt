@@ -19,9 +19,9 @@ pub enum StoreError {
 /// Why a tick ended before all rules were applied. What the rules before did stays.
 #[derive(Clone, Copy, Debug, PartialEq, Eq, Error)]
 pub enum TickError {
-    /// What the rule at this place makes of a value does not fit, and this is the least entity of which that is so. The rule
-    /// changed nothing.
-    #[error("rule {rule}: the new value of entity {entity} does not fit")]
+    /// The rule at this place refuses the values of this entity, and those of no smaller one: of an `Add`, their sum does not fit. The
+    /// rule changed nothing.
+    #[error("rule {rule} refuses entity {entity}")]
     Overflow { rule: usize, entity: u64 },
     /// The stage of this number was refused for memory; those before it are done, and it was not begun. No tick answers it.
     #[error("stage {stage}: out of memory")]

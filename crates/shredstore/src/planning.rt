@@ -2,19 +2,25 @@
 ghost use Rattle.std.specs.Prelude.{[], IfOk, OnOk};
 ghost use Rattle.shred.specs.Builders.{built};
 ghost use Rattle.shred.specs.Dispatchers.{dispatcher_with};
+ghost use Rattle.shred.specs.KeptDispatchers.{dispatcher_of as kept_dispatcher};
 ghost use Rattle.shredstore.specs.Plans.{IsAddedRule, IsPlanned, RunsOverAny};
 
 use crate::rows::Rows;
 use crate::rule_system::RuleSystem;
 use crate::table_rule::TableRule;
-use shred::{Dispatcher, DispatcherBuilder, Only, OutOfMemory, Plain, Rule};
+use shred::{Dispatcher, DispatcherBuilder, KeptDispatcher, Only, OutOfMemory, Plain, Rule};
 use std::alloc::Global;
+use std::sync::Wait;
+use std::thread::Threads;
 
 /// What plans a store's rules.
 type RuleBuilder<R> = DispatcherBuilder<Only<Rows>, Plain<RuleSystem<R>>>;
 
 /// What runs them.
 pub type RuleDispatcher<R> = Dispatcher<Only<Rows>, Plain<RuleSystem<R>>>;
+
+/// What runs them on workers that are kept.
+pub type KeptRules<T, R> = KeptDispatcher<T, Only<Rows>, Plain<RuleSystem<R>>>;
 
 /// What runs rules.
 pub trait RunsRules<R> {
@@ -28,6 +34,14 @@ impl<R: TableRule> RunsRules<R> for RuleDispatcher<R> {
     ghost use Rattle.shredstore.specs.Plans.{RunsOverAny};
 
     ghost runs = { λ dispatcher rules. RunsOverAny R.meaning rules (dispatcher_with dispatcher) };
+}
+
+impl<T: Threads + Wait, R: TableRule> RunsRules<R> for KeptRules<T, R> {
+    ghost use Rattle.shred.specs.Dispatchers.{dispatcher_with};
+    ghost use Rattle.shred.specs.KeptDispatchers.{dispatcher_of as kept_dispatcher};
+    ghost use Rattle.shredstore.specs.Plans.{RunsOverAny};
+
+    ghost runs = { λ kept rules. RunsOverAny R.meaning rules (dispatcher_with (kept_dispatcher kept)) };
 }
 
 // A builder that keeps the order of addition, without rules.
@@ -69,4 +83,21 @@ pub(crate) fn dispatcher_of<R: TableRule>(
     ensures { IfOk result (λ dispatcher. RunsOverAny R.meaning rules.now (dispatcher_with dispatcher)) }
 {
     Ok(builder_of(alloc, rules)?.build())
+}
+
+/// The same on so many threads, which are kept. Who waits looks so often before it sleeps.
+pub(crate) fn kept_of<T: Threads + Wait + Clone + Send + 'static, R: TableRule + Send + 'static>(
+    rt: &T,
+    alloc: Global,
+    rules: &[R],
+    threads: usize,
+    looks: u32,
+) -> Result<KeptRules<T, R>, OutOfMemory>
+    ensures { IfOk result (λ kept. RunsOverAny R.meaning rules.now (dispatcher_with (kept_dispatcher kept))) }
+{
+    let builder = builder_of(alloc, rules)?.with_pool(threads);
+    match builder.build().keep(rt, alloc, looks) {
+        Ok(kept) => Ok(kept),
+        Err(_) => Err(OutOfMemory),
+    }
 }

@@ -1,8 +1,8 @@
 //! The rows of a table.
-ghost use Rattle.std.specs.Prelude.{◌≡◌, [], length, None, Some, IfErr, IfOk, IfSome, OnErr, IfNone, OnOk};
+ghost use Rattle.std.specs.Prelude.{◌≡◌, ◌↔◌, [], length, true, None, Some, IfErr, IfOk, IfSome, OnErr, IfNone, OnOk};
 ghost use Rattle.std.specs.Bool.{OnFalse, OnTrue};
 ghost use Rattle.shredstore.specs.Joins.{AreRowsOf, both_of};
-ghost use Rattle.shredstore.specs.Rows.{AllFit, AllFitTwice, AreMade, IsAscending, IsAt, IsChangedAt, IsRowGap, IsLeastUnfit, IsUnfit, NoneUnfit, Pairs, each_row, row_made, value_at};
+ghost use Rattle.shredstore.specs.Rows.{NoRowRefused, NoRowRefusedTwice, AreMade, IsAscending, IsAt, IsChangedAt, IsRowGap, IsLeastRefused, IsRefusedFor, NoneRefused, Pairs, each_row, row_made, value_at};
 
 use crate::ahead::Ahead;
 use crate::joined::Joined;
@@ -27,21 +27,21 @@ impl Model for Rows {
     ghost invariant = { λ rows. IsAscending rows.pairs.items };
 }
 
-// Whether what is made of the row's value and of the one beside it, if there is one, fits.
-fn fits<R: TableRule>(rule: &R, row: (u64, i64), beside: Option<i64>) -> bool
-    ensures fits { OnTrue result (IsUnfit (R.meaning rule.now).made (Some row.1) beside → ⊥) }
-    ensures unfit { OnFalse result (IsUnfit (R.meaning rule.now).made (Some row.1) beside) }
+// Whether the rule is refused for the row's value and the one beside it, if there is one.
+fn is_refused<R: TableRule>(rule: &R, row: (u64, i64), beside: Option<i64>) -> bool
+    ensures refused { OnTrue result (IsRefusedFor (R.meaning rule.now) (Some row.1) beside) }
+    ensures taken { OnFalse result (IsRefusedFor (R.meaning rule.now) (Some row.1) beside → ⊥) }
 {
     match beside {
-        Some(beside) => rule.make(row.1, beside).is_some(),
-        None => true,
+        Some(beside) => rule.make(row.1, beside).is_none(),
+        None => false,
     }
 }
 
-// The row with what is made of its value and of the one beside it, if there is one.
+// The row with what the rule makes of its value and of the one beside it, if there is one.
 fn made<R: TableRule>(rule: &R, row: (u64, i64), beside: Option<i64>) -> (u64, i64)
-    requires { IsUnfit (R.meaning rule.now).made (Some row.1) beside → ⊥ }
-    ensures { result ≡ (row.0, row_made (R.meaning rule.now).made row.1 beside) }
+    requires { IsRefusedFor (R.meaning rule.now) (Some row.1) beside → ⊥ }
+    ensures { result ≡ (row.0, row_made (R.meaning rule.now) row.1 beside) }
 {
     let Some(beside) = beside else {
         return row;
@@ -52,19 +52,19 @@ fn made<R: TableRule>(rule: &R, row: (u64, i64), beside: Option<i64>) -> (u64, i
     }
 }
 
-// The row with what is made of its value twice.
+// The row with what the rule makes of its value twice.
 fn made_twice<R: TableRule>(rule: &R, row: (u64, i64)) -> (u64, i64)
-    requires { IsUnfit (R.meaning rule.now).made (Some row.1) (Some row.1) → ⊥ }
-    ensures { result ≡ (row.0, row_made (R.meaning rule.now).made row.1 (Some row.1)) }
+    requires { IsRefusedFor (R.meaning rule.now) (Some row.1) (Some row.1) → ⊥ }
+    ensures { result ≡ (row.0, row_made (R.meaning rule.now) row.1 (Some row.1)) }
 {
     made(rule, row, Some(row.1))
 }
 
-// Gives each row what is made of its value and of that of the other rows for its entity, if there is one.
+// Gives each row what the rule makes of its value and of that of the other rows for its entity, if there is one.
 fn make_each<R: TableRule>(rule: &R, pairs: &mut [(u64, i64)], others: &Rows)
     requires ascending { IsAscending pairs.old }
-    requires fit { AllFit (R.meaning rule.now).made (value_at others.now) pairs.old }
-    ensures { pairs.new ≡ each_row (λ entity value. row_made (R.meaning rule.now).made value (value_at others.now entity)) pairs.old }
+    requires taken { NoRowRefused (R.meaning rule.now) (value_at others.now) pairs.old }
+    ensures { pairs.new ≡ each_row (λ entity value. row_made (R.meaning rule.now) value (value_at others.now entity)) pairs.old }
 {
     let mut ahead = others.ahead();
     for row in pairs.iter_mut() {
@@ -72,10 +72,10 @@ fn make_each<R: TableRule>(rule: &R, pairs: &mut [(u64, i64)], others: &Rows)
     }
 }
 
-// Gives each row what is made of its value twice.
+// Gives each row what the rule makes of its value twice.
 fn make_each_twice<R: TableRule>(rule: &R, pairs: &mut [(u64, i64)])
-    requires { AllFitTwice (R.meaning rule.now).made pairs.old }
-    ensures { pairs.new ≡ each_row (λ entity value. row_made (R.meaning rule.now).made value (Some value)) pairs.old }
+    requires { NoRowRefusedTwice (R.meaning rule.now) pairs.old }
+    ensures { pairs.new ≡ each_row (λ entity value. row_made (R.meaning rule.now) value (Some value)) pairs.old }
 {
     for row in pairs.iter_mut() {
         *row = made_twice(rule, *row);
@@ -93,7 +93,7 @@ impl Rows {
     }
 
     /// Rows of no entity, with the allocator of these. It takes no memory.
-    pub fn none_like(&self) -> Self
+    pub(crate) fn none_like(&self) -> Self
         ensures { result ≡ [] }
     {
         Self::new(*self.pairs.allocator())
@@ -114,6 +114,13 @@ impl Rows {
         ensures { result ≡ length self.now }
     {
         self.pairs.len()
+    }
+
+    /// Whether none has a value.
+    pub fn is_empty(&self) -> bool
+        ensures { (result ≡ true) ↔ (self.now ≡ []) }
+    {
+        self.pairs.is_empty()
     }
 
     /// Gives the entity this value, and answers the one that it had. `OutOfMemory`, only where it had none; the rows are
@@ -168,14 +175,14 @@ impl Rows {
         Joined::of(&self.pairs, &others.pairs)
     }
 
-    /// The least entity of which what the rule makes does not fit, if there is one.
-    pub fn least_unfit<R: TableRule>(&self, rule: &R, others: &Rows) -> Option<u64>
-        ensures least { IfSome result (IsLeastUnfit (R.meaning rule.now).made (value_at self.now) (value_at others.now)) }
-        ensures none { IfNone result (NoneUnfit (R.meaning rule.now).made (value_at self.now) (value_at others.now)) }
+    /// The least entity for whose values the rule is refused, if there is one.
+    pub(crate) fn least_refused<R: TableRule>(&self, rule: &R, others: &Rows) -> Option<u64>
+        ensures least { IfSome result (IsLeastRefused (R.meaning rule.now) (value_at self.now) (value_at others.now)) }
+        ensures none { IfNone result (NoneRefused (R.meaning rule.now) (value_at self.now) (value_at others.now)) }
     {
         let mut ahead = others.ahead();
         for row in self.pairs.iter() {
-            if !fits(rule, *row, ahead.value(row.0)) {
+            if is_refused(rule, *row, ahead.value(row.0)) {
                 return Some(row.0);
             }
         }
@@ -183,17 +190,17 @@ impl Rows {
     }
 
     /// Gives each entity with a value here and in the other rows what the rule makes of these.
-    pub fn make<R: TableRule>(&mut self, rule: &R, others: &Rows)
-        requires { NoneUnfit (R.meaning rule.now).made (value_at self.old) (value_at others.now) }
-        ensures { AreMade (R.meaning rule.now).made self.old others.now self.new }
+    pub(crate) fn make<R: TableRule>(&mut self, rule: &R, others: &Rows)
+        requires { NoneRefused (R.meaning rule.now) (value_at self.old) (value_at others.now) }
+        ensures { AreMade (R.meaning rule.now) self.old others.now self.new }
     {
         make_each(rule, self.pairs.as_mut_slice(), others);
     }
 
     /// Gives each entity with a value what the rule makes of that, and of the same beside it.
-    pub fn make_twice<R: TableRule>(&mut self, rule: &R)
-        requires { NoneUnfit (R.meaning rule.now).made (value_at self.old) (value_at self.old) }
-        ensures { AreMade (R.meaning rule.now).made self.old self.old self.new }
+    pub(crate) fn make_twice<R: TableRule>(&mut self, rule: &R)
+        requires { NoneRefused (R.meaning rule.now) (value_at self.old) (value_at self.old) }
+        ensures { AreMade (R.meaning rule.now) self.old self.old self.new }
     {
         make_each_twice(rule, self.pairs.as_mut_slice());
     }

@@ -5,9 +5,9 @@ use thiserror::Error;
 /// What is done in each tick. A table is named by its number.
 #[derive(Clone, Copy, Debug, PartialEq, Eq)]
 pub enum StoreRule {
-    /// Each entity with values in both tables gets in the first one their sum.
+    /// Each entity with values in both tables gets in the first one their sum, refused where that does not fit into 64 bits with sign.
     Add(u64, u64),
-    /// Each entity with a value in the table gets this one there.
+    /// Each entity with a value in the table gets this one there, which is never refused.
     Set(u64, i64),
 }
 
@@ -38,9 +38,9 @@ impl TableRule for StoreRule {
     }
 }
 
-/// The least entity of which a new value does not fit into 64 bits with sign.
+/// The least entity whose values a rule refuses.
 #[derive(Clone, Copy, Debug, PartialEq, Eq, Error)]
-#[error("the new value of entity {entity} does not fit")]
+#[error("the values of entity {entity} are refused")]
 pub struct Overflow {
     pub entity: u64,
 }

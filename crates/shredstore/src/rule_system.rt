@@ -3,8 +3,8 @@ ghost use Rattle.std.specs.Prelude.{◌≡◌, ◌≢◌, [], ℕ, false, IfErr,
 ghost use Rattle.std.specs.Option.{option_map};
 ghost use Rattle.shred_table.specs.declared.id.ResourceId.{ResourceId};
 ghost use Rattle.shred_world.specs.Views.{IsSameView, is_out, may_read, may_write, view_held};
-ghost use Rattle.shredstore.specs.Rows.{IsLeastUnfit, NoneUnfit, made_beside};
-ghost use Rattle.shredstore.specs.Tables.{table_kind, table_id, table_of, column_in, IsRemadeIn, MakesIn, NoneUnfitIn, IsLeastUnfitIn};
+ghost use Rattle.shredstore.specs.Rows.{IsLeastRefused, NoneRefused, made_beside};
+ghost use Rattle.shredstore.specs.Tables.{table_kind, table_id, table_of, column_in, IsRemadeIn, MakesIn, NoneRefusedIn, IsLeastRefusedIn};
 ghost use Rattle.shred_table.specs.Changes.{Stays, Puts};
 
 use crate::rows::Rows;
@@ -27,15 +27,15 @@ fn rows_in<'v>(view: &'v View<Only<Rows>>, table: u64) -> Option<&'v Rows>
     view.read::<Rows>(only_id(table)).ok()
 }
 
-// The least entity of which what the rule makes of its values in x and y does not fit, if there is one.
-fn overflow_in<R: TableRule>(view: &View<Only<Rows>>, rule: &R, x: u64, y: u64) -> Option<u64>
+// The least entity for whose values in x and y the rule is refused, if there is one.
+fn refused_in<R: TableRule>(view: &View<Only<Rows>>, rule: &R, x: u64, y: u64) -> Option<u64>
     requires may_x { may_read view.now (table_id x) ≡ true }
     requires may_y { may_read view.now (table_id y) ≡ true }
     requires in_place { (id : ResourceId) → is_out view.now id ≡ false }
-    ensures least { IfSome result (IsLeastUnfitIn (R.meaning rule.now).made x y view.now) }
-    ensures none { IfNone result (NoneUnfitIn (R.meaning rule.now).made x y view.now) }
+    ensures least { IfSome result (IsLeastRefusedIn (R.meaning rule.now) x y view.now) }
+    ensures none { IfNone result (NoneRefusedIn (R.meaning rule.now) x y view.now) }
 {
-    rows_in(view, x)?.least_unfit(rule, rows_in(view, y)?)
+    rows_in(view, x)?.least_refused(rule, rows_in(view, y)?)
 }
 
 // Takes the rows of a table out of the view, where it shows one, and leaves none there.
@@ -70,15 +70,15 @@ fn put(view: &mut View<Only<Rows>>, table: u64, rows: Rows)
     }
 }
 
-// Gives the values of the table x what the rule makes of them and of those of another table y, where all that fits. While it is
-// done, x has no rows in the view.
+// Gives the values of the table x what the rule makes of them and of those of another table y, where it is refused for none. While
+// it is done, x has no rows in the view.
 fn make_beside<R: TableRule>(view: &mut View<Only<Rows>>, rule: &R, x: u64, y: u64)
     requires apart { x ≢ y }
     requires may_x { may_write view.old (table_id x) ≡ true }
     requires may_y { may_read view.old (table_id y) ≡ true }
     requires in_place { (id : ResourceId) → is_out view.old id ≡ false }
-    requires fit { NoneUnfitIn (R.meaning rule.now).made x y view.old }
-    ensures made { MakesIn (R.meaning rule.now).made x y view.old view.new }
+    requires taken { NoneRefusedIn (R.meaning rule.now) x y view.old }
+    ensures made { MakesIn (R.meaning rule.now) x y view.old view.new }
     ensures view { IsSameView view.old view.new }
 {
     let Some(mut rows) = take(view, x) else {
@@ -90,12 +90,12 @@ fn make_beside<R: TableRule>(view: &mut View<Only<Rows>>, rule: &R, x: u64, y: u
     put(view, x, rows);
 }
 
-// Gives the values of a table what the rule makes of each twice, where all that fits.
+// Gives the values of a table what the rule makes of each twice, where it is refused for none.
 fn make_twice<R: TableRule>(view: &mut View<Only<Rows>>, rule: &R, table: u64)
     requires may { may_write view.old (table_id table) ≡ true }
     requires in_place { is_out view.old (table_id table) ≡ false }
-    requires fit { NoneUnfitIn (R.meaning rule.now).made table table view.old }
-    ensures made { MakesIn (R.meaning rule.now).made table table view.old view.new }
+    requires taken { NoneRefusedIn (R.meaning rule.now) table table view.old }
+    ensures made { MakesIn (R.meaning rule.now) table table view.old view.new }
     ensures view { IsSameView view.old view.new }
 {
     if let Ok(rows) = view.write::<Rows>(only_id(table)) {
@@ -103,7 +103,7 @@ fn make_twice<R: TableRule>(view: &mut View<Only<Rows>>, rule: &R, table: u64)
     }
 }
 
-// Gives the values of the table x what the rule makes of them and of those of y, where all that fits.
+// Gives the values of the table x what the rule makes of them and of those of y, where it is refused for none.
 fn apply<R: TableRule>(
     view: &mut View<Only<Rows>>,
     rule: &R,
@@ -113,13 +113,13 @@ fn apply<R: TableRule>(
     requires may_x { may_write view.old (table_id x) ≡ true }
     requires may_y { may_read view.old (table_id y) ≡ true }
     requires in_place { (id : ResourceId) → is_out view.old id ≡ false }
-    ensures fit { OnOk result (NoneUnfitIn (R.meaning rule.now).made x y view.old) }
-    ensures made { OnOk result (MakesIn (R.meaning rule.now).made x y view.old view.new) }
-    ensures least { IfErr result (λ overflow. IsLeastUnfitIn (R.meaning rule.now).made x y view.old overflow.entity) }
+    ensures taken { OnOk result (NoneRefusedIn (R.meaning rule.now) x y view.old) }
+    ensures made { OnOk result (MakesIn (R.meaning rule.now) x y view.old view.new) }
+    ensures least { IfErr result (λ overflow. IsLeastRefusedIn (R.meaning rule.now) x y view.old overflow.entity) }
     ensures unchanged { OnErr result (Stays (view_held table_kind) view.old view.new) }
     ensures view { IsSameView view.old view.new }
 {
-    if let Some(entity) = overflow_in(view, rule, x, y) {
+    if let Some(entity) = refused_in(view, rule, x, y) {
         return Err(Overflow { entity });
     }
     if x == y {

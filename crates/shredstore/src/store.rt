@@ -1,6 +1,7 @@
 //! The store.
 ghost use Rattle.std.specs.Prelude.{◌≡◌, IfOk};
 ghost use Rattle.shred.specs.Dispatchers.{dispatcher_over, dispatcher_with};
+ghost use Rattle.shred.specs.KeptDispatchers.{dispatcher_of as kept_dispatcher};
 ghost use Rattle.shredstore.specs.Contents.{IsEmpty, IsWithoutSpace, HasNoTable, IsDead, HasNumberLeft};
 ghost use Rattle.shredstore.specs.EntityFacts.{contents_in};
 ghost use Rattle.shredstore.specs.Plans.{RunsOverAny};
@@ -11,12 +12,13 @@ ghost use Rattle.shredstore.specs.Ticks.{RulesDispatched, IsOfSystems, Tells};
 use crate::entities::Entities;
 use crate::entity::Entity;
 use crate::error::{StoreError, TickError};
-use crate::planning::{RuleDispatcher, RunsRules, dispatcher_of};
+use crate::planning::{KeptRules, RuleDispatcher, RunsRules, dispatcher_of, kept_of};
 use crate::rows::Rows;
 use crate::rule::{Overflow, StoreRule};
 use crate::table_rule::TableRule;
 use shred::{DispatchError, Fault, Fetch, Only, OutOfMemory, World};
-use std::alloc::Global;
+use std::alloc::{AllocFailed, Global};
+use std::sync::Wait;
 use std::thread::Threads;
 
 /// Entities with values in tables, and rules that each tick applies, by what runs them.
@@ -33,6 +35,9 @@ pub type RuleStore<R> = StoreOver<R, RuleDispatcher<R>>;
 
 /// A store whose rules are `StoreRule`s.
 pub type Store = RuleStore<StoreRule>;
+
+/// A store whose rules run on workers that are kept.
+pub type KeptStore<T, R> = StoreOver<R, KeptRules<T, R>>;
 
 // The first table of the rules that is not among so many.
 fn first_missing<R: TableRule>(tables: u64, rules: &[R]) -> Option<u64>
@@ -100,6 +105,16 @@ fn dispatched_in_order<R: TableRule>(
     dispatcher.dispatch_seq(world)
 }
 
+// A dispatch on workers that are kept.
+fn dispatched_on_kept<T: Threads + Wait + Drop, R: TableRule>(
+    kept: &mut KeptRules<T, R>,
+    world: &mut World<Only<Rows>>,
+) -> Result<(), DispatchError<Overflow>>
+    ensures { RulesDispatched R.meaning (dispatcher_over table_kind (kept_dispatcher kept.old) world.old) result (dispatcher_over table_kind (kept_dispatcher kept.new) world.new) }
+{
+    kept.dispatch_par(world)
+}
+
 // A store without entities, with so many tables and these rules.
 fn store_of<R: TableRule>(
     alloc: Global,
@@ -120,7 +135,7 @@ impl<R: TableRule> RuleStore<R> {
     ghost use Rattle.std.specs.Prelude.{Err, IfErr, IfNone, IfSome, OnOk};
     ghost use Rattle.shredstore.specs.Contents.{KeepsEntities};
     ghost use Rattle.shredstore.specs.Stores.{contents_of, rules_of, situation_of};
-    ghost use Rattle.shredstore.specs.Ticks.{IsTick};
+    ghost use Rattle.shredstore.specs.Ticks.{IsTick, TellsLive};
     ghost use Rattle.shredstore.specs.declared.error.StoreError.TheVariants.{NoSuchTable, OutOfMemory as NoMemory};
 
     /// A store without entities, with so many tables, numbered from 0 on, and these rules. `NoSuchTable` for the first rule with a
@@ -144,6 +159,7 @@ impl<R: TableRule> RuleStore<R> {
     pub fn tick_seq(&mut self) -> Result<(), TickError>
         ensures applied { OnOk result (AppliesAll R.meaning (rules_of self.old) (contents_of self.old) (contents_of self.new)) }
         ensures dispatched { IsTick R.meaning (rules_of self.old) (situation_of self.old) result (situation_of self.new) }
+        ensures live { TellsLive (contents_of self.old) result }
         ensures kept { KeepsEntities (contents_of self.old) (contents_of self.new) }
         ensures rules { rules_of self.new ≡ rules_of self.old }
     {
@@ -153,9 +169,9 @@ impl<R: TableRule> RuleStore<R> {
 
 impl<R, D: RunsRules<R>> StoreOver<R, D> {
     ghost use Rattle.shred_world.specs.Fetched.{fetched};
-    ghost use Rattle.std.specs.Prelude.{◌↔◌, ◌<◌, ◌-◌, ◌^◌, Err, IfErr, OnErr, OnOk};
-    ghost use Rattle.shredstore.specs.Contents.{AreOfEntities, HasRows, IsCleared, IsCreated, IsDeleted, IsSame, IsValueRemoved, IsValueSet};
-    ghost use Rattle.shredstore.specs.Facts.{OnlyLive, live_below};
+    ghost use Rattle.std.specs.Prelude.{◌↔◌, ◌<◌, ◌-◌, ◌^◌, true, Err, IfErr, OnErr, OnOk};
+    ghost use Rattle.shredstore.specs.Contents.{AreBelowNext, AreOfEntities, HasNoEntity, HasRows, IsCleared, IsCreated, IsDeleted, IsSame, IsValueRemoved, IsValueSet, live_in};
+    ghost use Rattle.shredstore.specs.Facts.{OnlyLive};
     ghost use Rattle.shredstore.specs.Stores.{contents_of, rules_of};
     ghost use Rattle.shredstore.specs.declared.error.StoreError.TheVariants.{EntitiesExhausted, NoSuchEntity, NoSuchTable, OutOfMemory as NoMemory};
 
@@ -172,7 +188,7 @@ impl<R, D: RunsRules<R>> StoreOver<R, D> {
         self.entities.create()
     }
 
-    /// Whether the entity was live. It is not from now on, and its rows are gone.
+    /// Whether the entity was live. It is not from now on, and its rows are gone: those of all greater entities are moved, in each table.
     pub fn delete(&mut self, entity: Entity) -> bool
         ensures was_live { result ≡ (contents_of self.old).facts.live entity.0 }
         ensures deleted { IsDeleted (contents_of self.old) (contents_of self.new) entity.0 }
@@ -206,19 +222,29 @@ impl<R, D: RunsRules<R>> StoreOver<R, D> {
 
     /// Whether the entity is live.
     pub fn is_live(&self, entity: Entity) -> bool
-        ensures { result ≡ (contents_of self.now).facts.live entity.0 }
+        ensures live { result ≡ (contents_of self.now).facts.live entity.0 }
+        ensures below { AreBelowNext (contents_of self.now) }
     {
         self.entities.is_live(entity)
     }
 
     /// How many entities are live.
     pub fn len(&self) -> usize
-        ensures { result ≡ live_below (contents_of self.now).facts.live (contents_of self.now).next }
+        ensures count { result ≡ live_in (contents_of self.now) }
+        ensures below { AreBelowNext (contents_of self.now) }
     {
         self.entities.len()
     }
 
-    /// Takes away the value of an entity in a table, and answers it, if it had one there.
+    /// Whether no entity is live.
+    pub fn is_empty(&self) -> bool
+        ensures { (result ≡ true) ↔ HasNoEntity (contents_of self.now) }
+    {
+        self.entities.is_empty()
+    }
+
+    /// Takes away the value of an entity in a table, and answers it: none where it had none there, or where there is no such table or
+    /// entity. The values of all greater entities of the table are moved.
     pub fn remove(&mut self, entity: Entity, table: u64) -> Option<i64>
         ensures had { result ≡ (contents_of self.old).facts.value entity.0 table }
         ensures removed { IsValueRemoved (contents_of self.old) (contents_of self.new) entity.0 table }
@@ -227,7 +253,7 @@ impl<R, D: RunsRules<R>> StoreOver<R, D> {
         self.entities.remove(entity, table)
     }
 
-    /// No entity is live from now on. Their numbers are not used again.
+    /// No entity is live from now on, and none has a value. Their numbers are not used again.
     pub fn clear(&mut self)
         ensures cleared { IsCleared (contents_of self.old) (contents_of self.new) }
         ensures rules { rules_of self.new ≡ rules_of self.old }
@@ -235,7 +261,7 @@ impl<R, D: RunsRules<R>> StoreOver<R, D> {
         self.entities.clear();
     }
 
-    /// The rows of a table, to be gone over. `NoSuchTable` where it is not there.
+    /// The rows of a table, to be read, gone over and joined. `NoSuchTable` where it is not there.
     pub fn rows(&self, table: u64) -> Result<Fetch<'_, Rows>, StoreError>
         ensures rows { IfOk result (λ rows. HasRows (contents_of self.now) table (fetched rows)) }
         ensures entities { IfOk result (λ rows. AreOfEntities (contents_of self.now) (fetched rows)) }
@@ -257,17 +283,65 @@ impl<R: TableRule + Send> RuleStore<R> {
     ghost use Rattle.std.specs.Prelude.{OnOk};
     ghost use Rattle.shredstore.specs.Contents.{KeepsEntities};
     ghost use Rattle.shredstore.specs.Stores.{contents_of, rules_of, situation_of};
-    ghost use Rattle.shredstore.specs.Ticks.{IsTick};
+    ghost use Rattle.shredstore.specs.Ticks.{IsTick, TellsLive};
 
     /// Applies the rules one after the other, in the order given to `new`, those that touch other tables beside each other on
     /// threads. A refused rule ends the tick; what the rules that ran have done stays.
     pub fn tick<T: Threads + Sync>(&mut self, rt: &T) -> Result<(), TickError>
         ensures applied { OnOk result (AppliesAll R.meaning (rules_of self.old) (contents_of self.old) (contents_of self.new)) }
         ensures dispatched { IsTick R.meaning (rules_of self.old) (situation_of self.old) result (situation_of self.new) }
+        ensures live { TellsLive (contents_of self.old) result }
         ensures kept { KeepsEntities (contents_of self.old) (contents_of self.new) }
         ensures rules { rules_of self.new ≡ rules_of self.old }
     {
         told(dispatched(rt, &mut self.runner, &mut self.entities.world))
+    }
+}
+
+impl<R: TableRule + Send + 'static> RuleStore<R> {
+    ghost use Rattle.std.specs.Prelude.{IfErr};
+    ghost use Rattle.shredstore.specs.Stores.{contents_of, rules_of};
+
+    /// The store with workers that are kept: so many threads, the caller's among them. Who waits, a worker or the caller, looks
+    /// `looks` times before it sleeps. A worker that cannot be started is one fewer. Where memory is refused, the store comes back.
+    pub fn keep<T: Threads + Wait + Clone + Send + 'static>(
+        self,
+        rt: &T,
+        threads: usize,
+        looks: u32,
+    ) -> Result<KeptStore<T, R>, AllocFailed<RuleStore<R>>>
+        ensures contents { IfOk result (λ store. contents_of store ≡ contents_of self) }
+        ensures rules { IfOk result (λ store. rules_of store ≡ rules_of self) }
+        ensures back { IfErr result (λ refused. refused.value ≡ self) }
+    {
+        let alloc = *self.rules.allocator();
+        match kept_of(rt, alloc, &self.rules, threads, looks) {
+            Ok(runner) => Ok(StoreOver {
+                entities: self.entities,
+                rules: self.rules,
+                runner,
+            }),
+            Err(_) => Err(AllocFailed { value: self }),
+        }
+    }
+}
+
+impl<T: Threads + Wait + Drop, R: TableRule> KeptStore<T, R> {
+    ghost use Rattle.std.specs.Prelude.{OnOk};
+    ghost use Rattle.shredstore.specs.Contents.{KeepsEntities};
+    ghost use Rattle.shredstore.specs.Stores.{contents_of, rules_of, kept_situation_of};
+    ghost use Rattle.shredstore.specs.Ticks.{IsTick, TellsLive};
+
+    /// Applies the rules as the `tick` of a `RuleStore` does, those that touch other tables beside each other on the workers that are
+    /// free and on the caller's thread. It starts no thread.
+    pub fn tick(&mut self) -> Result<(), TickError>
+        ensures applied { OnOk result (AppliesAll R.meaning (rules_of self.old) (contents_of self.old) (contents_of self.new)) }
+        ensures dispatched { IsTick R.meaning (rules_of self.old) (kept_situation_of self.old) result (kept_situation_of self.new) }
+        ensures live { TellsLive (contents_of self.old) result }
+        ensures kept { KeepsEntities (contents_of self.old) (contents_of self.new) }
+        ensures rules { rules_of self.new ≡ rules_of self.old }
+    {
+        told(dispatched_on_kept(&mut self.runner, &mut self.entities.world))
     }
 }
 

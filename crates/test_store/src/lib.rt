@@ -6,6 +6,10 @@ mod calls;
 #[cfg(test)]
 mod demos;
 #[cfg(test)]
+mod kept;
+#[cfg(test)]
+mod leaps;
+#[cfg(test)]
 mod own_rules;
 #[cfg(test)]
 mod refusals;

@@ -83,11 +83,15 @@ fn a_deleted_entity_is_not_live(rt: HostRuntime) -> Result<(), Fail> {
 #[test]
 fn a_cleared_store_has_no_entity(rt: HostRuntime) -> Result<(), Fail> {
     let (mut store, first, second) = two_entities(rt.alloc())?;
+    assert!(rt; !store.is_empty());
+    assert!(rt; !store.rows(2)?.is_empty());
     store.clear();
     assert_eq!(rt; store.len(), 0);
+    assert!(rt; store.is_empty());
     assert!(rt; !store.is_live(second));
     assert_eq!(rt; row_of(&store, first), (None, None, None));
     assert_eq!(rt; store.rows(0)?.len(), 0);
+    assert!(rt; store.rows(2)?.is_empty());
     assert_eq!(rt; store.create(), Ok(Entity(2)));
     Ok(())
 }

@@ -1,5 +1,5 @@
 //! Stores with entities, and what is in their tables.
-use shredstore::{Entity, Store, StoreError, StoreRule};
+use shredstore::{Entity, RunsRules, Store, StoreError, StoreOver, StoreRule};
 use std::alloc::Global;
 
 /// What an entity has in the tables 0, 1 and 2.
@@ -34,7 +34,7 @@ pub fn add_row(store: &mut Store, row: Row) -> Result<Entity, StoreError> {
 }
 
 /// What the entity has.
-pub fn row_of(store: &Store, entity: Entity) -> Row {
+pub fn row_of<R, D: RunsRules<R>>(store: &StoreOver<R, D>, entity: Entity) -> Row {
     (
         store.get(entity, 0),
         store.get(entity, 1),

@@ -1,4 +1,4 @@
-use Rattle.std.proofs.Common.{◌≡◌, ◌∷◌, ◌++◌, [], get_or, take, take_all, sym, ◌∙◌, subst, arith}
+use Rattle.std.proofs.Common.{◌∷◌, ◌++◌, [], take, take_all, sym, subst, arith}
 use Rattle.std.proofs.lemmas.List.{take_more}
 use Rattle.shred.specs.Builders.{built}
 use Rattle.shredstore.specs.Plans.{IsPlanned}

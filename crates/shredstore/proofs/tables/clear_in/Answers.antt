@@ -1,4 +1,4 @@
-use Rattle.std.proofs.Common.{None, [], IsOk, is_ok, refl, sym, ◌∙◌, ap, subst}
+use Rattle.std.proofs.Common.{None, IsOk, is_ok, sym, ◌∙◌, ap}
 use Rattle.shred_world.specs.Worlds.{world_held}
 use Rattle.shredstore.specs.Rows.{value_at}
 use Rattle.shredstore.specs.Tables.{table_kind}

@@ -1,7 +1,7 @@
-use Rattle.std.proofs.Common.{◌≡◌, ◌∷◌, ℕ, FitsSigned, to_z, of_z, w64, Some, sym, ◌∙◌, ap, subst, arith, rules}
+use Rattle.std.proofs.Common.{◌≡◌, ◌∷◌, FitsSigned, to_z, of_z, w64, sym, ◌∙◌, ap, subst, arith, rules}
 use Rattle.std.proofs.lemmas.Int.{ints}
 use Rattle.shredstore.specs.Joins.{joined, with_row}
-use Rattle.shredstore.specs.Rows.{IsAscending, value_at}
+use Rattle.shredstore.specs.Rows.{IsAscending}
 use Rattle.shredstore.proofs.JoinedRows.{joined-same, shorter}
 use Rattle.shredstore.proofs.PassedBy.{ascending-tail, still-first}
 use Rattle.shredstore.proofs.joined.JoinedIterator.next.Goals as goal

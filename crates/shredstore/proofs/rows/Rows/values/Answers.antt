@@ -1,4 +1,4 @@
-use Rattle.std.proofs.Common.{◌≡◌, sym, ◌∙◌, subst}
+use Rattle.std.proofs.Common.{sym, ◌∙◌, subst}
 use Rattle.shredstore.specs.Joins.{AreRowsOf}
 use Rattle.shredstore.specs.Rows.{IsAscending, value_at}
 use Rattle.shredstore.proofs.JoinedRows.{are-rows}

@@ -28,18 +28,18 @@ returns-in-Ok-clause-step g c =
     let view = c.args.view.now in
     let may_written : may_read view (table_id rule.written) ≡ true = c.requires.lent.may_read (table_id rule.written) ∙ rw (same_id-refl (table_id rule.written)) (or_true _) in
     let may_beside : may_read view (table_id rule.read) ≡ true = c.requires.lent.may_read (table_id rule.read) ∙ rw (same_id-refl (table_id rule.read)) refl in
-    (refl, made-step view c.apply.new.view c.in-Ok.ensures.view rule c.writes-x.result c.reads-y.result c.writes-x.ensures c.reads-y.ensures may_written may_beside c.in-Ok.ensures.fit c.in-Ok.ensures.made)
+    (refl, made-step view c.apply.new.view c.in-Ok.ensures.view rule c.writes-x.result c.reads-y.result c.writes-x.ensures c.reads-y.ensures may_written may_beside c.in-Ok.ensures.taken c.in-Ok.ensures.made)
 
 pub returns-in-Ok-clause-ids : goal.returns-in-Ok-clause-ids
 returns-in-Ok-clause-ids g c =
     let rule = g.R.TableRule.meaning c.args.self.now.0 in
-    remade-held (λ entity value. made_beside rule.made value (value_in (view_held table_kind c.args.view.now (table_id c.reads-y.result)) entity)) c.writes-x.result (view_held table_kind c.args.view.now) (view_held table_kind c.apply.new.view) c.in-Ok.ensures.made
+    remade-held (λ entity value. made_beside rule value (value_in (view_held table_kind c.args.view.now (table_id c.reads-y.result)) entity)) c.writes-x.result (view_held table_kind c.args.view.now) (view_held table_kind c.apply.new.view) c.in-Ok.ensures.made
 
 pub returns-in-Ok-clause-frame : goal.returns-in-Ok-clause-frame
 returns-in-Ok-clause-frame g c =
     let rule = g.R.TableRule.meaning c.args.self.now.0 in
     let may : may_write c.args.view.now (table_id c.writes-x.result) ≡ true = subst (λ (table : ℕ). may_write c.args.view.now (table_id table) ≡ true) (sym c.writes-x.ensures) (c.requires.lent.may_write (table_id rule.written) ∙ rw (same_id-refl (table_id rule.written)) refl) in
-    unwritten-stays c.args.view.now c.apply.new.view c.in-Ok.ensures.view (λ entity value. made_beside rule.made value (value_in (view_held table_kind c.args.view.now (table_id c.reads-y.result)) entity)) c.writes-x.result may c.in-Ok.ensures.made
+    unwritten-stays c.args.view.now c.apply.new.view c.in-Ok.ensures.view (λ entity value. made_beside rule value (value_in (view_held table_kind c.args.view.now (table_id c.reads-y.result)) entity)) c.writes-x.result may c.in-Ok.ensures.made
 
 pub returns-in-Err-clause-step : goal.returns-in-Err-clause-step
 returns-in-Err-clause-step g c =

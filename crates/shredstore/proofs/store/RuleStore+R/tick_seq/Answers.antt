@@ -4,7 +4,7 @@ use Rattle.shred_world.specs.Worlds.{world_held}
 use Rattle.shred.specs.Dispatchers.{dispatcher_over}
 use Rattle.shredstore.specs.Held.{is_live}
 use Rattle.shredstore.specs.Tables.{table_kind, table_id}
-use Rattle.shredstore.proofs.Dispatches.{of-systems, only-live, runs-over, still-runs, tables-kept, tick-applies, tick-told}
+use Rattle.shredstore.proofs.Dispatches.{of-systems, only-live, overflow-live, runs-over, still-runs, tables-kept, tick-applies, tick-told}
 use Rattle.shredstore.proofs.store.RuleStore+R.tick_seq.Goals as goal
 
 pub invariant_of-self : goal.invariant_of-self
@@ -37,3 +37,9 @@ pub returns-clause-dispatched : goal.returns-clause-dispatched
 returns-clause-dispatched g c =
     let old = c.args.self.now in
     tick-told g.R.TableRule.meaning old.rules.items (dispatcher_over table_kind old.runner old.entities.world) (dispatcher_over table_kind c.dispatched_in_order.new.dispatcher c.dispatched_in_order.new.world) (∥∥₁_map old.runs_rules (λ runs. runs (world_held table_kind old.entities.world))) c.dispatched_in_order.result c.told.result c.dispatched_in_order.ensures c.told.ensures
+
+pub returns-clause-live : goal.returns-clause-live
+returns-clause-live g c place entity is =
+    let old = c.args.self.now in
+    let live = overflow-live g.R.TableRule.meaning old.rules.items (dispatcher_over table_kind old.runner old.entities.world) (dispatcher_over table_kind c.dispatched_in_order.new.dispatcher c.dispatched_in_order.new.world) c.told.result (returns-clause-dispatched g c) (is_live old.entities.live) old.entities.of_live place entity is in
+    (live, old.entities.below entity live)

@@ -7,7 +7,7 @@ use Rattle.shred_world.specs.declared.world.view.DataError.{DataError}
 use Rattle.shred_world.specs.declared.world.view.DataError.TheVariants.{OutOfMemory}
 use Rattle.shred_world.specs.Grants.{Grant, without, Moved, given_back, grant_of}
 use Rattle.shred_table.specs.Slots.{among}
-use Rattle.shred_world.specs.Views.{refusal}
+use Rattle.shred_world.specs.Views.{is_out, refusal}
 use Rattle.shred_world.specs.Handing.{moved_value}
 use Rattle.shred_world.specs.declared.world.view.View.{View}
 
@@ -121,3 +121,15 @@ HasBack kind old moved new = grant_of kind new ≡ given_back (grant_of kind old
 -- the view after what it moves out for the id was handed out
 abbrev pub LacksMoved : {V : Type 0} → (V → Kind) → View V → ResourceId → View V → Type 0
 LacksMoved kind old id new = grant_of kind new ≡ after_moved (grant_of kind old) id (moved_value kind old id)
+
+-- the view is as before once the bundle is given back
+abbrev pub IsUndoneBy : {V D : Type 0} → (V → Kind) → (D → Moved V) → View V → View V → D → Type 0
+IsUndoneBy kind moved old new bundle = given_back (grant_of kind new) (moved bundle) ≡ grant_of kind old
+
+-- just these ids are moved out of the view
+abbrev pub HasJustOut : {V : Type 0} → View V → List ResourceId → Type 0
+HasJustOut view ids = (id : ResourceId) → is_out view id ≡ among ids id
+
+-- nothing is moved out of the view
+abbrev pub HasNothingMoved : {V : Type 0} → View V → Type 0
+HasNothingMoved view = (id : ResourceId) → is_out view id ≡ false

@@ -22,3 +22,7 @@ IsFoundIn held asked value id found = (asked ≡ id_kind id) × (option_map valu
 -- the id is of the kind that was asked for, and the resource that is lent is what is held under it
 abbrev pub IsLentFrom : {V R : Type 0} → (ResourceId → Option V) → Kind → (R → V) → ResourceId → MutBor R → Type 0
 IsLentFrom held asked wrapped id r = (asked ≡ id_kind id) × (held id ≡ Some (wrapped r.now))
+
+-- what a fetch shows, as a value
+abbrev pub fetched_as : {V R : Type 0} → (R → V) → Fetch R → V
+fetched_as wrapped f = wrapped (fetched f)

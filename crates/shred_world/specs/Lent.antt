@@ -9,6 +9,7 @@ use Rattle.shred_world.specs.declared.world.local.LocalWorld.{LocalWorld}
 use Rattle.shred_world.specs.contracts.world.local.LocalWorld.{the_row as local_row}
 use mir.Syntax.{named}
 use Rattle.shred_table.specs.declared.id.Kind.{Kind}
+use Rattle.shred_table.specs.declared.resource.Resource as resources
 use Rattle.shred_table.specs.declared.id.ResourceId.{ResourceId}
 use Rattle.shred_table.specs.declared.table.Table.{Table}
 use Rattle.shred_table.specs.contracts.table.Table.{the_row as table_row}
@@ -16,6 +17,7 @@ use Rattle.shred_table.specs.declared.twin.Twin.{Twin}
 use Rattle.shred_table.specs.contracts.twin.Twin.{the_row as twin_row}
 use Rattle.shred_world.specs.declared.world.view.View.{View}
 use Rattle.shred_world.specs.contracts.world.view.View.{the_row as view_row}
+use Rattle.shred_table.specs.Id.{id_of}
 use Rattle.shred_table.specs.Slots.{of_kind, with_at}
 use Rattle.shred_world.specs.Views.{declared_held, view_held, IsSameView}
 use Rattle.shred_world.specs.Worlds.{local_held, world_held}
@@ -75,10 +77,6 @@ LendsBeside V s r = Lends (twin_row V) (table_row V) s r.own (λ h. record s.now
 abbrev pub LendsLocalTwin : (V : RattleType) → MutBor (LocalWorld V.Denot) → MutBor (Twin V.Denot) → Fml
 LendsLocalTwin V s r = Lends (local_row V) (twin_row V) s r loose
 
--- one that holds the value under the id, and all else as the other one
-abbrev pub HoldsWith : {V : Type 0} → (ResourceId → Option V) → ResourceId → V → (ResourceId → Option V) → Type 0
-HoldsWith before id v after = (q : ResourceId) → after q ≡ with_at before id (Some v) q
-
 -- one that holds what the other one holds
 abbrev pub HoldsSame : {V : Type 0} → (ResourceId → Option V) → (ResourceId → Option V) → Type 0
 HoldsSame before after = (q : ResourceId) → after q ≡ before q
@@ -91,38 +89,55 @@ EndsSame kind s n = HoldsSame (world_held kind s) (world_held kind n)
 abbrev pub EndsLocalSame : {V : Type 0} → (V → Kind) → LocalWorld V → LocalWorld V → Type 0
 EndsLocalSame kind s n = HoldsSame (local_held kind s) (local_held kind n)
 
--- the world ends with the resource last written under the id, or as it was where there is none, and all else as it was
+module _ (W V : RattleType) (held : W.Denot → ResourceId → Option V.Denot) where
+  -- what holds values by id ends with the part last written, as a value, under the id, or as it was where there is none, and all else as it was
+  abbrev pub LendsUnder : (R : RattleType) → (R.Denot → Option V.Denot) → MutBor W.Denot → ResourceId → Option (MutBor R.Denot) → Fml
+  LendsUnder R as_value s id r = LendsSo W R s r
+      (λ n w. OnSome r ((q : ResourceId) → held n q ≡ with_at (held s.now) id (as_value w) q))
+      (λ n. HoldsSame (held s.now) (held n))
+
+  -- the same, or as it was where the call was refused
+  abbrev pub LendsUnderOk : (R : RattleType) → (R.Denot → Option V.Denot) → MutBor W.Denot → ResourceId → {E : Type 0} → Result (MutBor R.Denot) E → Fml
+  LendsUnderOk R as_value s id r = LendsSoOk W R s r
+      (λ n w. (q : ResourceId) → held n q ≡ with_at (held s.now) id (as_value w) q)
+      (λ n. HoldsSame (held s.now) (held n))
+
+-- a call that lends the resource under an id out of a world, or nothing
 abbrev pub LendsGot : (V R : RattleType) → (V.Denot → Kind) → (R.Denot → V.Denot) → MutBor (World V.Denot) → ResourceId → Option (MutBor R.Denot) → Fml
-LendsGot V R kind wrapped s id r = LendsSo (world_row V) R s r
-    (λ n w. OnSome r (HoldsWith (world_held kind s.now) id (wrapped w) (world_held kind n)))
-    (EndsSame kind s.now)
+LendsGot V R kind wrapped s id r = LendsUnder (world_row V) V (world_held kind) R (λ w. Some (wrapped w)) s id r
 
--- the world ends with the value last written under the id, which is held there where it is of the id's kind, or as it was where there is none, and all else as it was
-abbrev pub LendsValueOf : (V : RattleType) → (V.Denot → Kind) → MutBor (World V.Denot) → ResourceId → Option (MutBor V.Denot) → Fml
-LendsValueOf V kind s id r = LendsSo (world_row V) V s r
-    (λ n w. OnSome r ((q : ResourceId) → world_held kind n q ≡ with_at (world_held kind s.now) id (of_kind kind id (Some w)) q))
-    (EndsSame kind s.now)
-
--- the same of a local world
-abbrev pub LendsLocalValue : (V : RattleType) → (V.Denot → Kind) → MutBor (LocalWorld V.Denot) → ResourceId → Option (MutBor V.Denot) → Fml
-LendsLocalValue V kind s id r = LendsSo (local_row V) V s r
-    (λ n w. OnSome r ((q : ResourceId) → local_held kind n q ≡ with_at (local_held kind s.now) id (of_kind kind id (Some w)) q))
-    (EndsLocalSame kind s.now)
-
--- the same as of `LendsGot`, or as it was where the call was refused
+-- the same of one that may be refused
 abbrev pub LendsGotOk : (V R : RattleType) → (V.Denot → Kind) → (R.Denot → V.Denot) → MutBor (World V.Denot) → ResourceId → {E : Type 0} → Result (MutBor R.Denot) E → Fml
-LendsGotOk V R kind wrapped s id r = LendsSoOk (world_row V) R s r
-    (λ n w. HoldsWith (world_held kind s.now) id (wrapped w) (world_held kind n))
-    (EndsSame kind s.now)
+LendsGotOk V R kind wrapped s id r = LendsUnderOk (world_row V) V (world_held kind) R (λ w. Some (wrapped w)) s id r
 
--- the same of a local world, where there may be none
+-- a call that lends the value under an id out of a world, or nothing; what was last written is held where it is of the id's kind
+abbrev pub LendsValueOf : (V : RattleType) → (V.Denot → Kind) → MutBor (World V.Denot) → ResourceId → Option (MutBor V.Denot) → Fml
+LendsValueOf V kind s id r = LendsUnder (world_row V) V (world_held kind) V (λ w. of_kind kind id (Some w)) s id r
+
+-- a call that lends the resource under an id out of a local world, or nothing
 abbrev pub LendsLocalGot : (V R : RattleType) → (V.Denot → Kind) → (R.Denot → V.Denot) → MutBor (LocalWorld V.Denot) → ResourceId → Option (MutBor R.Denot) → Fml
-LendsLocalGot V R kind wrapped s id r = LendsSo (local_row V) R s r
-    (λ n w. OnSome r (HoldsWith (local_held kind s.now) id (wrapped w) (local_held kind n)))
-    (EndsLocalSame kind s.now)
+LendsLocalGot V R kind wrapped s id r = LendsUnder (local_row V) V (local_held kind) R (λ w. Some (wrapped w)) s id r
 
--- the same of a local world, where the call may be refused
+-- the same of one that may be refused
 abbrev pub LendsLocalGotOk : (V R : RattleType) → (V.Denot → Kind) → (R.Denot → V.Denot) → MutBor (LocalWorld V.Denot) → ResourceId → {E : Type 0} → Result (MutBor R.Denot) E → Fml
-LendsLocalGotOk V R kind wrapped s id r = LendsSoOk (local_row V) R s r
-    (λ n w. HoldsWith (local_held kind s.now) id (wrapped w) (local_held kind n))
-    (EndsLocalSame kind s.now)
+LendsLocalGotOk V R kind wrapped s id r = LendsUnderOk (local_row V) V (local_held kind) R (λ w. Some (wrapped w)) s id r
+
+-- a call that lends the value under an id out of a local world, or nothing
+abbrev pub LendsLocalValue : (V : RattleType) → (V.Denot → Kind) → MutBor (LocalWorld V.Denot) → ResourceId → Option (MutBor V.Denot) → Fml
+LendsLocalValue V kind s id r = LendsUnder (local_row V) V (local_held kind) V (λ w. of_kind kind id (Some w)) s id r
+
+-- a call that lends the resource of a type, of number 0, out of a world, or nothing
+abbrev pub LendsFirst : (V R : RattleType) → (V.Denot → Kind) → resources.Ghosts R.Denot V.Denot → MutBor (World V.Denot) → Option (MutBor R.Denot) → Fml
+LendsFirst V R kind resource s r = LendsGot V R kind resource.wrapped s (id_of resource.KIND 0) r
+
+-- the same of one that may be refused
+abbrev pub LendsFirstOk : (V R : RattleType) → (V.Denot → Kind) → resources.Ghosts R.Denot V.Denot → MutBor (World V.Denot) → {E : Type 0} → Result (MutBor R.Denot) E → Fml
+LendsFirstOk V R kind resource s r = LendsGotOk V R kind resource.wrapped s (id_of resource.KIND 0) r
+
+-- a call that lends the resource of a type, of number 0, out of a local world, or nothing
+abbrev pub LendsLocalFirst : (V R : RattleType) → (V.Denot → Kind) → resources.Ghosts R.Denot V.Denot → MutBor (LocalWorld V.Denot) → Option (MutBor R.Denot) → Fml
+LendsLocalFirst V R kind resource s r = LendsLocalGot V R kind resource.wrapped s (id_of resource.KIND 0) r
+
+-- the same of one that may be refused
+abbrev pub LendsLocalFirstOk : (V R : RattleType) → (V.Denot → Kind) → resources.Ghosts R.Denot V.Denot → MutBor (LocalWorld V.Denot) → {E : Type 0} → Result (MutBor R.Denot) E → Fml
+LendsLocalFirstOk V R kind resource s r = LendsLocalGotOk V R kind resource.wrapped s (id_of resource.KIND 0) r

@@ -1,5 +1,5 @@
 -- How worlds refuse.
-use Rattle.std.specs.Prelude.{◌≡◌, ◌≢◌, Option, None}
+use Rattle.std.specs.Prelude.{◌≡◌, ◌≢◌, IfErr, None, Option, Result, Some}
 use Rattle.shred_table.specs.declared.id.Kind.{Kind}
 use Rattle.shred_table.specs.declared.id.ResourceId.{ResourceId}
 use Rattle.shred_table.specs.Id.{id_kind}
@@ -31,3 +31,19 @@ IsNotReplaced held id value e = (e ≡ replace.Missing id value) × (held id ≡
 -- the error that tells the kinds of the value and of the id, and gives the value back
 abbrev pub misplaced : {V : Type 0} → (V → Kind) → ResourceId → V → ReplaceError V
 misplaced kind id value = replace.WrongKind (kind value) (id_kind id) value
+
+-- of an id of the kind that was asked for, a refusal tells that nothing is held under it
+abbrev pub IsFetchMissing : {V R : Type 0} → Kind → (ResourceId → Option V) → ResourceId → Result R WorldError → Type 0
+IsFetchMissing asked held id answer = (asked ≡ id_kind id) → IfErr answer (IsMissingFrom held id)
+
+-- of an id of the kind that was asked for, the error tells that memory is wanting for what is not held yet
+abbrev pub IsWithoutRoomFor : {V : Type 0} → Kind → ResourceId → Option V → WorldError → Type 0
+IsWithoutRoomFor asked id found e = (asked ≡ id_kind id) → IsWithoutRoom found e
+
+-- the value is of the id's kind, and the other one was held there
+abbrev pub IsReplaced : {V : Type 0} → (V → Kind) → (ResourceId → Option V) → ResourceId → V → V → Type 0
+IsReplaced kind held id value old = (kind value ≡ id_kind id) × (held id ≡ Some old)
+
+-- of a value of the id's kind, a refusal tells that nothing is held there
+abbrev pub IsReplaceMissing : {V R : Type 0} → (V → Kind) → (ResourceId → Option V) → ResourceId → V → Result R (ReplaceError V) → Type 0
+IsReplaceMissing kind held id value answer = (kind value ≡ id_kind id) → IfErr answer (IsNotReplaced held id value)

@@ -1,5 +1,5 @@
 -- Worlds: finite maps from ids to values of their id's kind.
-use Rattle.std.specs.Prelude.{◌≡◌, List, Option, Some, None, MatchOption, Result, Ok, Err}
+use Rattle.std.specs.Prelude.{◌≡◌, Option, Some, None, MatchOption, Result, Ok, Err}
 use Rattle.shred_table.specs.declared.id.Kind.{Kind}
 use Rattle.shred_table.specs.declared.id.ResourceId.{ResourceId}
 use Rattle.shred_table.specs.declared.table.Slot.{Slot}
@@ -10,7 +10,9 @@ use Rattle.shred_world.specs.declared.world.local.LocalWorld.{LocalWorld}
 use Rattle.shred_world.specs.declared.world.WorldError.{WorldError}
 use Rattle.shred_world.specs.declared.world.WorldError.TheVariants.{OutOfMemory}
 use Rattle.shred_table.specs.Slots.{with_at}
-use Rattle.shred_table.specs.Id.{id_of}
+use Rattle.shred_table.specs.declared.resource.Resource as resources
+use Rattle.shred_table.specs.Changes.{Puts}
+use Rattle.shred_table.specs.Id.{id_kind, id_of}
 
 -- what a world lends to be read and written while the ids stay
 abbrev pub local_of : {V : Type 0} → World V → LocalWorld V
@@ -66,3 +68,15 @@ world_first kind asked w = world_held kind w (id_of asked 0)
 -- what a local world holds under number 0 of the kind
 abbrev pub local_first : {V : Type 0} → (V → Kind) → Kind → LocalWorld V → Option V
 local_first kind asked l = local_held kind l (id_of asked 0)
+
+-- the world holds the resource under the id, and all else as before
+abbrev pub PutsResource : {V R : Type 0} → (V → Kind) → resources.Ghosts R V → World V → ResourceId → R → World V → Type 0
+PutsResource kind resource old id put new = Puts (world_held kind) old id (Some (resource.wrapped put)) new
+
+-- the same under number 0 of the resource's kind
+abbrev pub PutsFirst : {V R : Type 0} → (V → Kind) → resources.Ghosts R V → World V → R → World V → Type 0
+PutsFirst kind resource old put new = PutsResource kind resource old (id_of resource.KIND 0) put new
+
+-- the same under an id, which is of the resource's kind
+abbrev pub PutsUnder : {V R : Type 0} → (V → Kind) → resources.Ghosts R V → World V → ResourceId → R → World V → Type 0
+PutsUnder kind resource old id put new = (resource.KIND ≡ id_kind id) × PutsResource kind resource old id put new

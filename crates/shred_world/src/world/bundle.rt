@@ -1,10 +1,9 @@
 //! Bundles: resources that are taken of a view together, and given back.
-ghost use Rattle.std.specs.Prelude.{◌≡◌, false, List, Option, IfOk, IfErr, OnOk, OnErr, None};
+ghost use Rattle.std.specs.Prelude.{◌≡◌, List, Option, IfOk, IfErr, OnOk, OnErr, None};
 ghost use Rattle.shred_table.specs.declared.id.ResourceId.{ResourceId};
-ghost use Rattle.shred_world.specs.Bundles.{Part, IsRefused, bundle_refusal, ids_of, AreOut, Setup, parts_shown, parts_moved, LacksParts, HasBack};
-ghost use Rattle.shred_world.specs.Grants.{Moved, grant_of, given_back};
+ghost use Rattle.shred_world.specs.Bundles.{Part, IsRefused, bundle_refusal, ids_of, AreOut, Setup, parts_shown, parts_moved, LacksParts, HasBack, IsUndoneBy, HasJustOut, HasNothingMoved};
+ghost use Rattle.shred_world.specs.Grants.{Moved, grant_of};
 ghost use Rattle.shred_table.specs.Accessors.{batch_reads, batch_writes};
-ghost use Rattle.shred_table.specs.Slots.{among};
 ghost use Rattle.shred_world.specs.Views.{is_out, table_name, IsSameLoan};
 ghost use Rattle.shred_world.specs.Worlds.{world_held};
 
@@ -96,7 +95,7 @@ impl<'s, 'a, V: ResourceValue> View<'s, 'a, V> {
         ensures moved { IfOk result (λ bundle. D.moved bundle ≡ parts_moved V.kind_of self.old D.parts) }
         ensures taken { OnOk result (LacksParts V.kind_of self.old D.parts self.new) }
         ensures out { IfOk result (λ bundle. AreOut (is_out self.new) (ids_of (D.moved bundle))) }
-        ensures undone { IfOk result (λ bundle. given_back (grant_of V.kind_of self.new) (D.moved bundle) ≡ grant_of V.kind_of self.old) }
+        ensures undone { IfOk result (IsUndoneBy V.kind_of D.moved self.old self.new) }
         ensures unchanged { OnErr result (grant_of V.kind_of self.new ≡ grant_of V.kind_of self.old) }
         ensures table { table_name self.new ≡ table_name self.old }
         ensures loan { IsSameLoan self.old self.new }
@@ -109,7 +108,7 @@ impl<'s, 'a, V: ResourceValue> View<'s, 'a, V> {
     pub fn give_back<D: SystemData<'s, V>>(&mut self, bundle: D)
         requires out { AreOut (is_out self.old) (ids_of (D.moved bundle)) }
         ensures returned { HasBack V.kind_of self.old (D.moved bundle) self.new }
-        ensures nothing_out { ((id : ResourceId) → is_out self.old id ≡ among (ids_of (D.moved bundle)) id) → (id : ResourceId) → is_out self.new id ≡ false }
+        ensures nothing_out { HasJustOut self.old (ids_of (D.moved bundle)) → HasNothingMoved self.new }
         ensures table { table_name self.new ≡ table_name self.old }
         ensures loan { IsSameLoan self.old self.new }
     {

@@ -18,9 +18,9 @@ pub struct Entry<'a, V, R> {
 }
 
 impl<'a, V: ResourceValue, R: Resource<V>> Entry<'a, V, R> {
-    ghost use Rattle.shred_world.specs.Entries.{lent_world, entry_world, LendsEntry};
+    ghost use Rattle.shred_world.specs.Entries.{lent_world, entry_world, LendsEntry, KeepsOrMakes};
     ghost use Rattle.shred_table.specs.Id.{id_of};
-    ghost use Rattle.shred_world.specs.Worlds.{world_held, IsKeptOrMade};
+    ghost use Rattle.shred_world.specs.Worlds.{world_held};
 
     // The place in this world.
     pub(crate) fn over(world: &'a mut World<V>) -> Self
@@ -39,9 +39,9 @@ impl<'a, V: ResourceValue, R: Resource<V>> Entry<'a, V, R> {
     where
         V: Drop,
         R: Drop,
-        ensures shown { IfOk result (λ r. IsKeptOrMade R.wrapped (entry_held V.kind_of R.KIND self.entry) (λ made. made ≡ resource) r.now) }
+        ensures shown { IfOk result (KeepsOrMakes V.kind_of R.Resource self.entry (λ made. made ≡ resource)) }
         ensures out_of_memory { IfErr result (IsWithoutRoom (entry_held V.kind_of R.KIND self.entry)) }
-        ensures* written { sem 𝓛 (LendsEntry V.row R.row V.kind_of R.wrapped self.entry (id_of R.KIND 0) result) }
+        ensures* written { sem 𝓛 (LendsEntry V.row R.row V.kind_of R.Resource self.entry result) }
     {
         self.or_insert_with(move || resource)
     }
@@ -53,9 +53,9 @@ impl<'a, V: ResourceValue, R: Resource<V>> Entry<'a, V, R> {
         V: Drop,
         F: Drop,
         requires callable { world_held V.kind_of (entry_world self) (id_of R.KIND 0) ≡ None → F.pre make }
-        ensures shown { IfOk result (λ r. IsKeptOrMade R.wrapped (entry_held V.kind_of R.KIND self.entry) (F.post make) r.now) }
+        ensures shown { IfOk result (KeepsOrMakes V.kind_of R.Resource self.entry (F.post make)) }
         ensures out_of_memory { IfErr result (IsWithoutRoom (entry_held V.kind_of R.KIND self.entry)) }
-        ensures* written { sem 𝓛 (LendsEntry V.row R.row V.kind_of R.wrapped self.entry (id_of R.KIND 0) result) }
+        ensures* written { sem 𝓛 (LendsEntry V.row R.row V.kind_of R.Resource self.entry result) }
     {
         let Entry { world, resource: _ } = self;
         if let Err(error) = world.fill(ResourceId::new::<V, R>(), make) {

@@ -1,6 +1,6 @@
 //! What a world holds, lent to be read and written while the ids stay.
-ghost use Rattle.std.specs.Prelude.{◌≡◌, ◌≢◌, ◌||◌, ◌&&◌, false, IsTrue, IfSome, None, Some, Err, OnOk, OnErr, IfOk, IfErr, is_some};
-ghost use Rattle.std.specs.Borrow.{sem, RestsIfErr};
+ghost use Rattle.std.specs.Prelude.{◌≡◌, ◌≢◌, false, IsTrue, IfSome, None, Some, Err, OnOk, OnErr, IfOk, IfErr, is_some};
+ghost use Rattle.std.specs.Borrow.{sem};
 ghost use Rattle.std.specs.Option.{option_map, option_copied, option_copied_mut};
 ghost use Rattle.shred_table.specs.declared.id.ResourceId.{ResourceId};
 ghost use Rattle.shred_world.specs.Fetched.{fetched};
@@ -97,15 +97,14 @@ impl<V> LocalWorld<V> {
 impl<V: ResourceValue> LocalWorld<V> {
     ghost use Rattle.shred_world.specs.Worlds.{local_held, local_first};
     ghost use Rattle.shred_table.specs.Id.{id_of, id_kind};
-    ghost use Rattle.shred_table.specs.Slots.{among};
     ghost use Rattle.shred_world.specs.Views.{view_held};
     ghost use Rattle.shred_world.specs.Lending.{IsOverLocal};
-    ghost use Rattle.shred_world.specs.Lent.{LendsLocalWorld, LendsLocalGot, LendsLocalGotOk, LendsLocalValue, HoldsSame};
+    ghost use Rattle.shred_world.specs.Lent.{LendsLocalWorld, LendsLocalGot, LendsLocalGotOk, LendsLocalValue, HoldsSame, LendsLocalFirst, LendsLocalFirstOk};
     ghost use Rattle.shred_world.specs.OwnViews.{IsLent};
-    ghost use Rattle.shred_world.specs.Fetched.{IsFetched, IsFoundIn, IsLentFrom};
+    ghost use Rattle.shred_world.specs.Fetched.{IsFetched, IsFoundIn, IsLentFrom, fetched_as};
     ghost use Rattle.shred_table.specs.Changes.{Stays, Puts};
     ghost use Rattle.shred_table.specs.Counts.{IsCountBefore, IsWithinDigitsOf};
-    ghost use Rattle.shred_world.specs.Refusals.{IsWrongKind, IsMissingFrom, IsNotReplaced, misplaced, mistaken};
+    ghost use Rattle.shred_world.specs.Refusals.{IsWrongKind, IsMissingFrom, misplaced, mistaken, IsFetchMissing, IsReplaced, IsReplaceMissing};
 
     /// The allocator that the world was made with.
     pub fn allocator(&self) -> Global {
@@ -148,11 +147,11 @@ impl<V: ResourceValue> LocalWorld<V> {
 
     /// Puts the value in the place of the one that is held under the id, as `World::replace_raw` does.
     pub fn replace_raw(&mut self, id: ResourceId, value: V) -> Result<V, ReplaceError<V>>
-        ensures ok { IfOk result (λ old. (V.kind_of value ≡ id_kind id) × (local_held V.kind_of self.old id ≡ Some old)) }
+        ensures ok { IfOk result (IsReplaced V.kind_of (local_held V.kind_of self.old) id value) }
         ensures replaced { OnOk result (Puts (local_held V.kind_of) self.old id (Some value) self.new) }
         ensures err { OnErr result (Stays (local_held V.kind_of) self.old self.new) }
         ensures wrong_kind { (V.kind_of value ≢ id_kind id) → result ≡ Err (misplaced V.kind_of id value) }
-        ensures missing { (V.kind_of value ≡ id_kind id) → IfErr result (IsNotReplaced (local_held V.kind_of self.old) id value) }
+        ensures missing { IsReplaceMissing V.kind_of (local_held V.kind_of self.old) id value result }
     {
         let asked = value.kind();
         if asked != id.kind() {
@@ -197,7 +196,7 @@ impl<V: ResourceValue> LocalWorld<V> {
         &self,
         id: ResourceId,
     ) -> Result<Option<Fetch<'_, R>>, WorldError>
-        ensures ok { IfOk result (IsFoundIn (local_held V.kind_of self.now) R.KIND (λ f. R.wrapped (fetched f)) id) }
+        ensures ok { IfOk result (IsFoundIn (local_held V.kind_of self.now) R.KIND (fetched_as R.wrapped) id) }
         ensures wrong_kind { IfErr result (IsWrongKind R.KIND id) }
     {
         test_kind::<V, R>(id)?;
@@ -230,7 +229,7 @@ impl<V: ResourceValue> LocalWorld<V> {
     /// The resource that is held, if one is, to write.
     pub fn get_mut<R: Resource<V>>(&mut self) -> Option<&mut R>
         ensures shown { option_map (λ r. R.wrapped r.now) result ≡ local_first V.kind_of R.KIND self.old }
-        ensures* written { sem 𝓛 (LendsLocalGot V.row R.row V.kind_of R.wrapped self.entry (id_of R.KIND 0) result) }
+        ensures* written { sem 𝓛 (LendsLocalFirst V.row R.row V.kind_of R.Resource self.entry result) }
     {
         self.resource_mut(ResourceId::new::<V, R>())
     }
@@ -238,7 +237,7 @@ impl<V: ResourceValue> LocalWorld<V> {
     /// The resource that is held, if one is, to write.
     pub fn try_fetch_mut<R: Resource<V>>(&mut self) -> Option<FetchMut<'_, R>>
         ensures shown { option_map (λ r. R.wrapped r.now) result ≡ local_first V.kind_of R.KIND self.old }
-        ensures* written { sem 𝓛 (LendsLocalGot V.row R.row V.kind_of R.wrapped self.entry (id_of R.KIND 0) result) }
+        ensures* written { sem 𝓛 (LendsLocalFirst V.row R.row V.kind_of R.Resource self.entry result) }
     {
         self.get_mut::<R>()
     }
@@ -247,7 +246,7 @@ impl<V: ResourceValue> LocalWorld<V> {
     pub fn fetch_mut<R: Resource<V>>(&mut self) -> Result<FetchMut<'_, R>, WorldError>
         ensures shown { IfOk result (λ r. local_first V.kind_of R.KIND self.old ≡ Some (R.wrapped r.now)) }
         ensures missing { IfErr result (IsMissingFrom (local_held V.kind_of self.old) (id_of R.KIND 0)) }
-        ensures* written { sem 𝓛 (LendsLocalGotOk V.row R.row V.kind_of R.wrapped self.entry (id_of R.KIND 0) result) }
+        ensures* written { sem 𝓛 (LendsLocalFirstOk V.row R.row V.kind_of R.Resource self.entry result) }
     {
         let Some(resource) = self.get_mut::<R>() else {
             return Err(WorldError::Missing(ResourceId::new::<V, R>()));
@@ -263,7 +262,7 @@ impl<V: ResourceValue> LocalWorld<V> {
     ) -> Result<FetchMut<'_, R>, WorldError>
         ensures shown { IfOk result (IsLentFrom (local_held V.kind_of self.old) R.KIND R.wrapped id) }
         ensures wrong_kind { (R.KIND ≢ id_kind id) → result ≡ Err (mistaken R.KIND id) }
-        ensures missing { (R.KIND ≡ id_kind id) → IfErr result (IsMissingFrom (local_held V.kind_of self.old) id) }
+        ensures missing { IsFetchMissing R.KIND (local_held V.kind_of self.old) id result }
         ensures* written { sem 𝓛 (LendsLocalGotOk V.row R.row V.kind_of R.wrapped self.entry id result) }
     {
         test_kind::<V, R>(id)?;

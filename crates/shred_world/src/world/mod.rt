@@ -1,13 +1,13 @@
 //! The world: a finite map from ids to values of their id's kind.
-ghost use Rattle.std.specs.Prelude.{◌≡◌, ◌≢◌, ◌↔◌, ◌⊎◌, ◌||◌, ◌&&◌, ⊤, false, None, Some, Err, OnOk, OnErr, IfOk, IfErr, IfSome, is_some};
+ghost use Rattle.std.specs.Prelude.{◌≡◌, ◌≢◌, ◌↔◌, None, Some, Err, OnOk, OnErr, IfOk, IfErr, IfSome, is_some};
 ghost use Rattle.std.specs.Borrow.{sem};
 ghost use Rattle.std.specs.Option.{option_map};
 ghost use Rattle.shred_table.specs.declared.id.ResourceId.{ResourceId};
-ghost use Rattle.shred_world.specs.Fetched.{fetched, IsFetched, IsFoundIn, IsLentFrom};
+ghost use Rattle.shred_world.specs.Fetched.{fetched, IsFetched, IsFoundIn, IsLentFrom, fetched_as};
 ghost use Rattle.shred_table.specs.Id.{id_kind};
 ghost use Rattle.shred_table.specs.Changes.{Stays, Puts, Removes};
 ghost use Rattle.shred_table.specs.Counts.{IsCountBefore, IsWithinDigitsOf};
-ghost use Rattle.shred_world.specs.Refusals.{IsWrongKind, IsMissingFrom, IsWithoutRoom, IsNotReplaced, misplaced, mistaken};
+ghost use Rattle.shred_world.specs.Refusals.{IsWrongKind, IsMissingFrom, IsWithoutRoom, misplaced, mistaken, IsFetchMissing, IsReplaced, IsReplaceMissing, IsWithoutRoomFor};
 ghost use Rattle.shred_world.specs.Worlds.{FillsWorld, world_first};
 ghost use Rattle.shred_world.specs.Lent.{HoldsSame};
 
@@ -114,14 +114,13 @@ impl<V> World<V> {
 }
 
 impl<V: ResourceValue> World<V> {
-    ghost use Rattle.shred_world.specs.Worlds.{world_held};
+    ghost use Rattle.shred_world.specs.Worlds.{world_held, PutsFirst, PutsUnder};
     ghost use Rattle.shred_table.specs.Id.{id_of, id_kind};
-    ghost use Rattle.shred_table.specs.Slots.{among};
     ghost use Rattle.shred_world.specs.Entries.{lent_world, entry_world};
     ghost use Rattle.shred_world.specs.Views.{view_held};
     ghost use Rattle.shred_world.specs.Lending.{IsOverWorld};
     ghost use Rattle.shred_world.specs.OwnViews.{IsLent};
-    ghost use Rattle.shred_world.specs.Lent.{LendsWorld, LendsGot, LendsGotOk};
+    ghost use Rattle.shred_world.specs.Lent.{LendsWorld, LendsGot, LendsGotOk, LendsFirst, LendsFirstOk};
 
     /// Holds nothing.
     pub fn empty(alloc: Global) -> Self
@@ -170,7 +169,7 @@ impl<V: ResourceValue> World<V> {
     where
         V: Drop,
         R: Drop,
-        ensures ok { OnOk result (Puts (world_held V.kind_of) self.old (id_of R.KIND 0) (Some (R.wrapped resource)) self.new) }
+        ensures ok { OnOk result (PutsFirst V.kind_of R.Resource self.old resource self.new) }
         ensures err { OnErr result (Stays (world_held V.kind_of) self.old self.new) }
         ensures out_of_memory { IfErr result (IsWithoutRoom (world_first V.kind_of R.KIND self.old)) }
     {
@@ -187,10 +186,10 @@ impl<V: ResourceValue> World<V> {
     where
         V: Drop,
         R: Drop,
-        ensures ok { OnOk result ((R.KIND ≡ id_kind id) × (Puts (world_held V.kind_of) self.old id (Some (R.wrapped resource)) self.new)) }
+        ensures ok { OnOk result (PutsUnder V.kind_of R.Resource self.old id resource self.new) }
         ensures err { OnErr result (Stays (world_held V.kind_of) self.old self.new) }
         ensures wrong_kind { (R.KIND ≢ id_kind id) ↔ (result ≡ Err (mistaken R.KIND id)) }
-        ensures out_of_memory { IfErr result (λ e. (R.KIND ≡ id_kind id) → IsWithoutRoom (world_held V.kind_of self.old id) e) }
+        ensures out_of_memory { IfErr result (IsWithoutRoomFor R.KIND id (world_held V.kind_of self.old id)) }
     {
         test_kind::<V, R>(id)?;
         self.local.twin.put(id, resource.wrap())?;
@@ -262,11 +261,11 @@ impl<V: ResourceValue> World<V> {
     /// Puts the value in the place of the one that is held under the id, and gives back the old one. `WrongKind` where
     /// the value is not of the id's kind, tested first; `Missing` where nothing is held. A refusal hands the value back.
     pub fn replace_raw(&mut self, id: ResourceId, value: V) -> Result<V, ReplaceError<V>>
-        ensures ok { IfOk result (λ old. (V.kind_of value ≡ id_kind id) × (world_held V.kind_of self.old id ≡ Some old)) }
+        ensures ok { IfOk result (IsReplaced V.kind_of (world_held V.kind_of self.old) id value) }
         ensures replaced { OnOk result (Puts (world_held V.kind_of) self.old id (Some value) self.new) }
         ensures err { OnErr result (Stays (world_held V.kind_of) self.old self.new) }
         ensures wrong_kind { (V.kind_of value ≢ id_kind id) → result ≡ Err (misplaced V.kind_of id value) }
-        ensures missing { (V.kind_of value ≡ id_kind id) → IfErr result (IsNotReplaced (world_held V.kind_of self.old) id value) }
+        ensures missing { IsReplaceMissing V.kind_of (world_held V.kind_of self.old) id value result }
     {
         self.local.replace_raw(id, value)
     }
@@ -297,7 +296,7 @@ impl<V: ResourceValue> World<V> {
         &self,
         id: ResourceId,
     ) -> Result<Option<Fetch<'_, R>>, WorldError>
-        ensures ok { IfOk result (IsFoundIn (world_held V.kind_of self.now) R.KIND (λ f. R.wrapped (fetched f)) id) }
+        ensures ok { IfOk result (IsFoundIn (world_held V.kind_of self.now) R.KIND (fetched_as R.wrapped) id) }
         ensures wrong_kind { IfErr result (IsWrongKind R.KIND id) }
     {
         self.local.try_fetch_by_id(id)
@@ -323,7 +322,7 @@ impl<V: ResourceValue> World<V> {
     /// The resource that is held, if one is, to write.
     pub fn get_mut<R: Resource<V>>(&mut self) -> Option<&mut R>
         ensures shown { option_map (λ r. R.wrapped r.now) result ≡ world_first V.kind_of R.KIND self.old }
-        ensures* written { sem 𝓛 (LendsGot V.row R.row V.kind_of R.wrapped self.entry (id_of R.KIND 0) result) }
+        ensures* written { sem 𝓛 (LendsFirst V.row R.row V.kind_of R.Resource self.entry result) }
     {
         self.resource_mut(ResourceId::new::<V, R>())
     }
@@ -331,7 +330,7 @@ impl<V: ResourceValue> World<V> {
     /// The resource that is held, if one is, to write.
     pub fn try_fetch_mut<R: Resource<V>>(&mut self) -> Option<FetchMut<'_, R>>
         ensures shown { option_map (λ r. R.wrapped r.now) result ≡ world_first V.kind_of R.KIND self.old }
-        ensures* written { sem 𝓛 (LendsGot V.row R.row V.kind_of R.wrapped self.entry (id_of R.KIND 0) result) }
+        ensures* written { sem 𝓛 (LendsFirst V.row R.row V.kind_of R.Resource self.entry result) }
     {
         self.get_mut::<R>()
     }
@@ -340,7 +339,7 @@ impl<V: ResourceValue> World<V> {
     pub fn fetch_mut<R: Resource<V>>(&mut self) -> Result<FetchMut<'_, R>, WorldError>
         ensures shown { IfOk result (λ r. world_first V.kind_of R.KIND self.old ≡ Some (R.wrapped r.now)) }
         ensures missing { IfErr result (IsMissingFrom (world_held V.kind_of self.old) (id_of R.KIND 0)) }
-        ensures* written { sem 𝓛 (LendsGotOk V.row R.row V.kind_of R.wrapped self.entry (id_of R.KIND 0) result) }
+        ensures* written { sem 𝓛 (LendsFirstOk V.row R.row V.kind_of R.Resource self.entry result) }
     {
         let Some(resource) = self.get_mut::<R>() else {
             return Err(WorldError::Missing(ResourceId::new::<V, R>()));
@@ -356,7 +355,7 @@ impl<V: ResourceValue> World<V> {
     ) -> Result<FetchMut<'_, R>, WorldError>
         ensures shown { IfOk result (IsLentFrom (world_held V.kind_of self.old) R.KIND R.wrapped id) }
         ensures wrong_kind { (R.KIND ≢ id_kind id) → result ≡ Err (mistaken R.KIND id) }
-        ensures missing { (R.KIND ≡ id_kind id) → IfErr result (IsMissingFrom (world_held V.kind_of self.old) id) }
+        ensures missing { IsFetchMissing R.KIND (world_held V.kind_of self.old) id result }
         ensures* written { sem 𝓛 (LendsGotOk V.row R.row V.kind_of R.wrapped self.entry id result) }
     {
         test_kind::<V, R>(id)?;

@@ -3,8 +3,8 @@ ghost use Rattle.std.specs.Prelude.{◌≡◌, List, IfOk, IfErr, OnOk, OnErr, N
 ghost use Rattle.shred_table.specs.declared.id.ResourceId.{ResourceId};
 ghost use Rattle.shred_table.specs.Id.{id_of};
 ghost use Rattle.shred_world.specs.BundleParts.{written_value};
-ghost use Rattle.shred_world.specs.Bundles.{Part, IsRefused, bundle_refusal, ids_of, AreOut, parts_moved, HasBack};
-ghost use Rattle.shred_world.specs.Grants.{Moved, grant_of, given_back};
+ghost use Rattle.shred_world.specs.Bundles.{Part, IsRefused, bundle_refusal, ids_of, AreOut, parts_moved, HasBack, IsUndoneBy};
+ghost use Rattle.shred_world.specs.Grants.{Moved, grant_of};
 ghost use Rattle.shred_world.specs.Types.{written_part};
 ghost use Rattle.shred_world.specs.Views.{is_out, table_name, IsSameLoan};
 
@@ -32,7 +32,7 @@ pub trait ResourceTypes<V: ResourceValue> {
         ensures passed { OnOk result (bundle_refusal (grant_of V.kind_of view.old) parts ≡ None) }
         ensures moved { IfOk result (λ taken. moved taken ≡ parts_moved V.kind_of view.old parts) }
         ensures out { IfOk result (λ taken. AreOut (is_out view.new) (ids_of (moved taken))) }
-        ensures undone { IfOk result (λ taken. given_back (grant_of V.kind_of view.new) (moved taken) ≡ grant_of V.kind_of view.old) }
+        ensures undone { IfOk result (IsUndoneBy V.kind_of moved view.old view.new) }
         ensures unchanged { OnErr result (grant_of V.kind_of view.new ≡ grant_of V.kind_of view.old) }
         ensures table { table_name view.new ≡ table_name view.old }
         ensures loan { IsSameLoan view.old view.new };

@@ -13,7 +13,7 @@ pub trait Job {
 /// Who runs jobs. Each worker has one.
 pub trait Runner<J: Job> {
     /// Runs a job once.
-    fn run<R: Wait>(&self, rt: &R, job: &mut J)
+    fn run<R: Wait>(&mut self, rt: &R, job: &mut J)
         requires { J.ready job.old }
         ensures { J.ran job.old job.new };
 }

@@ -1,7 +1,7 @@
 //! A hatch between a caller and one worker: the caller sends a job, and collects it as its run left it.
 //!
 //!     let (mut caller, worker) = open(alloc)?;
-//!     // on a thread of its own: worker.serve(&rt, looks, &runner)
+//!     // on a thread of its own: worker.serve(&rt, looks, &mut runner)
 //!     caller.send(job);
 //!     let job = caller.collect(&rt, looks);
 //!     caller.end();

@@ -25,7 +25,7 @@ impl<J: Job> Model for Worker<J> {
     ghost invariant = { λ worker. IsWorker (arc_value worker.line).table.shared.table_id worker.seat };
 }
 
-fn run_once<J: Job, R: Wait, X: Runner<J>>(rt: &R, runner: &X, job: J) -> J
+fn run_once<J: Job, R: Wait, X: Runner<J>>(rt: &R, runner: &mut X, job: J) -> J
     requires { J.ready job }
     ensures { J.ran job result }
 {
@@ -35,7 +35,7 @@ fn run_once<J: Job, R: Wait, X: Runner<J>>(rt: &R, runner: &X, job: J) -> J
 }
 
 // Runs the job that was fetched, and gives it back.
-fn work<J: Job, R: Wait, X: Runner<J>>(rt: &R, row: &Row<J>, seat: &mut End<J>, runner: &X)
+fn work<J: Job, R: Wait, X: Runner<J>>(rt: &R, row: &Row<J>, seat: &mut End<J>, runner: &mut X)
     requires row { IsEnd row.now.table_id seat.old }
     requires seat { (x : J) × (seat.old.me ≡ working x x) × J.ready x }
     ensures row { seat.new.table_id ≡ seat.old.table_id }
@@ -55,7 +55,7 @@ fn serve<J: Job, R: Wait, X: Runner<J>>(
     line: &Line<J>,
     seat: &mut End<J>,
     looks: u32,
-    runner: &X,
+    runner: &mut X,
 )
     requires row { IsEnd line.now.table.shared.table_id seat.old }
     requires seat { finished seat.old.me }
@@ -75,7 +75,7 @@ fn serve<J: Job, R: Wait, X: Runner<J>>(
 
 impl<J: Job> Worker<J> {
     /// Runs each job that comes, until the worker is told to end. It looks for one `looks` times before it sleeps.
-    pub fn serve<R: Wait, X: Runner<J>>(self, rt: &R, looks: u32, runner: &X)
+    pub fn serve<R: Wait, X: Runner<J>>(self, rt: &R, looks: u32, runner: &mut X)
     where
         J: Drop,
     {

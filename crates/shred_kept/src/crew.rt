@@ -35,6 +35,13 @@ impl<J: Job + Drop> Crew<J> {
         self.workers.looks()
     }
 
+    /// How many workers are free just now, counted up to this number.
+    pub(crate) fn free(&mut self, most: usize) -> usize
+        ensures { self.new ≡ self.old }
+    {
+        self.workers.free(most)
+    }
+
     /// The worker of a place, if it is free.
     pub(crate) fn take(&mut self, place: usize) -> Option<Caller<J>>
         ensures free { IfSome result (λ caller. caller ≡ None) }

@@ -30,8 +30,10 @@ impl<T: Drop> Rooms<T> {
         }
     }
 
-    /// Keeps the room of a list. Where memory to note it is refused, it is dropped.
+    /// Empties a list, and keeps its room. Where memory to note it is refused, it is dropped.
     pub(crate) fn keep(&mut self, list: Vec<T>) {
+        let mut list = list;
+        list.clear();
         let _ = self.kept.push(list);
     }
 }

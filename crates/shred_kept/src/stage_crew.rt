@@ -1,12 +1,10 @@
 //! What the stages of a dispatcher run on.
 
-use crate::crew::Crew;
-use crate::lane::{InOrder, StageLane};
-use crate::rooms::Rooms;
-use shred_run::entry::Group;
-use shred_run::{BatchController, Nested, NoBatch, System, Work};
+use crate::lane::StageLane;
+use crate::lane_crew::LaneCrew;
+use shred_run::{BatchController, NoBatch, System};
 use shred_workers::{Pool, Workers};
-use shred_world::{ResourceValue, Table};
+use shred_world::ResourceValue;
 use std::alloc::{AllocError, Global};
 use std::sync::{Arc, Wait};
 use std::thread::Threads;
@@ -20,9 +18,7 @@ pub struct StageCrew<
     S: System<V>,
     C: BatchController<V, Error = <S as System<V>>::Error> = NoBatch<<S as System<V>>::Error>,
 > {
-    pub(crate) crew: Crew<StageLane<V, S, C>>,
-    pub(crate) rooms: Rooms<Group<V, Work<S, Nested<V, S, C>>>>,
-    pub(crate) shared: Arc<Table<V>>,
+    pub(crate) lanes: LaneCrew<V, S, C>,
     pub(crate) pool: Pool<StageLane<V, S, C>, R>,
 }
 
@@ -41,14 +37,12 @@ where
     /// Who waits looks `looks` times before it sleeps.
     pub fn start(rt: &R, alloc: Global, count: usize, looks: u32) -> Result<Self, AllocError> {
         let workers = Arc::new(alloc, Workers::new(alloc, count, looks)?)?;
-        let shared = Arc::new(alloc, Table::new(alloc))?;
-        let crew = Crew::new(workers.clone()?);
-        let pool = Pool::start(rt, alloc, workers, &InOrder)?;
-        Ok(StageCrew {
-            crew,
-            rooms: Rooms::new(alloc),
-            shared,
-            pool,
-        })
+        let mut crews = Vec::with_capacity(alloc, count)?;
+        for _ in 0..count {
+            crews.push(LaneCrew::new(alloc, workers.clone()?))?;
+        }
+        let lanes = LaneCrew::new(alloc, workers.clone()?);
+        let pool = Pool::start_each(rt, alloc, workers, crews)?;
+        Ok(StageCrew { lanes, pool })
     }
 }

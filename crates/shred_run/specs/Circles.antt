@@ -1,5 +1,5 @@
 -- What the functions say that run a plan's entries, groups and tiers: each over what its systems and controllers tell, and the depth to which batches are followed.
-use Rattle.std.specs.Prelude.{ℕ, List, [], Option, All, None}
+use Rattle.std.specs.Prelude.{ℕ, List, Option, All, None}
 use Rattle.shred_model.specs.Beside.{AllWent}
 use Rattle.shred_model.specs.Runs.{Answer}
 use Rattle.shred_table.specs.declared.id.Kind.{Kind}
@@ -15,7 +15,6 @@ use Rattle.shred_run.specs.Depths.{Owns, WorkStep, lists_of, steps_of}
 use Rattle.shred_run.specs.KeptControllers.{control_access}
 use Rattle.shred_run.specs.Lanes.{GroupWent, IsReady}
 use Rattle.shred_run.specs.OwnLists.{IsEntryOf, IsGroupOf}
-use Rattle.shred_run.specs.OwnSlots.{lent_before}
 use Rattle.shred_run.specs.Parts.{ArePartsWithin, KeepsParts, KeepsTiers}
 use Rattle.shred_run.specs.Rounds.{Rounds}
 use Rattle.shred_run.specs.Rules.{RuleOwns, RuleStep}
@@ -65,10 +64,6 @@ module _ {V S C E A B : Type 0} (s : systems.Ghosts S V E A) (c : controllers.Gh
   -- each of the groups is
   abbrev pub GroupsReady : Option ℕ → List (Shelf V) → List (Group V (Work S (Nested V S C))) → Type 0
   GroupsReady at shelf groups = All (IsReady (RuleOwns (lists_of s c) at) (lent_slot shelf)) groups
-
-  -- each of the groups is ready to run over the table
-  abbrev pub GroupsReadyOver : Option ℕ → Table V → List (Group V (Work S (Nested V S C))) → Type 0
-  GroupsReadyOver at table groups = All (IsReady (RuleOwns (lists_of s c) at) (lent_before table (lent_slot []))) groups
 
 module _ {V S C E F A B : Type 0} (s : systems.Ghosts S V E A) (c : controllers.Ghosts C V F B) where
   -- each entry of the groups may be kept with its lists, followed as deep as batches nest in it
@@ -127,10 +122,6 @@ module _ {V S C E A B : Type 0} (kind : V → Kind) (s : systems.Ghosts S V E A)
   -- each of the groups did
   abbrev pub GroupsRan : Option ℕ → List (Shelf V) → List (Group V (Work S (Nested V S C))) → Answer (StageFault E) → List (Group V (Work S (Nested V S C))) → Type 0
   GroupsRan at shelf old answer new = AllWent (GroupWent kind (RuleStep kind (steps_of s c) at) (RuleOwns (lists_of s c) at) (lent_slot shelf)) old answer new
-
-  -- each of the groups ran over the table
-  abbrev pub GroupsRanOver : Option ℕ → Table V → List (Group V (Work S (Nested V S C))) → Answer (StageFault E) → List (Group V (Work S (Nested V S C))) → Type 0
-  GroupsRanOver at table old answer new = AllWent (GroupWent kind (RuleStep kind (steps_of s c) at) (RuleOwns (lists_of s c) at) (lent_before table (lent_slot []))) old answer new
 
   -- what stays of the controller and the tiers of a batch while it runs
   abbrev pub PartsStay : ℕ → Loan V → KeptController V C → List (Tier V (Work S (Nested V S C))) → Table V → KeptController V C → List (Tier V (Work S (Nested V S C))) → Table V → Type 0

@@ -12,7 +12,7 @@ ghost use Rattle.shred_run.specs.Rules.{RuleOwns};
 ghost use Rattle.shred_table.specs.declared.id.ResourceId.{ResourceId};
 ghost use Rattle.shred_table.specs.Shown.{HasOwnSlots, IsSameSlots};
 ghost use Rattle.shred_world.specs.Views.{lent_slot};
-ghost use Rattle.shred_run.specs.Circles.{BatchFits, BatchRan, EntryStepped, GroupRan, GroupReady, GroupsOwn, GroupsRan, GroupsRanOver, GroupsReady, GroupsReadyOver, GroupsTurned, PartsFit, PartsStay, RoundsRan, StageOwns, StageTurned, TierFits, TierTurned, TiersFit, TiersRan, TiersStay, WorkStepped};
+ghost use Rattle.shred_run.specs.Circles.{BatchFits, BatchRan, EntryStepped, GroupRan, GroupReady, GroupsOwn, GroupsRan, GroupsReady, GroupsTurned, PartsFit, PartsStay, RoundsRan, StageOwns, StageTurned, TierFits, TierTurned, TiersFit, TiersRan, TiersStay, WorkStepped};
 
 use crate::calls::{Ask, Begin, Run, call_over};
 use crate::control::{KeptController, call_kept};
@@ -385,8 +385,8 @@ fn run_entry<
     }
 }
 
-/// The runs of groups over what a table lends shared, one after the other: each over its own hand. The answer is the first, in
-/// their order, that is not Done.
+/// The runs of groups over what is lent shared, one after the other: each over its own hand. The answer is the first, in their
+/// order, that is not Done.
 pub fn groups_over<
     V: ResourceValue + Drop,
     S: System<V, Error = E>,
@@ -395,13 +395,29 @@ pub fn groups_over<
 >(
     at: Option<usize>,
     groups: &mut [Group<V, Work<S, Nested<V, S, C>>>],
-    table: &Table<V>,
+    shelf: &[Shelf<V>; 1],
 ) -> Result<(), StageFault<E>>
-    requires { GroupsReadyOver S.System C.BatchController at table.now groups.old }
-    ensures { GroupsRanOver V.kind_of S.System C.BatchController at table.now groups.old result groups.new }
+    requires { GroupsReady S.System C.BatchController at shelf.now groups.old }
+    ensures { GroupsRan V.kind_of S.System C.BatchController at shelf.now groups.old result groups.new }
 {
-    let nearest = behind(table, &[], &[]);
-    run_groups(at, &nearest, groups)
+    run_groups(at, shelf, groups)
+}
+
+/// The run of one group over what is lent shared.
+pub fn group_over<
+    V: ResourceValue + Drop,
+    S: System<V, Error = E>,
+    C: BatchController<V, Error = E>,
+    E: Drop,
+>(
+    at: Option<usize>,
+    group: &mut Group<V, Work<S, Nested<V, S, C>>>,
+    shelf: &[Shelf<V>; 1],
+) -> Result<(), StageFault<E>>
+    requires { GroupReady S.System C.BatchController at shelf.now group.old }
+    ensures { GroupRan V.kind_of S.System C.BatchController at shelf.now group.old result group.new }
+{
+    run_group(at, group, shelf)
 }
 
 /// The turn of a stage's groups over what a table holds, one after the other on the caller's thread, what stands in each entry to the depth

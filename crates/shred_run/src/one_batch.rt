@@ -5,8 +5,8 @@ ghost use Rattle.shred_run.specs.OneBatch.{is_lone_batch, is_one_batch};
 use crate::entry::{Group, GroupEntry};
 use crate::work::Work;
 
-// Whether there is one entry, and a batch stands in it.
-fn is_one_batch<V, S, B>(entries: &[GroupEntry<V, Work<S, B>>]) -> bool
+/// Whether there is one entry, and a batch stands in it.
+pub fn is_one_batch<V, S, B>(entries: &[GroupEntry<V, Work<S, B>>]) -> bool
     ensures { result ≡ is_one_batch entries.now }
 {
     entries.len() == 1 && entries[0].work.is_batch()

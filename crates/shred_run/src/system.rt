@@ -7,7 +7,7 @@ ghost use Rattle.shred_table.specs.Changes.{StaysOutside, KeepsIdsOf};
 ghost use Rattle.shred_world.specs.Between.{OverView, OverWorld};
 
 use shred_world::{Accessor, DataError, OutOfMemory, ResourceValue, View, World};
-use std::alloc::Global;
+use std::alloc::{AllocFailed, Global};
 use std::fmt::Display;
 use thiserror::Error;
 
@@ -65,6 +65,16 @@ impl<E> From<OutOfMemory> for Fault<E> {
     ghost from_gives = { λ _ fault. fault ≡ Fault.OutOfMemory };
 
     fn from(_error: OutOfMemory) -> Self {
+        Fault::OutOfMemory
+    }
+}
+
+impl<T: Drop, E> From<AllocFailed<T>> for Fault<E> {
+    ghost use Rattle.shred_run.specs.declared.system.Fault.{Fault};
+
+    ghost from_gives = { λ _ fault. fault ≡ Fault.OutOfMemory };
+
+    fn from(_failed: AllocFailed<T>) -> Self {
         Fault::OutOfMemory
     }
 }

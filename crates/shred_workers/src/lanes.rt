@@ -6,7 +6,7 @@ use crate::place::Place;
 use shred_hatch::{Job, Runner};
 use std::sync::Wait;
 
-fn run_here<J: Job, R: Wait, X: Runner<J>>(rt: &R, runner: &X, lanes: &mut [J])
+fn run_here<J: Job, R: Wait, X: Runner<J>>(rt: &R, runner: &mut X, lanes: &mut [J])
     requires { All J.ready lanes.old }
     ensures { AllZip J.ran lanes.old lanes.new }
 {
@@ -21,7 +21,7 @@ pub(crate) fn run_lanes<J: Job + Drop, R: Wait, X: Runner<J>>(
     rt: &R,
     places: &[Place<J>],
     looks: u32,
-    runner: &X,
+    runner: &mut X,
     lanes: &mut Vec<J>,
 )
     requires { All J.ready lanes.old.items }

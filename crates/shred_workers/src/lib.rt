@@ -12,7 +12,7 @@
 //!
 //!     let workers = Arc::new(alloc, Workers::new(alloc, 3, DEFAULT_LOOKS)?)?;
 //!     let pool = Pool::start(&rt, alloc, workers, &Triples)?;
-//!     pool.workers().run(&rt, &Triples, &mut numbers);
+//!     pool.workers().run(&rt, &mut Triples, &mut numbers);
 //!
 //! `run` ensures that each number is tripled, in order, for every number of workers, 0 among them: `triple_all` of `test_workers`
 //! concludes it. `leaves`, there too, hands out jobs one by one, from within a job.

@@ -67,6 +67,14 @@ impl<J: Job + Drop> Place<J> {
         }
     }
 
+    // Whether the worker is free just now.
+    pub(crate) fn is_free(&self) -> bool {
+        match self.state.try_lock() {
+            Some(state) => matches!(&*state, State::Free(_)),
+            None => false,
+        }
+    }
+
     pub(crate) fn give_back<R: Wait>(&self, rt: &R, caller: Caller<J>)
         requires { caller ≡ None }
     {

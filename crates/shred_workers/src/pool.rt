@@ -35,13 +35,13 @@ impl<J: Job + Drop, R: Threads + Wait + Drop> Drop for Pool<J, R> {
 fn start_worker<
     J: Job + Drop + Send + 'static,
     R: Threads + Wait + Clone + Send + 'static,
-    X: Runner<J> + Clone + Send + 'static,
->(rt: &R, alloc: Global, place: &Place<J>, looks: u32, runner: &X) -> Option<JoinHandle<()>> {
+    X: Runner<J> + Drop + Send + 'static,
+>(rt: &R, alloc: Global, place: &Place<J>, looks: u32, runner: X) -> Option<JoinHandle<()>> {
     let (caller, worker) = open(alloc).ok()?;
     let idle = Idle::new(caller);
     let runtime = rt.clone().ok()?;
-    let own = runner.clone().ok()?;
-    let thread = thread::spawn(rt, move || worker.serve(&runtime, looks, &own)).ok()?;
+    let mut runner = runner;
+    let thread = thread::spawn(rt, move || worker.serve(&runtime, looks, &mut runner)).ok()?;
     place.fill(rt, idle);
     Some(thread)
 }
@@ -57,13 +57,37 @@ impl<J: Job + Drop + Send + 'static, R: Threads + Wait + Clone + Send + 'static>
     ) -> Result<Pool<J, R>, AllocError>
         ensures { IfOk result (λ pool. arc_value pool.workers ≡ arc_value workers) }
     {
+        let mut runners = Vec::with_capacity(alloc, workers.len())?;
+        for _ in 0..workers.len() {
+            let Ok(own) = runner.clone() else {
+                break;
+            };
+            runners.push(own)?;
+        }
+        Pool::start_each(rt, alloc, workers, runners)
+    }
+
+    /// Starts a thread for each runner, at a place of its own, up to the first that is refused. A runner that is left over gets none, and a
+    /// place that is left over no worker.
+    pub fn start_each<X: Runner<J> + Drop + Send + 'static>(
+        rt: &R,
+        alloc: Global,
+        workers: Arc<Workers<J>>,
+        runners: Vec<X>,
+    ) -> Result<Pool<J, R>, AllocError>
+        ensures { IfOk result (λ pool. arc_value pool.workers ≡ arc_value workers) }
+    {
         let places = workers.clone()?;
         let mut pool = Pool {
             workers,
             threads: Vec::with_capacity(alloc, places.places().len())?,
             rt: rt.clone()?,
         };
+        let mut runners = runners;
         for place in places.places() {
+            let Some(runner) = runners.pop() else {
+                break;
+            };
             let Some(thread) = start_worker(rt, alloc, place, places.looks(), runner) else {
                 break;
             };

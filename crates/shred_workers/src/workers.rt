@@ -1,5 +1,5 @@
 //! The workers of a pool, as those see them who hand them jobs.
-ghost use Rattle.std.specs.Prelude.{◌≡◌, ℕ, All, None, IfOk, IfSome, length, vec_capacity};
+ghost use Rattle.std.specs.Prelude.{◌≡◌, ◌≤◌, ℕ, All, None, IfOk, IfSome, length, vec_capacity};
 ghost use Rattle.std.specs.List.{AllZip};
 
 use crate::lanes::run_lanes;
@@ -44,6 +44,19 @@ impl<J: Job + Drop> Workers<J> {
         self.places.len()
     }
 
+    /// How many workers are free just now, counted up to this number. It never waits.
+    pub fn free(&self, most: usize) -> usize
+        ensures { result ≤ most }
+    {
+        let mut free: usize = 0;
+        for place in &self.places {
+            if free < most && place.is_free() {
+                free += 1;
+            }
+        }
+        free
+    }
+
     /// The worker of a place, if it is free. It never waits: where another thread looks at the place just now, the answer is None too.
     pub fn take(&self, place: usize) -> Option<Caller<J>>
         ensures { IfSome result (λ caller. caller ≡ None) }
@@ -71,7 +84,7 @@ impl<J: Job + Drop> Workers<J> {
     /// Runs every lane once: each of the last ones on a worker that is free, and the rest on the caller's thread. The lanes come back in
     /// the order in which they were given, each as a run of it left it. It takes no memory, and waits for no worker but for those that
     /// it handed a lane.
-    pub fn run<R: Wait, X: Runner<J>>(&self, rt: &R, runner: &X, lanes: &mut Vec<J>)
+    pub fn run<R: Wait, X: Runner<J>>(&self, rt: &R, runner: &mut X, lanes: &mut Vec<J>)
         requires { All J.ready lanes.old.items }
         ensures ran { AllZip J.ran lanes.old.items lanes.new.items }
         ensures room { vec_capacity lanes.new ≡ vec_capacity lanes.old }

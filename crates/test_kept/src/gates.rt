@@ -1,7 +1,7 @@
 //! Systems that wait for each other, on workers that are kept, and how many of these there are.
 
 use crate::adds::{ADDS, Does, UNMET};
-use crate::keeping::{first_refusal, in_batches, kept_on, stage_of, zeros};
+use crate::keeping::{beside_a_system, first_refusal, in_batches, kept_on, stage_of, zeros};
 use shred::{AddError, DEFAULT_LOOKS};
 use std::alloc::Global;
 use std::process::Abort;
@@ -90,6 +90,84 @@ fn gate_batches(rt: HostRuntime) -> Result<(), Fail> {
         let two = Meeting { levels, ..TWO };
         assert_eq!(rt; code_on(&rt, rt.alloc(), two, 2, 0)?, None);
         assert_eq!(rt; code_on(&rt, rt.alloc(), in_vain(two), 1, 0)?, Some(UNMET));
+    }
+    Ok(())
+}
+
+/// The code of the first refusal in three dispatches of two systems that wait for each other, in a batch that has a system beside it in
+/// its stage: the batch comes first in the plan, or the system.
+fn code_beside<R: Threads + Wait + Clone + Drop + Send + 'static>(
+    rt: &R,
+    alloc: Global,
+    batch_first: bool,
+    turns: u32,
+    threads: usize,
+    looks: u32,
+) -> Result<Option<u8>, AddError> {
+    let does = Does {
+        members: 2,
+        turns,
+        ..ADDS
+    };
+    let inner = stage_of(alloc, &[does, does])?;
+    let builder = beside_a_system(alloc, inner, 2, batch_first)?;
+    let mut kept = kept_on(rt, alloc, builder, threads, looks)?;
+    let mut world = zeros(alloc, 3)?;
+    let refusal = first_refusal(&mut kept, &mut world, 3);
+    Ok(refusal.map(|(_, code)| code))
+}
+
+#[test]
+fn gate_batch_beside_a_system(rt: HostRuntime) -> Result<(), Fail> {
+    for batch_first in [true, false] {
+        for looks in [0, DEFAULT_LOOKS] {
+            for threads in [3, 8] {
+                let code = code_beside(&rt, rt.alloc(), batch_first, TURNS, threads, looks)?;
+                assert_eq!(rt; code, None);
+            }
+        }
+        for threads in [1, 2] {
+            let code = code_beside(&rt, rt.alloc(), batch_first, VAIN, threads, 0)?;
+            assert_eq!(rt; code, Some(UNMET));
+        }
+    }
+    Ok(())
+}
+
+/// The same two in a batch that has a system beside it in the inner stage of another, which has one beside it too.
+fn code_deep<R: Threads + Wait + Clone + Drop + Send + 'static>(
+    rt: &R,
+    alloc: Global,
+    batch_first: bool,
+    turns: u32,
+    threads: usize,
+) -> Result<Option<u8>, AddError> {
+    let does = Does {
+        members: 2,
+        turns,
+        ..ADDS
+    };
+    let inner = stage_of(alloc, &[does, does])?;
+    let middle = beside_a_system(alloc, inner, 2, batch_first)?;
+    let outer = beside_a_system(alloc, middle, 3, batch_first)?;
+    let mut kept = kept_on(rt, alloc, outer, threads, 0)?;
+    let mut world = zeros(alloc, 4)?;
+    let refusal = first_refusal(&mut kept, &mut world, 3);
+    Ok(refusal.map(|(_, code)| code))
+}
+
+/// The outer stage takes a worker, the middle one another, and the two that wait need a third.
+#[test]
+fn gate_batch_beside_a_system_in_such_a_batch(rt: HostRuntime) -> Result<(), Fail> {
+    for batch_first in [true, false] {
+        for threads in [4, 8] {
+            let code = code_deep(&rt, rt.alloc(), batch_first, TURNS, threads)?;
+            assert_eq!(rt; code, None);
+        }
+        for threads in [1, 2, 3] {
+            let code = code_deep(&rt, rt.alloc(), batch_first, VAIN, threads)?;
+            assert_eq!(rt; code, Some(UNMET));
+        }
     }
     Ok(())
 }

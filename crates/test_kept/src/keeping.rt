@@ -2,7 +2,7 @@
 ghost use Rattle.std.specs.Prelude.{[]};
 ghost use Rattle.shred_run.specs.declared.system.RunningTime.TheVariants.{VeryLong};
 
-use crate::adds::{Adds, Does, system_of};
+use crate::adds::{ADDS, Adds, Does, system_of};
 use shred::{
     AddError, BatchController, DispatchError, DispatcherBuilder, Fault, KeptDispatcher, Only,
     OutOfMemory, Plain, RunningTime, View, World, only_id,
@@ -81,6 +81,26 @@ pub(crate) fn in_batches(alloc: Global, inner: Builder, levels: u32) -> Result<B
         builder = outer.with_batch(Once, builder, "", &[])?;
     }
     Ok(builder)
+}
+
+/// The plan in a batch, and a system of this number beside it in its stage.
+pub(crate) fn beside_a_system(
+    alloc: Global,
+    inner: Builder,
+    number: u64,
+    batch_first: bool,
+) -> Result<Builder, AddError> {
+    let Ok(arrived) = nobody(alloc) else {
+        return Err(AddError::OutOfMemory);
+    };
+    let mut outer: Builder = DispatcherBuilder::new(alloc);
+    if batch_first {
+        outer = outer.with_batch(Once, inner, "", &[])?;
+        outer.add(system_of(&arrived, number, ADDS)?, "", &[])?;
+        return Ok(outer);
+    }
+    outer.add(system_of(&arrived, number, ADDS)?, "", &[])?;
+    outer.with_batch(Once, inner, "", &[])
 }
 
 /// The plan on so many threads, which are kept.

@@ -12,4 +12,6 @@ mod gates;
 mod keeping;
 pub mod moves;
 #[cfg(test)]
+mod reads;
+#[cfg(test)]
 mod refusals;

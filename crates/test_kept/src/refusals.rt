@@ -1,8 +1,13 @@
-//! Which refusal is told, and dispatchers that are dropped after it. The last test passes whichever request for memory or
+//! Which refusal is told, and dispatchers that are dropped after it. The last two tests pass whichever request for memory or
 //! thread is refused.
 
 use crate::adds::{ADDS, Does};
-use crate::keeping::{expect_counts, first_refusal, in_batches, kept_on, refusal, stage_of, zeros};
+use crate::keeping::{
+    Builder, beside_a_system, expect_counts, first_refusal, in_batches, kept_on, refusal, stage_of,
+    zeros,
+};
+use shred::AddError;
+use std::alloc::Global;
 use std::process::Abort;
 use std::sync::Wait;
 use std::sync::atomic::Ordering;
@@ -47,6 +52,31 @@ fn the_first_refusal_is_told(rt: HostRuntime) -> Result<(), Fail> {
     )
 }
 
+/// Four systems in a batch, of which the last refuses, tell so by the id of the batch, and all have added, as has the system beside it.
+fn expect_told_beside<R: Abort + AllocGlobal + Threads + Wait + Clone + Drop + Send + 'static>(
+    rt: &R,
+    batch_first: bool,
+    told: Option<(usize, u8)>,
+) -> Result<(), Fail> {
+    for threads in [1, 2, 3, 8] {
+        let inner = stage_of(rt.alloc(), &[ADDS, ADDS, ADDS, with_code(7)])?;
+        let builder = beside_a_system(rt.alloc(), inner, 4, batch_first)?;
+        let mut kept = kept_on(rt, rt.alloc(), builder, threads, 0)?;
+        let mut world = zeros(rt.alloc(), 5)?;
+        for _ in 0..10 {
+            assert_eq!(rt; refusal(&mut kept, &mut world), told);
+        }
+        expect_counts(rt, &world, 5, 10);
+    }
+    Ok(())
+}
+
+#[test]
+fn a_refusal_inside_of_a_batch_is_told_by_the_batch(rt: HostRuntime) -> Result<(), Fail> {
+    expect_told_beside(&rt, true, Some((0, 7)))?;
+    expect_told_beside(&rt, false, Some((1, 7)))
+}
+
 /// Three workers and their pool have a copy of the runtime each, until the dispatcher is dropped after so many dispatches of four
 /// systems in so many batches, which tell so.
 fn expect_ended<R: Abort + AllocGlobal + Threads + Wait + Clone + Drop + Send + 'static>(
@@ -84,21 +114,47 @@ const IMPATIENT: Does = Does {
     code: 0,
 };
 
-/// Whether two that wait for each other have met ten times more after they met. A dispatch that took memory then would fail.
-#[test]
-fn once_a_stage_has_run_a_dispatch_takes_no_memory(rt: HostRuntime) {
-    let Ok(builder) = stage_of(rt.alloc(), &[IMPATIENT; 2]) else {
+/// Two that wait for each other in the plan have met ten times more after they met, and so many systems have added each time. A
+/// dispatch that took memory then would fail. That they meet at all the gates see.
+fn expect_no_memory<R: Abort + AllocGlobal + Threads + Wait + Clone + Drop + Send + 'static>(
+    rt: &R,
+    builder: Builder,
+    threads: usize,
+    systems: usize,
+) {
+    let Ok(mut kept) = kept_on(rt, rt.alloc(), builder, threads, 0) else {
         return;
     };
-    let Ok(mut kept) = kept_on(&rt, rt.alloc(), builder, 2, 0) else {
-        return;
-    };
-    let Ok(mut world) = zeros(rt.alloc(), 2) else {
+    let Ok(mut world) = zeros(rt.alloc(), systems) else {
         return;
     };
     if refusal(&mut kept, &mut world).is_some() {
         return;
     }
     assert_eq!(rt; first_refusal(&mut kept, &mut world, 10), None);
-    expect_counts(&rt, &world, 2, 11);
+    expect_counts(rt, &world, systems, 11);
+}
+
+#[test]
+fn once_a_stage_has_run_a_dispatch_takes_no_memory(rt: HostRuntime) {
+    let Ok(builder) = stage_of(rt.alloc(), &[IMPATIENT; 2]) else {
+        return;
+    };
+    expect_no_memory(&rt, builder, 2, 2);
+}
+
+/// Two that wait for each other in a batch, with a system beside it.
+fn impatient_beside(alloc: Global, batch_first: bool) -> Result<Builder, AddError> {
+    let inner = stage_of(alloc, &[IMPATIENT; 2])?;
+    beside_a_system(alloc, inner, 2, batch_first)
+}
+
+#[test]
+fn once_a_stage_has_run_that_a_batch_hands_out_it_takes_none(rt: HostRuntime) {
+    for batch_first in [true, false] {
+        let Ok(builder) = impatient_beside(rt.alloc(), batch_first) else {
+            return;
+        };
+        expect_no_memory(&rt, builder, 3, 3);
+    }
 }

@@ -40,8 +40,9 @@ impl Drop for Counted {
 }
 
 impl Runner<Number> for Counted {
-    fn run<R: Wait>(&self, rt: &R, number: &mut Number) {
-        Triples.run(rt, number);
+    fn run<R: Wait>(&mut self, rt: &R, number: &mut Number) {
+        let mut triples = Triples;
+        triples.run(rt, number);
     }
 }
 
@@ -54,19 +55,19 @@ fn places(alloc: Global, count: usize, looks: u32) -> Result<Arc<Workers<Number>
 fn a_pool_that_is_dropped_has_joined_its_threads(rt: HostRuntime) -> Result<(), Fail> {
     for looks in [0, DEFAULT_LOOKS] {
         for runs in [0, 1, 100] {
-            let (runner, alive) = Counted::first(rt.alloc())?;
+            let (mut runner, alive) = Counted::first(rt.alloc())?;
             let workers = places(rt.alloc(), 4, looks)?;
             let pool = Pool::start(&rt, rt.alloc(), workers.clone()?, &runner)?;
             assert_eq!(rt; alive.load(Ordering::SeqCst), 5);
             for _ in 0..runs {
                 let mut lanes = numbers(rt.alloc(), 6)?;
-                pool.workers().run(&rt, &runner, &mut lanes);
+                pool.workers().run(&rt, &mut runner, &mut lanes);
                 expect_tripled(&rt, lanes.as_slice());
             }
             drop(pool);
             assert_eq!(rt; alive.load(Ordering::SeqCst), 1);
             let mut lanes = numbers(rt.alloc(), 6)?;
-            workers.run(&rt, &runner, &mut lanes);
+            workers.run(&rt, &mut runner, &mut lanes);
             expect_tripled(&rt, lanes.as_slice());
         }
     }

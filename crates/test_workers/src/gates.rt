@@ -42,7 +42,7 @@ fn sees(arrived: &AtomicU64, wanted: u64) -> bool {
 }
 
 impl Runner<Guest> for Meets {
-    fn run<R: Wait>(&self, _rt: &R, guest: &mut Guest) {
+    fn run<R: Wait>(&mut self, _rt: &R, guest: &mut Guest) {
         guest.arrived.fetch_add(1, Ordering::SeqCst);
         guest.met = sees(&guest.arrived, guest.wanted);
     }
@@ -73,7 +73,7 @@ fn all_meet<R: Threads + Wait + Clone + Drop + Send + 'static>(
     let pool = Pool::start(rt, alloc, workers, &Meets)?;
     for _ in 0..100 {
         let mut lanes = guests(alloc, wanted)?;
-        pool.workers().run(rt, &Meets, &mut lanes);
+        pool.workers().run(rt, &mut Meets, &mut lanes);
         for guest in &lanes {
             if !guest.met {
                 return Ok(false);

@@ -5,6 +5,8 @@
 mod dropped;
 pub mod few_copies;
 #[cfg(test)]
+mod free;
+#[cfg(test)]
 mod gates;
 #[cfg(test)]
 mod refusals;

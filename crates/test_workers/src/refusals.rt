@@ -12,10 +12,10 @@ use std::thread::Threads;
 fn tripled_by<R: Threads + Wait + Clone + Drop + Send + 'static>(
     rt: &R,
     alloc: Global,
-    runner: &Counted,
+    runner: &mut Counted,
 ) -> Result<Vec<u64>, AllocError> {
     let workers = Arc::new(alloc, Workers::new(alloc, 3, 0)?)?;
-    let pool = Pool::start(rt, alloc, workers, runner)?;
+    let pool = Pool::start(rt, alloc, workers, &*runner)?;
     let mut lanes = numbers(alloc, 5)?;
     for _ in 0..10 {
         pool.workers().run(rt, runner, &mut lanes);
@@ -32,11 +32,11 @@ const AFTER_TEN: [u64; 5] = [29_524, 88_573, 147_622, 206_671, 265_720];
 
 #[test]
 fn a_pool_works_or_memory_is_wanting(rt: HostRuntime) {
-    let Ok((runner, alive)) = Counted::first(rt.alloc()) else {
+    let Ok((mut runner, alive)) = Counted::first(rt.alloc()) else {
         return;
     };
     for _ in 0..3 {
-        if let Ok(values) = tripled_by(&rt, rt.alloc(), &runner) {
+        if let Ok(values) = tripled_by(&rt, rt.alloc(), &mut runner) {
             assert_eq!(rt; values.as_slice(), AFTER_TEN.as_slice());
         }
         assert_eq!(rt; alive.load(Ordering::SeqCst), 1);

@@ -26,7 +26,7 @@ pub struct Counts {
 }
 
 impl Runner<Tree> for Counts {
-    fn run<R: Wait>(&self, rt: &R, tree: &mut Tree) {
+    fn run<R: Wait>(&mut self, rt: &R, tree: &mut Tree) {
         tree.leaves = leaves(rt, &self.workers, tree.depth);
     }
 }

@@ -23,7 +23,7 @@ impl Job for Number {
 pub struct Triples;
 
 impl Runner<Number> for Triples {
-    fn run<R: Wait>(&self, _rt: &R, number: &mut Number) {
+    fn run<R: Wait>(&mut self, _rt: &R, number: &mut Number) {
         number.value = number.value.wrapping_mul(3).wrapping_add(1);
     }
 }
@@ -32,5 +32,5 @@ impl Runner<Number> for Triples {
 pub fn triple_all<R: Wait>(rt: &R, workers: &Workers<Number>, numbers: &mut Vec<Number>)
     ensures { map (λ n. n.value) numbers.new.items ≡ map (λ n. tripled n.value) numbers.old.items }
 {
-    workers.run(rt, &Triples, numbers);
+    workers.run(rt, &mut Triples, numbers);
 }

@@ -21,6 +21,7 @@ use Rattle.shred_run.specs.declared.entry.StageFault.TheVariants.{System}
 use Rattle.shred_run.specs.declared.work.Work.{Work}
 use Rattle.shred_run.specs.Entries.{entry_answer, EntryRun, GroupRun, entry_states, group_states}
 use Rattle.shred_run.specs.Hands.{is_single, KeepsRoom}
+use Rattle.shred_run.specs.Lanes.{GroupWent}
 use Rattle.shred_run.specs.OneBatch.{is_lone_batch, is_one_batch}
 use Rattle.shred_run.specs.OwnLists.{IsEntryOf, IsGroupOf}
 use Rattle.shred_run.specs.PlanOf.{entry_plan, group_plan, numbers_of}
@@ -106,4 +107,24 @@ module _ {V X E : Type 0} {kind : V → Kind} {own : X → List ResourceId → L
         };
         slots = stepped.slots;
         others = λ id none. framed id ((or_parts (among group.written.items id) false none).0);
+      }
+
+-- The step of the only entry of a group over the group's own table.
+module _ {V X E : Type 0} {kind : V → Kind} {own : X → List ResourceId → List ResourceId → Type 0} {step : Step V X E} {lent : Lent V} (group new : Group V X) (entry : GroupEntry V X) (left : X) (was : group.entries.items ≡ entry ∷ []) (items : new.entries.items ≡ record entry { work = left } ∷ [])
+    (outcome : Outcome E) (stepped : IsStepBy kind own step entry.reads.items entry.writes.items lent entry.work group.hand outcome left new.hand) where
+  -- the group ran
+  pub one-went : (answer : Answer (StageFault E)) → answer ≡ entry_answer entry.id.0 outcome → IsGroupOf own group → new.ids ≡ group.ids → new.written ≡ group.written → GroupWent kind step own lent group answer new
+  one-went answer is owns ids written =
+      let one = one-ran group new entry left was items group.hand outcome new.hand stepped outcome refl in
+      let length_is = long group new entry left was items group.hand outcome new.hand stepped in
+      let own_entry : IsEntryOf own (record entry { work = left }) = record { lists = stepped.own_lists; hand = (subst (IsEntryOf own) (here group new entry left was items group.hand outcome new.hand stepped) (owns 0 entry (omega (arith, length_is)))).hand } in
+      record {
+        ran = subst₂ (λ (xs ys : List (GroupEntry V X)). Ran (GroupRun kind step 0 (map entry_plan xs)) (configuration_of (listed_states entry_states xs) (shown kind lent group.hand)) answer (configuration_of (listed_states entry_states ys) (shown kind lent new.hand))) (sym was) (sym items)
+            (subst (OneRan group new entry left was items group.hand outcome new.hand stepped) (sym is) one);
+        plan = same-plan group new entry left was items group.hand outcome new.hand stepped;
+        own_lists = subst (All (IsEntryOf own)) (sym items) (All-cons (IsEntryOf own) (record entry { work = left }) [] own_entry (All-nil (IsEntryOf own)));
+        ids = ids;
+        written = written;
+        kinds = stepped.kinds;
+        slots = stepped.slots;
       }

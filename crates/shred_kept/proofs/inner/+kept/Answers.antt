@@ -1,20 +1,34 @@
-use Rattle.std.proofs.Common.{◌≡◌, ◌≤◌, ◌+◌, ◌-◌, Ok, List, length, refl, sym, ◌∙◌, ap, subst, arith, rules, Err, ◌∷◌, []}
-use Rattle.std.proofs.Math.ListN.{set}
-use Rattle.std.proofs.lemmas.List.{with_items_is}
+use Rattle.std.proofs.Common.{◌≡◌, ◌≤◌, ◌+◌, ◌-◌, Ok, List, length, map, refl, sym, ◌∙◌, ap, subst, subst₂, arith, rules, All, None, true, false, Err, ◌∷◌, []}
+use Rattle.std.proofs.Math.ListN.{set, length-append}
+use Rattle.std.proofs.lemmas.List.{map-append, with_items_is}
+use Rattle.shred_model.proofs.Joined.AllWent.{AllWent-halves, WentTo, WentTo-start, WentTo-length, WentTo-at, WentTo-more, WentTo-end}
 use Rattle.shred_run.specs.Depths.{Owns, WorkStep, lists_of, steps_of}
 use Rattle.shred_run.specs.Entries.{entry_answer}
-use Rattle.shred_run.specs.Rules.{bound_of}
-use Rattle.shred_run.specs.TurnsOver.{TookTurnOver}
+use Rattle.shred_run.specs.Hands.{IsBack, some_writes}
+use Rattle.shred_run.specs.Lanes.{GroupWent, IsReady}
+use Rattle.shred_run.specs.OwnSlots.{LiesBefore, lent_before}
+use Rattle.shred_run.specs.Rules.{RuleOwns, RuleStep, bound_of}
 use Rattle.shred_run.specs.declared.entry.StageFault.TheVariants.{System}
 use Rattle.shred_run.specs.declared.work.Nested.TheViews.{out-roll-Nested}
+use Rattle.shred_table.specs.Slots.{slot_at}
+use Rattle.shred_table.specs.declared.id.ResourceId.{ResourceId}
+use Rattle.shred_table.specs.declared.table.Table.{Table}
 use Rattle.shred_world.specs.Views.{lent_slot}
-use Rattle.shred_world.specs.declared.world.view.Shelf.{Shelf}
-use Rattle.shred_run.proofs.Circle.OneBatch.{one-entry, one-took, took-of_one}
-use Rattle.shred_run.proofs.Circle.Rounds.{batch-ran, parts-begun, rounds-end, rounds-fault, rounds-inner_fault, rounds-next, rounds-no}
-use Rattle.shred_run.proofs.Circle.Tiers.{tiers-end, tiers-fault, tiers-next, tiers-start}
-use Rattle.shred_run.proofs.Circle.WorkSteps.{rule-below, batch-deep, batch-within, ran-batch}
-use Rattle.shred_run.proofs.Runs.Hands.{still_before}
 use Rattle.shred_run.proofs.Circle.Bounds.{bounded_beside}
+use Rattle.shred_run.proofs.Circle.OneBatch.{one-entry, one-took, one-went, took-of_one}
+use Rattle.shred_run.proofs.Circle.Rounds.{batch-ran, parts-begun, rounds-end, rounds-fault, rounds-inner_fault, rounds-next, rounds-no}
+use Rattle.shred_run.proofs.Circle.Tiers.{groups-back, groups-ready, groups-took, out-slots, tiers-end, tiers-fault, tiers-next, tiers-start}
+use Rattle.shred_run.proofs.Circle.WorkSteps.{rule-below, batch-deep, batch-within, ran-batch}
+use Rattle.shred_run.proofs.Runs.Forked.{out-fits}
+use Rattle.shred_run.proofs.Runs.Hands.{still_before}
+use Rattle.shred_table.specs.Shown.{Lent}
+use Rattle.std.specs.Arc.{arc_value}
+use Rattle.shred_kept.specs.declared.level.Level.{Level}
+use Rattle.shred_kept.specs.Lanes.{AreReadyOver, IsLaneReady, WentOver}
+use Rattle.shred_kept.specs.Levels.{LaidBefore, lent_by}
+use Rattle.shred_kept.proofs.Lanes.{lane-ready, one-batch, one-before, one-lists}
+use Rattle.shred_kept.proofs.Parts.{All-back, All-front, AllWent-length}
+use Rattle.shred_kept.proofs.Levels.{before-laid, laid-some, last-before, lent-laid, stand-laid}
 use Rattle.shred_kept.proofs.inner.+kept.Goals as goal
 
 pub rounds-loop-round-preserved : goal.rounds-loop-round-preserved
@@ -39,7 +53,7 @@ run_batch-returns-in-Ok g t c =
 
 pub run_batch-rounds-requires : goal.run_batch-rounds-requires
 run_batch-rounds-requires g t c κs within =
-    ((let down = c.decreases in omega (arith, down)), bounded_beside within (refl, (still_before c.args.writes.now [] c.args.own.now c.call_kept.new.own c.call_kept.ensures.slots c.requires.before, parts-begun _ c.requires.within c.call_kept.new.entry c.call_kept.ensures.own_lists c.call_kept.ensures.access c.as_mut_slice.ensures.value)))
+    ((let down = c.decreases in omega (arith, down)), bounded_beside within (still_before c.args.writes.now c.args.shelf.now c.args.own.now c.call_kept.new.own c.call_kept.ensures.slots c.requires.before, (c.requires.stand, parts-begun _ c.requires.within c.call_kept.new.entry c.call_kept.ensures.own_lists c.call_kept.ensures.access c.as_mut_slice.ensures.value)))
 
 pub run_tiers-loop-tier-init : goal.run_tiers-loop-tier-init
 run_tiers-loop-tier-init g t c = tiers-start _ _ _ _ _ _ c.requires.within
@@ -55,7 +69,39 @@ run_tiers-returns-in-Err g t c = tiers-fault c.loop-tier.invariant c.tier-item.r
 
 pub run_tiers-turn-requires : goal.run_tiers-turn-requires
 run_tiers-turn-requires g t c κs within =
-    ((let down = c.decreases in omega (arith, down)), bounded_beside within (c.requires.bare, c.loop-tier.invariant.kept.within c.loop-tier.tier-index c.tier-item.result (omega arith)))
+    ((let down = c.decreases in omega (arith, down)), bounded_beside within (still_before c.args.loan.now.writes.now c.args.loan.now.shelf.now c.args.own.now c.loop-tier.own c.loop-tier.invariant.kept.keeps.slots c.requires.has, (c.requires.stand, c.loop-tier.invariant.kept.within c.loop-tier.tier-index c.tier-item.result (omega arith))))
+
+pub turn-turn_groups-requires : goal.turn-turn_groups-requires
+turn-turn_groups-requires g t c κs within =
+    let slots : (id : ResourceId) → some_writes c.args.tier.now.groups.items id ≡ true → slot_at c.args.own.now id ≡ None → lent_slot c.args.loan.now.shelf.now id ≡ None = λ id some none. c.requires.has.own_slots id (c.requires.within.writes_within id some) none in
+    ((let down = c.decreases in omega (arith, down)), bounded_beside within (c.requires.within.owns, (c.requires.within.room, (c.requires.within.apart, (c.requires.has, (c.requires.stand, slots))))))
+
+pub turn_groups-values_out-requires : goal.turn_groups-values_out-requires
+turn_groups-values_out-requires g t c = out-fits c.args.groups.now.items c.requires.room c.requires.apart
+
+pub turn_groups-run_over-answer-requires : goal.turn_groups-run_over-answer-requires
+turn_groups-run_over-answer-requires g t c κs within =
+    let before = still_before c.args.ids.now c.args.shelf.now c.args.own.now c.values_out.new.table (out-slots _ _ c.requires.own_lists c.requires.room c.requires.apart c.args.own.now c.requires.own_slots c.values_out.new.table c.values_out.new.groups.items c.values_out.ensures.hands c.values_out.ensures.left) c.requires.before in
+    let ready = groups-ready _ _ c.requires.own_lists c.requires.room c.requires.apart c.args.own.now c.requires.own_slots c.values_out.new.table c.values_out.new.groups.items c.values_out.ensures.hands c.values_out.ensures.left (lent_before c.values_out.new.table (lent_slot c.args.shelf.now)) (λ q. refl) in
+    ((let down = c.decreases in omega (arith, down)), bounded_beside within (before, (c.requires.stand, ready)))
+
+pub turn_groups-values_back-requires : goal.turn_groups-values_back-requires
+turn_groups-values_back-requires g t c = groups-back _ _ c.requires.own_lists c.requires.room c.requires.apart c.args.own.now c.requires.own_slots c.values_out.new.table c.values_out.new.groups.items c.values_out.ensures.hands c.values_out.ensures.left (lent_before c.values_out.new.table (lent_slot c.args.shelf.now)) (λ q. refl) _ _ c.run_over-answer.result c.run_over-answer.new.groups.items c.run_over-answer.ensures.ran
+
+pub turn_groups-returns : goal.turn_groups-returns
+turn_groups-returns g t c =
+    let after = c.values_out.new.table in
+    let ran = c.run_over-answer.new.groups.items in
+    let back = subst (λ (t : Table g.row.V.Denot). All (IsBack (slot_at t) (slot_at c.values_back.new.table)) ran) c.run_over-answer.ensures.table c.values_back.ensures.back in
+    let others : (q : ResourceId) → some_writes ran q ≡ false → slot_at c.values_back.new.table q ≡ slot_at after q = λ q none. c.values_back.ensures.others q none ∙ ap (λ (t : Table g.row.V.Denot). slot_at t q) c.run_over-answer.ensures.table in
+    groups-took _ _ c.requires.own_lists c.requires.room c.requires.apart c.args.own.now c.requires.own_slots after c.values_out.new.groups.items c.values_out.ensures.hands c.values_out.ensures.left (lent_before after (lent_slot c.args.shelf.now)) (λ q. refl)
+    _ _ c.run_over-answer.result ran c.run_over-answer.ensures.ran c.values_back.new.table c.values_back.new.groups.items back others c.values_back.ensures.hands
+
+pub turn_groups-returns-then-is_lone_batch : goal.turn_groups-returns-then-is_lone_batch
+turn_groups-returns-then-is_lone_batch g t c =
+    let none : length c.args.shelf.now ≡ 0 = search rules in
+    let lone = rw c.as_slice.ensures.value at (sym c.is_lone_batch.ensures ∙ c.if-is_lone_batch.true) in
+    took-of_one c.args.groups.now.items lone c.index_mut.result.now c.index_mut.ensures.value c.args.shelf.now none c.args.own.now c.run_in_place.result c.run_in_place.new.group c.run_in_place.new.own c.run_in_place.ensures
 
 pub run_in_place-returns-in-Ok : goal.run_in_place-returns-in-Ok
 run_in_place-returns-in-Ok g t c =
@@ -69,6 +115,18 @@ run_in_place-returns-in-Err g t c =
     let was : c.args.group.now.entries.items ≡ entry ∷ [] = one-entry c.args.group.now.entries.items c.requires.one entry c.index_mut-entry.ensures.value in
     one-took c.args.group.now _ entry c.run_work.new.work was (ap (λ entries. set entries 0 (record entry { work = c.run_work.new.work })) was) c.args.own.now c.run_work.result c.run_work.new.own (rw (c.as_slice.ensures.value, c.as_slice-2.ensures.value) at c.run_work.ensures.stepped) (Err (System c.index_mut-entry.result.now.id c.in-Err.fault)) (ap (entry_answer entry.id.0) (sym c.in-Err.is)) c.requires.own_lists c.requires.room refl refl refl
 
+pub run_one_batch-returns-in-Ok : goal.run_one_batch-returns-in-Ok
+run_one_batch-returns-in-Ok g t c =
+    let entry = c.index_mut-entry.result.now in
+    let was : c.args.group.now.entries.items ≡ entry ∷ [] = one-entry c.args.group.now.entries.items c.requires.one entry c.index_mut-entry.ensures.value in
+    one-went c.args.group.now _ entry c.run_work.new.work was (ap (λ entries. set entries 0 (record entry { work = c.run_work.new.work })) was) c.run_work.result (rw (c.as_slice.ensures.value, c.as_slice-2.ensures.value) at c.run_work.ensures.stepped) (Ok tt) (ap (entry_answer entry.id.0) (sym c.in-Ok.is)) c.requires.ready.own_lists refl refl
+
+pub run_one_batch-returns-in-Err : goal.run_one_batch-returns-in-Err
+run_one_batch-returns-in-Err g t c =
+    let entry = c.index_mut-entry.result.now in
+    let was : c.args.group.now.entries.items ≡ entry ∷ [] = one-entry c.args.group.now.entries.items c.requires.one entry c.index_mut-entry.ensures.value in
+    one-went c.args.group.now _ entry c.run_work.new.work was (ap (λ entries. set entries 0 (record entry { work = c.run_work.new.work })) was) c.run_work.result (rw (c.as_slice.ensures.value, c.as_slice-2.ensures.value) at c.run_work.ensures.stepped) (Err (System c.index_mut-entry.result.now.id c.in-Err.fault)) (ap (entry_answer entry.id.0) (sym c.in-Err.is)) c.requires.ready.own_lists refl refl
+
 pub run_work-overflow_sub-depth : goal.run_work-overflow_sub-depth
 run_work-overflow_sub-depth g t c = batch-deep (lists_of g.S.System g.C.BatchController) c.args.at c.args.reads.now c.args.writes.now c.in-Batch.is c.depth_by-depth.ensures c.requires.own_lists
 
@@ -76,24 +134,178 @@ pub run_work-run_batch-requires : goal.run_work-run_batch-requires
 run_work-run_batch-requires g t c κs within =
     let below : c.depth_by-depth.result ≤ bound_of c.args.at = rule-below c.args.at c.args.work.now c.depth_by-depth.result c.depth_by-depth.ensures (omega arith) in
     let deep : 1 ≤ c.depth_by-depth.result = batch-deep (lists_of g.S.System g.C.BatchController) c.args.at c.args.reads.now c.args.writes.now c.in-Batch.is c.depth_by-depth.ensures c.requires.own_lists in
-    ((let fall = c.decreases in omega (arith, deep, below, fall)), bounded_beside within (c.requires.before, batch-within (lists_of g.S.System g.C.BatchController) c.args.at c.args.reads.now c.args.writes.now c.in-Batch.is c.depth_by-depth.ensures c.requires.own_lists))
+    ((let fall = c.decreases in omega (arith, deep, below, fall)), bounded_beside within (c.requires.before, (c.requires.stand, batch-within (lists_of g.S.System g.C.BatchController) c.args.at c.args.reads.now c.args.writes.now c.in-Batch.is c.depth_by-depth.ensures c.requires.own_lists)))
 
 pub run_work-returns : goal.run_work-returns
 run_work-returns g t c = record { stepped = ran-batch (lists_of g.S.System g.C.BatchController) c.args.at c.args.reads.now c.args.writes.now (steps_of g.S.System g.C.BatchController) c.in-Batch.is c.depth_by-depth.ensures c.requires.own_lists (ap (λ level. level.batch) (out-roll-Nested _ _ _ _)) c.run_batch.ensures }
 
-pub turn-turn_groups-requires : goal.turn-turn_groups-requires
-turn-turn_groups-requires g t c κs within =
-    ((let down = c.decreases in omega (arith, down)), bounded_beside within (c.requires.within.owns, (c.requires.within.room, c.requires.within.apart)))
+pub run_over-run_laid-answer-requires : goal.run_over-run_laid-answer-requires
+run_over-run_laid-answer-requires g t c κs within =
+    let laid = c.in-Some.ensures.laid in
+    let declared = lists_of g.S.System g.C.BatchController in
+    let lent = lent-laid (map arc_value c.args.levels.now) c.args.shelf.now c.requires.stand c.args.ids.now c.args.own.now (map arc_value c.in-Some.laid.items) laid in
+    let ready = subst (λ (lent : Lent g.row.V.Denot). AreReadyOver (RuleOwns declared c.args.at) lent c.args.groups.now.items) (sym lent) c.requires.ready in
+    let before = before-laid (map arc_value c.args.levels.now) c.args.shelf.now c.requires.stand c.args.ids.now c.args.own.now (map arc_value c.in-Some.laid.items) c.requires.before laid in (
+      (let down = c.decreases in omega (arith, down)),
+      bounded_beside within (
+        c.requires.stand,
+        (
+          subst (λ levels. LaidBefore (map arc_value c.args.levels.now) c.args.shelf.now (map arc_value levels)) (sym c.as_slice-2.ensures.value) before,
+          subst (λ levels. AreReadyOver (RuleOwns declared c.args.at) (lent_by (map arc_value levels)) c.args.groups.now.items) (sym c.as_slice-2.ensures.value) ready,
+        ),
+      ),
+    )
 
-pub turn-returns : goal.turn-returns
-turn-returns g t c =
+pub run_over-run_in_order-requires-in_default-clause-ready : goal.run_over-run_in_order-requires-in_default-clause-ready
+run_over-run_in_order-requires-in_default-clause-ready g t c =
+    let own = RuleOwns (lists_of g.S.System g.C.BatchController) c.args.at in
+    subst (λ (table : Table g.row.V.Denot). AreReadyOver own (lent_before table (lent_slot c.args.shelf.now)) c.args.groups.now.items) (sym c.in_default.ensures.none) c.requires.ready
+
+pub run_over-take_up-requires : goal.run_over-take_up-requires
+run_over-take_up-requires g t c =
+    let some = laid-some arc_value (map arc_value c.args.levels.now) c.args.ids.now c.args.own.now c.in-Some.laid.items c.in-Some.ensures.laid in
+    let counted = c.in-Some.laid.ok in
+    omega (arith, some, counted)
+
+pub run_over-returns-clause-ran : goal.run_over-returns-clause-ran
+run_over-returns-clause-ran g t c =
     let kind = g.V.ResourceValue.kind_of in
     let declared = lists_of g.S.System g.C.BatchController in
-    let own = Owns declared c.args.less in
-    let step = WorkStep kind (steps_of g.S.System g.C.BatchController) c.args.less in
-    subst (λ (shelf : List (Shelf g.row.V.Denot)). TookTurnOver kind own step (lent_slot shelf) c.args.tier.now.groups.items c.args.own.now c.turn_groups.result c.turn_groups.new.groups.items c.turn_groups.new.own) (sym c.requires.bare) c.turn_groups.ensures
+    let step = RuleStep kind (steps_of g.S.System g.C.BatchController) c.args.at in
+    let lent = lent-laid (map arc_value c.args.levels.now) c.args.shelf.now c.requires.stand c.args.ids.now c.args.own.now (map arc_value c.in-Some.laid.items) c.in-Some.ensures.laid in
+    subst (λ (lent : Lent g.row.V.Denot). WentOver (RuleOwns declared c.args.at) kind step lent c.args.groups.now.items c.run_laid-answer.result c.run_laid-answer.new.groups.items) lent (rw c.as_slice-2.ensures.value at c.run_laid-answer.ensures.ran)
 
-pub turn_groups-returns-then-is_lone_batch : goal.turn_groups-returns-then-is_lone_batch
-turn_groups-returns-then-is_lone_batch g t c =
-    let lone = rw c.as_slice.ensures.value at (sym c.is_lone_batch.ensures ∙ c.if-is_lone_batch.true) in
-    took-of_one c.args.groups.now.items lone c.index_mut.result.now c.index_mut.ensures.value [] refl c.args.own.now c.run_in_place.result c.run_in_place.new.group c.run_in_place.new.own c.run_in_place.ensures
+pub run_over-returns-clause-table : goal.run_over-returns-clause-table
+run_over-returns-clause-table g t c = c.take_up.ensures _ _ _ c.in-Some.ensures.laid
+
+pub run_laid-behind-nearest-requires : goal.run_laid-behind-nearest-requires
+run_laid-behind-nearest-requires g t c =
+    let table = ap (λ (level : Level g.row.V.Denot). level.table) c.deref.ensures in
+    let ids = c.as_slice.ensures.value ∙ ap (λ (level : Level g.row.V.Denot). level.ids.items) c.deref-2.ensures in
+    let at = ap (map arc_value) c.in-Some.ensures.cases.0 ∙ map-append arc_value c.in-Some.field-0-1.now (c.in-Some.level.now ∷ []) in
+    (omega arith, subst₂ (λ (ids : List ResourceId) (table : Table g.row.V.Denot). LiesBefore ids c.args.shelf.now table) (sym ids) (sym table) (last-before (map arc_value c.args.levels.now) c.args.shelf.now c.requires.stand (map arc_value c.args.laid.now) c.requires.laid (map arc_value c.in-Some.field-0-1.now) (arc_value c.in-Some.level.now) at))
+
+pub run_each-loop-group-init : goal.run_each-loop-group-init
+run_each-loop-group-init g t c = WentTo-start _ c.args.groups.now
+
+pub run_each-run_group-ran-requires : goal.run_each-run_group-ran-requires
+run_each-run_group-ran-requires g t c κs within =
+    let own = RuleOwns (lists_of g.S.System g.C.BatchController) c.args.at in
+    let went = GroupWent g.V.ResourceValue.kind_of (RuleStep g.V.ResourceValue.kind_of (steps_of g.S.System g.C.BatchController) c.args.at) own (lent_slot c.args.shelf.now) in
+    let i = c.loop-group.group-index in
+    let long = WentTo-length went i c.args.groups.now c.loop-group.answer c.loop-group.groups c.loop-group.invariant in
+    let ready = subst (IsReady own (lent_slot c.args.shelf.now)) (sym (WentTo-at went i c.args.groups.now c.loop-group.answer c.loop-group.groups c.group-item.result (omega arith) c.loop-group.invariant)) (c.requires.ready i c.group-item.result (omega arith)) in
+    ((let down = c.decreases in omega (arith, down)), bounded_beside within (omega arith, (c.requires.stand, ready)))
+
+pub run_each-loop-group-preserved : goal.run_each-loop-group-preserved
+run_each-loop-group-preserved g t c =
+    let went = GroupWent g.V.ResourceValue.kind_of (RuleStep g.V.ResourceValue.kind_of (steps_of g.S.System g.C.BatchController) c.args.at) (RuleOwns (lists_of g.S.System g.C.BatchController) c.args.at) (lent_slot c.args.shelf.now) in
+    let i = c.loop-group.group-index in
+    let was = c.args.groups.now in
+    let now = c.loop-group.groups in
+    let so_far = c.loop-group.answer in
+    let long = WentTo-length went i was so_far now c.loop-group.invariant in
+    let same = WentTo-at went i was so_far now c.group-item.result (omega arith) c.loop-group.invariant in
+    subst (λ a. WentTo went (i + 1) was a (set now i c.run_group-ran.new.group)) (sym c.first-answer.ensures)
+    (WentTo-more went i was so_far c.run_group-ran.result now c.group-item.result c.run_group-ran.new.group (omega arith) c.loop-group.invariant (subst (λ y. went y c.run_group-ran.result c.run_group-ran.new.group) same c.run_group-ran.ensures))
+
+pub run_each-returns : goal.run_each-returns
+run_each-returns g t c = WentTo-end _ c.loop-group.group-index c.args.groups.now c.loop-group.answer c.loop-group.groups (omega arith) c.loop-group.invariant
+
+pub run_laid-run_beside-requires : goal.run_laid-run_beside-requires
+run_laid-run_beside-requires g t c κs within =
+    let declared = lists_of g.S.System g.C.BatchController in
+    let table = ap (λ (level : Level g.row.V.Denot). level.table) c.deref.ensures in
+    let others = map arc_value c.in-Some.field-0-1.now in
+    let at = ap (map arc_value) c.in-Some.ensures.cases.0 ∙ map-append arc_value c.in-Some.field-0-1.now (c.in-Some.level.now ∷ []) in
+    let stand = stand-laid (map arc_value c.args.levels.now) c.args.shelf.now c.requires.stand (map arc_value c.args.laid.now) c.requires.laid others (arc_value c.in-Some.level.now) at c.behind-nearest.result (search rules) (λ id. c.behind-nearest.ensures id ∙ ap (λ (table : Table g.row.V.Denot). lent_before table (lent_slot c.args.shelf.now) id) table) in
+    let ready = subst (λ (lent : Lent g.row.V.Denot). AreReadyOver (RuleOwns declared c.args.at) lent c.args.groups.now.items) (λ i id. sym (stand.shows id) i) c.requires.ready in
+    ((let down = c.decreases in omega (arith, down)), bounded_beside within (omega arith, (stand, ready)))
+
+pub run_laid-returns : goal.run_laid-returns
+run_laid-returns g t c =
+    let kind = g.V.ResourceValue.kind_of in
+    let declared = lists_of g.S.System g.C.BatchController in
+    let step = RuleStep kind (steps_of g.S.System g.C.BatchController) c.args.at in
+    let table = ap (λ (level : Level g.row.V.Denot). level.table) c.deref.ensures in
+    let others = map arc_value c.in-Some.field-0-1.now in
+    let at = ap (map arc_value) c.in-Some.ensures.cases.0 ∙ map-append arc_value c.in-Some.field-0-1.now (c.in-Some.level.now ∷ []) in
+    let stand = stand-laid (map arc_value c.args.levels.now) c.args.shelf.now c.requires.stand (map arc_value c.args.laid.now) c.requires.laid others (arc_value c.in-Some.level.now) at c.behind-nearest.result (search rules) (λ id. c.behind-nearest.ensures id ∙ ap (λ (table : Table g.row.V.Denot). lent_before table (lent_slot c.args.shelf.now) id) table) in
+    record { ran = subst (λ (lent : Lent g.row.V.Denot). WentOver (RuleOwns declared c.args.at) kind step lent c.args.groups.now.items c.run_beside.result c.run_beside.new.groups.items) (λ i id. stand.shows id i) c.run_beside.ensures.ran }
+
+pub run_beside-run_here-requires-in_default-lane_of : goal.run_beside-run_here-requires-in_default-lane_of
+run_beside-run_here-requires-in_default-lane_of g t c κs within =
+    let own = RuleOwns (lists_of g.S.System g.C.BatchController) c.args.at in
+    let ready = subst (AreReadyOver own (lent_slot c.args.shelf.now)) (sym (ap (λ groups. groups.items) c.in_default-lane_of.ensures.none)) c.requires.ready in
+    ((let down = c.decreases in omega (arith, down)), bounded_beside within (omega arith, (c.requires.stand, ready)))
+
+pub run_beside-send-requires-clause-ready : goal.run_beside-send-requires-clause-ready
+run_beside-send-requires-clause-ready g t c =
+    let declared = lists_of g.S.System g.C.BatchController in
+    let own = RuleOwns declared c.args.at in
+    let lane = c.in-Some-lane_of.lane in
+    let theirs = All-back (IsReady own (lent_slot c.args.shelf.now)) c.lane_of.new.groups.items lane.groups.items (subst (AreReadyOver own (lent_slot c.args.shelf.now)) c.in-Some-lane_of.ensures.parts c.requires.ready) in
+    let ready = lane-ready own (map arc_value c.args.levels.now) c.args.shelf.now lane.groups.items c.requires.stand (search rules) theirs in
+    subst₂ (λ at levels. IsLaneReady (RuleOwns declared at) levels lane.groups.items) (sym c.in-Some-lane_of.ensures.at) (sym c.in-Some-lane_of.ensures.levels) ready
+
+pub run_beside-run_beside-mine-requires : goal.run_beside-run_beside-mine-requires
+run_beside-run_beside-mine-requires g t c κs within =
+    let own = RuleOwns (lists_of g.S.System g.C.BatchController) c.args.at in
+    let mine = All-front (IsReady own (lent_slot c.args.shelf.now)) c.lane_of.new.groups.items c.in-Some-lane_of.lane.groups.items (subst (AreReadyOver own (lent_slot c.args.shelf.now)) c.in-Some-lane_of.ensures.parts c.requires.ready) in
+    ((let down = c.decreases in omega (arith, down)), bounded_beside within (omega arith, (c.requires.stand, mine)))
+
+pub run_beside-put_back-requires : goal.run_beside-put_back-requires
+run_beside-put_back-requires g t c =
+    let kind = g.V.ResourceValue.kind_of in
+    let declared = lists_of g.S.System g.C.BatchController in
+    let related = steps_of g.S.System g.C.BatchController in
+    let lane = c.in-Some-lane_of.lane in
+    let front = c.lane_of.new.groups.items in
+    let mine = AllWent-length (GroupWent kind (RuleStep kind related c.args.at) (RuleOwns declared c.args.at) (lent_slot c.args.shelf.now)) front c.run_beside-mine.result c.run_beside-mine.new.groups.items c.run_beside-mine.ensures.ran in
+    let theirs = AllWent-length (GroupWent kind (RuleStep kind related lane.at) (RuleOwns declared lane.at) (lent_by (map arc_value lane.levels.items))) lane.groups.items c.collect-back.result.answer c.collect-back.result.groups.items (c.collect-back.ensures.ran lane c.send.ensures) in
+    let both = ap length c.in-Some-lane_of.ensures.parts ∙ length-append front lane.groups.items in
+    let before = c.args.groups.now.ok in
+    let now = c.run_beside-mine.new.groups.ok in
+    let back = c.collect-back.result.groups.ok in
+    let kept = c.lane_of.ensures.room in
+    let room = c.run_beside-mine.ensures.room in
+    omega (arith, mine, theirs, both, before, now, back, kept, room)
+
+pub run_beside-returns-clause-ran : goal.run_beside-returns-clause-ran
+run_beside-returns-clause-ran g t c =
+    let kind = g.V.ResourceValue.kind_of in
+    let declared = lists_of g.S.System g.C.BatchController in
+    let related = steps_of g.S.System g.C.BatchController in
+    let lane = c.in-Some-lane_of.lane in
+    let own = RuleOwns declared c.args.at in
+    let step = RuleStep kind related c.args.at in
+    let shows : lent_slot c.args.shelf.now ≡ lent_by (map arc_value c.args.levels.now) = λ i id. c.requires.stand.shows id i in
+    let ran = c.collect-back.ensures.ran lane c.send.ensures in
+    let at_same = subst (λ at. WentOver (RuleOwns declared at) kind (RuleStep kind related at) (lent_by (map arc_value lane.levels.items)) lane.groups.items c.collect-back.result.answer c.collect-back.result.groups.items) c.in-Some-lane_of.ensures.at ran in
+    let theirs = subst (λ (lent : Lent g.row.V.Denot). WentOver own kind step lent lane.groups.items c.collect-back.result.answer c.collect-back.result.groups.items) (ap lent_by c.in-Some-lane_of.ensures.levels ∙ sym shows) at_same in
+    subst (λ groups. WentOver own kind step (lent_slot c.args.shelf.now) c.args.groups.now.items c.first.result groups) (sym c.put_back.ensures.items)
+    (AllWent-halves (GroupWent kind step own (lent_slot c.args.shelf.now)) c.args.groups.now.items c.lane_of.new.groups.items lane.groups.items c.first.result c.run_beside-mine.result c.collect-back.result.answer c.run_beside-mine.new.groups.items c.collect-back.result.groups.items
+    c.in-Some-lane_of.ensures.parts c.first.ensures c.run_beside-mine.ensures.ran theirs)
+
+pub run_here-run_each-requires : goal.run_here-run_each-requires
+run_here-run_each-requires g t c κs within =
+    let ready = subst (AreReadyOver (RuleOwns (lists_of g.S.System g.C.BatchController) c.args.at) (lent_slot c.args.shelf.now)) (sym c.as_mut_slice.ensures.value) c.requires.ready in
+    ((let down = c.decreases in omega (arith, down)), bounded_beside within (omega arith, (c.requires.stand, ready)))
+
+pub run_here-returns-clause-ran : goal.run_here-returns-clause-ran
+run_here-returns-clause-ran g t c =
+    let kind = g.V.ResourceValue.kind_of in
+    let declared = lists_of g.S.System g.C.BatchController in
+    let step = RuleStep kind (steps_of g.S.System g.C.BatchController) c.args.at in
+    let same : length c.run_each.new.groups ≡ c.args.groups.now.len = search rules in
+    subst₂ (λ old new. WentOver (RuleOwns declared c.args.at) kind step (lent_slot c.args.shelf.now) old c.run_each.result new) c.as_mut_slice.ensures.value (sym (with_items_is c.args.groups.now c.run_each.new.groups same)) c.run_each.ensures
+
+pub run_one_batch-run_work-requires : goal.run_one_batch-run_work-requires
+run_one_batch-run_work-requires g t c κs within =
+    let own = RuleOwns (lists_of g.S.System g.C.BatchController) c.args.at in
+    let group = c.args.group.now in
+    let entry = c.index_mut-entry.result.now in
+    let was : group.entries.items ≡ entry ∷ [] = one-entry group.entries.items c.requires.one entry c.index_mut-entry.ensures.value in
+    let lists = subst₂ (own entry.work) (sym c.as_slice.ensures.value) (sym c.as_slice-2.ensures.value) (one-lists own c.args.shelf.now group entry was c.requires.ready) in
+    let before = subst (λ (ids : List ResourceId). LiesBefore ids c.args.shelf.now group.hand) (sym c.as_slice-2.ensures.value) (one-before own c.args.shelf.now group entry was c.requires.ready) in
+    ((let down = c.decreases in omega (arith, down)), bounded_beside within (one-batch group.entries.items entry was c.requires.one, (lists, (before, c.requires.stand))))

@@ -1,6 +1,0 @@
-use Rattle.std.proofs.Common.{◌≡◌}
-use Rattle.std.specs.Arc.{arc_value}
-use Rattle.shred_kept.proofs.shared.swap_shared.Given as goal
-
-abbrev pub invariant-loop : goal.invariant-loop
-invariant-loop g l = (arc_value l.shared ≡ arc_value l.initial.shared) × (l.value ≡ l.initial.value)

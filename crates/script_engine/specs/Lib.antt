@@ -8,3 +8,4 @@ pub mod Ready
 pub mod Building
 pub mod Declaring
 pub mod Tables
+pub mod OverWorlds

@@ -207,3 +207,7 @@ pub record HasEnded (status : ℕ) (text text_left out out_after err err_after :
   pub reported : IsReported ending text text_left out out_after
   pub quiet : OnOk ending (Keeps err err_after)
   pub told : IfErr ending (λ error. AppendsBeginning err err_after (line_of (error_text error)))
+
+-- the report is made from what the reader still had, and to what the writer had
+abbrev pub IsReportedTo : {R O : Type 0} → (R → Option (List ℕ)) → (O → Option (List ℕ)) → Result Outcome ScriptError → R → R → O → O → Type 0
+IsReportedTo remaining contents ending reader left out after = IsReported ending (remaining reader) (remaining left) (contents out) (contents after)

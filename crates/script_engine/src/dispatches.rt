@@ -2,9 +2,7 @@
 ghost use Rattle.std.specs.Thread.{IsSync};
 ghost use Rattle.shred.specs.FullRuns.{whole_with};
 ghost use Rattle.shred.specs.KeptDispatchers.{dispatcher_of};
-ghost use Rattle.shred_world.specs.Worlds.{world_held};
-ghost use Rattle.script_text.specs.Value.{value_kind};
-ghost use Rattle.script_engine.specs.Runs.{AreDispatched, IsOnce};
+ghost use Rattle.script_engine.specs.OverWorlds.{IsOnceOver, AreDispatchedOver};
 
 use crate::batch::ScriptBatch;
 use crate::local::ScriptLocal;
@@ -34,7 +32,7 @@ pub(crate) trait Dispatches {
         world: &mut World<Value>,
     ) -> Result<(), DispatchError<Refusal>>
         requires sync { IsSync T.row }
-        ensures { IsOnce (program self.old (world_held value_kind world.old)) result (program self.new (world_held value_kind world.new)) };
+        ensures { IsOnceOver program self.old world.old result self.new world.new };
 }
 
 /// A dispatcher, and whether a stage's groups run beside each other.
@@ -82,7 +80,7 @@ pub(crate) fn dispatch_times<T: Threads + Sync, D: Dispatches>(
     world: &mut World<Value>,
     times: u32,
 ) -> Result<(), DispatchError<Refusal>>
-    ensures { AreDispatched times (D.program dispatched.old (world_held value_kind world.old)) result (D.program dispatched.new (world_held value_kind world.new)) }
+    ensures { AreDispatchedOver D.program times dispatched.old world.old result dispatched.new world.new }
 {
     for round in 0..times {
         if let Err(error) = dispatched.dispatch_once(rt, world) {

@@ -1,5 +1,5 @@
 //! From a script's bytes to its outcome's.
-ghost use Rattle.script_engine.specs.Runs.{HasEnded, IsReadFor, IsReported};
+ghost use Rattle.script_engine.specs.Runs.{HasEnded, IsReadFor, IsReportedTo};
 
 use crate::run_plan::{run_plan, run_plan_on_kept};
 use script_text::error::ScriptError;
@@ -59,7 +59,7 @@ fn run_script<T: Threads + Sync, R: Read, O: Write>(
     out: &mut O,
 ) -> Result<Outcome, ScriptError>
     ensures read { IsReadFor result (R.remaining reader.old) (R.remaining reader.new) }
-    ensures reported { IsReported result (R.remaining reader.old) (R.remaining reader.new) (O.contents out.old) (O.contents out.new) }
+    ensures reported { IsReportedTo R.remaining O.contents result reader.old reader.new out.old out.new }
 {
     let text = match read_text(alloc, reader) {
         Ok(text) => text,
@@ -79,7 +79,7 @@ fn run_script_on_kept<T: Threads + Wait + Clone + Drop + Send + Sync + 'static, 
     out: &mut O,
 ) -> Result<Outcome, ScriptError>
     ensures read { IsReadFor result (R.remaining reader.old) (R.remaining reader.new) }
-    ensures reported { IsReported result (R.remaining reader.old) (R.remaining reader.new) (O.contents out.old) (O.contents out.new) }
+    ensures reported { IsReportedTo R.remaining O.contents result reader.old reader.new out.old out.new }
 {
     let text = match read_text(alloc, reader) {
         Ok(text) => text,

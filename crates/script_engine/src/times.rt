@@ -1,8 +1,6 @@
 //! A script's plan is set up, and dispatched as often as asked: on threads that each stage starts, or on workers that are kept.
-ghost use Rattle.shred.specs.FullRuns.{whole_over};
-ghost use Rattle.shred_world.specs.Worlds.{world_held};
-ghost use Rattle.script_text.specs.Value.{value_kind};
-ghost use Rattle.script_engine.specs.Runs.{AreDispatched, AreSetUpAndDispatched, LeavesValues};
+ghost use Rattle.script_engine.specs.Runs.{AreDispatched, AreSetUpAndDispatched};
+ghost use Rattle.script_engine.specs.OverWorlds.{LeavesWorldBy, script_over};
 
 use crate::dispatches::{InMode, ScriptDispatcher, dispatch_times};
 use script_text::outcome::Refusal;
@@ -20,7 +18,7 @@ fn dispatch_each<T: Threads + Sync>(
     world: &mut World<Value>,
     manner: Manner,
 ) -> Result<(), DispatchError<Refusal>>
-    ensures { LeavesValues (AreDispatched manner.times (whole_over value_kind dispatcher world.old) result) (world_held value_kind world.new) }
+    ensures { LeavesWorldBy AreDispatched manner.times (script_over dispatcher world.old) result world.new }
 {
     let Manner { mode, times, .. } = manner;
     let mut dispatched = InMode { dispatcher, mode };
@@ -34,7 +32,7 @@ pub(crate) fn set_up_and_dispatch<T: Threads + Sync>(
     world: &mut World<Value>,
     manner: Manner,
 ) -> Result<(), DispatchError<Refusal>>
-    ensures { LeavesValues (AreSetUpAndDispatched manner.times (whole_over value_kind dispatcher world.old) result) (world_held value_kind world.new) }
+    ensures { LeavesWorldBy AreSetUpAndDispatched manner.times (script_over dispatcher world.old) result world.new }
 {
     match dispatcher.setup(world) {
         Ok(()) => dispatch_each(rt, dispatcher, world, manner),
@@ -51,7 +49,7 @@ fn dispatch_on_kept<T: Threads + Wait + Clone + Drop + Send + Sync + 'static>(
     world: &mut World<Value>,
     manner: Manner,
 ) -> Result<(), DispatchError<Refusal>>
-    ensures { LeavesValues (AreDispatched manner.times (whole_over value_kind dispatcher world.old) result) (world_held value_kind world.new) }
+    ensures { LeavesWorldBy AreDispatched manner.times (script_over dispatcher world.old) result world.new }
 {
     match dispatcher.keep(rt, alloc, DEFAULT_LOOKS) {
         Ok(mut kept) => dispatch_times(rt, &mut kept, world, manner.times),
@@ -70,7 +68,7 @@ pub(crate) fn set_up_and_dispatch_on_kept<T: Threads + Wait + Clone + Drop + Sen
     world: &mut World<Value>,
     manner: Manner,
 ) -> Result<(), DispatchError<Refusal>>
-    ensures { LeavesValues (AreSetUpAndDispatched manner.times (whole_over value_kind dispatcher world.old) result) (world_held value_kind world.new) }
+    ensures { LeavesWorldBy AreSetUpAndDispatched manner.times (script_over dispatcher world.old) result world.new }
 {
     if let Mode::Sequential = manner.mode {
         return set_up_and_dispatch(rt, dispatcher, world, manner);

@@ -1,3 +1,4 @@
 pub mod EntryPaths
 pub mod Interleavings
 pub mod OneEnd
+pub mod OverWorlds

@@ -1,11 +1,7 @@
 //! Dispatches, told by the orders in which their steps may come, and two of them side by side.
 ghost use Rattle.std.specs.Prelude.{◌≡◌};
-ghost use Rattle.shred_run.specs.Depths.{lists_of, steps_of};
-ghost use Rattle.shred_stage.specs.Situations.{dispatch_answer};
-ghost use Rattle.shred.specs.Dispatchers.{dispatcher_locals, dispatcher_over, dispatcher_workers};
-ghost use Rattle.shred.specs.FullRuns.{whole_over};
-ghost use Rattle.shred_orders.specs.Interleavings.{LeadsInterleaved};
-ghost use Rattle.shred_orders.specs.OneEnd.{EndAlike};
+ghost use Rattle.shred.specs.Dispatchers.{dispatcher_locals, dispatcher_workers};
+ghost use Rattle.shred_orders.specs.OverWorlds.{DispatchedInterleaved, DispatchedAlike};
 
 use shred::{BatchController, DispatchError, Dispatcher, ResourceValue, RunNow, System, World};
 use std::thread::Threads;
@@ -27,7 +23,7 @@ pub fn dispatch_interleaved<
 where
     S::Accessor: Send,
     C::Accessor: Send,
-    ensures interleaved { LeadsInterleaved V.kind_of (steps_of S.System C.BatchController) dispatch_answer (dispatcher_over V.kind_of dispatcher.old world.old) result (dispatcher_over V.kind_of dispatcher.new world.new) }
+    ensures interleaved { DispatchedInterleaved dispatcher.old world.old result dispatcher.new world.new }
     ensures locals { dispatcher_locals dispatcher.new ≡ dispatcher_locals dispatcher.old }
     ensures workers { dispatcher_workers dispatcher.new ≡ dispatcher_workers dispatcher.old }
 {
@@ -54,7 +50,7 @@ pub fn dispatch_alike<
 where
     S::Accessor: Send,
     C::Accessor: Send,
-    ensures { EndAlike V.kind_of (steps_of S.System C.BatchController) (lists_of S.System C.BatchController) L.runs (whole_over V.kind_of first.old world.old) (whole_over V.kind_of second.old other.old) result.0 result.1 (whole_over V.kind_of first.new world.new) (whole_over V.kind_of second.new other.new) }
+    ensures { DispatchedAlike L.runs first.old world.old second.old other.old result first.new world.new second.new other.new }
 {
     let one = first.dispatch(rt, world);
     let two = second.dispatch(rt, other);

@@ -4,9 +4,10 @@ use Rattle.std.specs.Cmp.Lexicographic.{slice_cmp}
 use Rattle.std.specs.HashMap.{HashMap, get_by_text}
 use Rattle.std.specs.Option.{option_map}
 use Rattle.std.specs.Ordering.{is_lt, nat_cmp}
+use Rattle.std.specs.Str.{bytes_eq}
 use Rattle.std.specs.String.{string_bytes}
 use Rattle.std.specs.declared.string.String.{String}
-use Rattle.shred_stage.specs.Known.{Known}
+use Rattle.shred_stage.specs.Known.{Known, with_name}
 use Rattle.shred_run.specs.declared.entry.SystemId.{SystemId}
 
 -- a name, by its bytes, and the number of the id that it stands for
@@ -43,3 +44,15 @@ least_name pairs id = least_of pairs id None
 abbrev pub first_unnamed : List NamedId → List ℕ → Option ℕ
 first_unnamed pairs [] = None
 first_unnamed pairs (id ∷ ids) = cond (is_some (least_name pairs id)) (first_unnamed pairs ids) (Some id)
+
+-- the answer is the first of these ids that no name of the map stands for
+abbrev pub IsFirstUnnamed : {Z T : Type 0} → HashMap (String Z) SystemId T → List ℕ → Option SystemId → Type 0
+IsFirstUnnamed names ids found = option_map (λ id. id.0) found ≡ first_unnamed (named_ids names) ids
+
+-- the map knows one more name, unless that is empty
+abbrev pub EntersName : {Z T : Type 0} → (old new : HashMap (String Z) SystemId T) → List ℕ → SystemId → Type 0
+EntersName old new name id = (q : List ℕ) → names_of new q ≡ with_name (names_of old) name id.0 q
+
+-- the map knows the name no more
+abbrev pub ForgetsName : {Z T : Type 0} → (old new : HashMap (String Z) SystemId T) → List ℕ → Type 0
+ForgetsName old new name = (q : List ℕ) → names_of new q ≡ cond (bytes_eq name q) None (names_of old q)

@@ -1,8 +1,15 @@
 -- The tests that the planner makes, as functions of plain data.
-use Rattle.std.specs.Prelude.{◌≡◌, ◌≢◌, ℕ, ◌≤◌, ◌-◌, ◌*◌, Bool, true, false, ◌||◌, ◌&&◌, not, ◌==◌, nat_lt, List, length, Option, Some, None, slice_get}
+use Rattle.std.specs.Prelude.{◌≡◌, ◌≢◌, All, ℕ, ◌≤◌, ◌-◌, ◌*◌, Bool, true, false, ◌||◌, ◌&&◌, not, ◌==◌, nat_lt, List, length, Option, Some, None, slice_get}
 use Rattle.shred_model.specs.Access.{Access, Conflicts}
 use Rattle.shred_model.specs.Plan.{PlanEntry, Group, Stage, Plan, group_access, group_time}
-use Rattle.shred_run.specs.Touching.{group_conflicts}
+use Rattle.std.specs.List.{list_any}
+use Rattle.shred_table.specs.Id.{same_id}
+use Rattle.shred_table.specs.declared.id.ResourceId.{ResourceId}
+use Rattle.shred_run.specs.Left.{difference}
+use Rattle.shred_run.specs.PlanOf.{entry_access, numbers_of}
+use Rattle.shred_run.specs.Touching.{group_conflicts, is_touched}
+use Rattle.shred_run.specs.declared.entry.GroupEntry.{GroupEntry}
+use Rattle.shred_run.specs.declared.entry.SystemId.{SystemId}
 use Rattle.shred_stage.specs.Placement.{greatest_time, dependencies_left, Admits, AdmitsNewGroup, AdmitsAtEndOf, NoneAdmits}
 use Rattle.shred_stage.specs.declared.dispatch.stage.Touched.{Touched}
 use Rattle.shred_stage.specs.declared.dispatch.stage.Touched.TheVariants.{Nothing, One, Several}
@@ -38,3 +45,19 @@ abbrev pub PlaceIs : {I : Type 0} → Plan I → ℕ → ℕ → List ℕ → Pl
 PlaceIs plan barrier start dependencies entry None = NoneAdmits plan barrier start dependencies entry (length plan)
 PlaceIs {I} plan barrier start dependencies entry (Some place) = (start ≤ place.0) × NoneAdmits plan barrier start dependencies entry place.0
     × (stage : Stage I) × (slice_get plan place.0 ≡ Some stage) × SpotIs (dependencies_left plan barrier dependencies place.0) entry stage (Some place.1)
+
+-- whether the entry has to come after a group, while these dependencies are left
+abbrev pub touched_by : {V X : Type 0} → List SystemId → GroupEntry V X → Group ResourceId → Bool
+touched_by left entry group = is_touched same_id (numbers_of left) (entry_access entry) group
+
+-- no group conflicts with the access
+abbrev pub NoneConflicts : {I : Type 0} → Stage I → Access I → Type 0
+NoneConflicts stage access = All (λ group. Conflicts (group_access group) access → ⊥) stage
+
+-- whether a group conflicts with the access
+abbrev pub conflicts_with : Stage ResourceId → Access ResourceId → Bool
+conflicts_with stage access = list_any (group_conflicts same_id access) stage
+
+-- for each of the ids one that equals it was taken out of the list
+abbrev pub TakesIds : List ℕ → (old new : List SystemId) → Type 0
+TakesIds ids old new = numbers_of new ≡ difference (numbers_of old) ids

@@ -1,11 +1,10 @@
 //! The names of a builder's systems: what each stands for, and whether one more may be entered.
-ghost use Rattle.std.specs.Prelude.{◌≡◌, List, ℕ, Option, None, Some, cond, is_some, IfErr, IfOk, OnOk, OnErr};
+ghost use Rattle.std.specs.Prelude.{◌≡◌, List, ℕ, Option, None, Some, is_some, IfErr, IfOk, OnOk, OnErr};
 ghost use Rattle.std.specs.Option.{option_map};
 ghost use Rattle.std.specs.HashMap.{IsUnique};
-ghost use Rattle.std.specs.Str.{bytes_eq};
 ghost use Rattle.std.specs.String.{string_eq};
-ghost use Rattle.shred_stage.specs.Known.{known_ids, texts_of, with_name, FirstUnknownIs, KnowsAll};
-ghost use Rattle.shred_stage.specs.Names.{names_of};
+ghost use Rattle.shred_stage.specs.Known.{known_ids, texts_of, FirstUnknownIs, KnowsAll};
+ghost use Rattle.shred_stage.specs.Names.{names_of, EntersName, ForgetsName};
 ghost use Rattle.shred_run.specs.PlanOf.{numbers_of};
 ghost use Rattle.shred_stage.specs.Refusals.{IsRefusal, MayAdd};
 
@@ -61,7 +60,7 @@ pub fn enter(
     name: &str,
     id: SystemId,
 ) -> Result<(), OutOfMemory>
-    ensures ok { OnOk result ((q : List ℕ) → names_of names.new q ≡ with_name (names_of names.old) name.now id.0 q) }
+    ensures ok { OnOk result (EntersName names.old names.new name.now id) }
     ensures err { OnErr result ((q : List ℕ) → names_of names.new q ≡ names_of names.old q) }
     ensures distinct { IsUnique string_eq names.old → IsUnique string_eq names.new }
 {
@@ -76,7 +75,7 @@ pub fn enter(
 /// Takes the name away.
 #[tactic(auto, using(crate::proofs::Names::Known::name_forgotten))]
 pub fn forget(names: &mut HashMap<String, SystemId>, name: &str)
-    ensures forgotten { (q : List ℕ) → names_of names.new q ≡ cond (bytes_eq name.now q) None (names_of names.old q) }
+    ensures forgotten { ForgetsName names.old names.new name.now }
     ensures distinct { IsUnique string_eq names.new }
 {
     let _ = names.remove(name);

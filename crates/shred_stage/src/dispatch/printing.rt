@@ -1,13 +1,11 @@
 //! The plan as a text.
 ghost use Rattle.std.specs.Prelude.{◌≡◌, ◌++◌, map, option_copied};
-ghost use Rattle.std.specs.List.{flat_map};
-ghost use Rattle.std.specs.Option.{option_map};
 ghost use Rattle.shred_model.specs.Plan.{plan_ids, stage_ids};
 ghost use Rattle.shred_stage.specs.BuilderPlan.{planned};
-ghost use Rattle.shred_stage.specs.Names.{first_unnamed, least_name, lesser, named_ids};
+ghost use Rattle.shred_stage.specs.Names.{first_unnamed, least_name, lesser, named_ids, IsFirstUnnamed};
 ghost use Rattle.shred_run.specs.PlanOf.{numbers_of};
 ghost use Rattle.shred_stage.specs.Printed.{cleaned, group_text, ids_text, plan_text, printed_name, stage_text, system_line};
-ghost use Rattle.shred_stage.specs.SinkTexts.{PutsPlan, PutsText};
+ghost use Rattle.shred_stage.specs.SinkTexts.{PutsPlan, PutsText, PutsEach, PutsNamed};
 ghost use Rattle.shred_stage.specs.StagePlan.{plan_of, stage_plan};
 
 use crate::dispatch::sink::{PlanSink, SinkFailed, put_all};
@@ -57,7 +55,7 @@ pub fn least_name<'name>(
 
 // The first of these ids that no name stands for.
 fn first_unnamed_of(ids: &[SystemId], names: &HashMap<String, SystemId>) -> Option<SystemId>
-    ensures { option_map (λ id. id.0) result ≡ first_unnamed (named_ids names.now) (numbers_of ids.now) }
+    ensures { IsFirstUnnamed names.now (numbers_of ids.now) result }
 {
     for id in ids {
         if least_name(names, *id).is_none() {
@@ -72,7 +70,7 @@ fn first_unnamed_in<V: ResourceValue, S: System<V>, C: BatchController<V>>(
     stage: &Stage<V, S, C>,
     names: &HashMap<String, SystemId>,
 ) -> Option<SystemId>
-    ensures { option_map (λ id. id.0) result ≡ first_unnamed (named_ids names.now) (stage_ids (stage_plan stage.now)) }
+    ensures { IsFirstUnnamed names.now (stage_ids (stage_plan stage.now)) result }
 {
     for place in 0..stage.max_threads() {
         if let Some(ids) = stage.group_ids(place) {
@@ -89,7 +87,7 @@ pub(crate) fn first_unnamed<V: ResourceValue, S: System<V>, C: BatchController<V
     stages: &Vec<Stage<V, S, C>>,
     names: &HashMap<String, SystemId>,
 ) -> Option<SystemId>
-    ensures { option_map (λ id. id.0) result ≡ first_unnamed (named_ids names.now) (plan_ids (plan_of stages.now.items)) }
+    ensures { IsFirstUnnamed names.now (plan_ids (plan_of stages.now.items)) result }
 {
     for place in 0..stages.len() {
         if let Some(id) = first_unnamed_in(&stages[place], names) {
@@ -152,7 +150,7 @@ fn put_ids<W: PlanSink>(
     names: &HashMap<String, SystemId>,
     ids: &[SystemId],
 ) -> Result<(), SinkFailed>
-    ensures { PutsText W.PlanSink sink.old sink.new (flat_map (system_line (named_ids names.now)) (numbers_of ids.now)) result }
+    ensures { PutsEach W.PlanSink names.now system_line (numbers_of ids.now) sink.old sink.new result }
 {
     for id in ids {
         if let Err(e) = put_system(sink, names, *id) {
@@ -167,7 +165,7 @@ fn put_group<W: PlanSink>(
     names: &HashMap<String, SystemId>,
     ids: &[SystemId],
 ) -> Result<(), SinkFailed>
-    ensures { PutsText W.PlanSink sink.old sink.new (ids_text (named_ids names.now) (numbers_of ids.now)) result }
+    ensures { PutsNamed W.PlanSink names.now ids_text (numbers_of ids.now) sink.old sink.new result }
 {
     if let Err(e) = put_all(sink, b"\t\tseq![\n") {
         return Err(e);
@@ -183,7 +181,7 @@ fn put_groups<W: PlanSink, V: ResourceValue, S: System<V>, C: BatchController<V>
     names: &HashMap<String, SystemId>,
     stage: &Stage<V, S, C>,
 ) -> Result<(), SinkFailed>
-    ensures { PutsText W.PlanSink sink.old sink.new (flat_map (group_text (named_ids names.now)) (stage_plan stage.now)) result }
+    ensures { PutsEach W.PlanSink names.now group_text (stage_plan stage.now) sink.old sink.new result }
 {
     for place in 0..stage.max_threads() {
         if let Some(ids) = stage.group_ids(place) {
@@ -200,7 +198,7 @@ fn put_stage<W: PlanSink, V: ResourceValue, S: System<V>, C: BatchController<V>>
     names: &HashMap<String, SystemId>,
     stage: &Stage<V, S, C>,
 ) -> Result<(), SinkFailed>
-    ensures { PutsText W.PlanSink sink.old sink.new (stage_text (named_ids names.now) (stage_plan stage.now)) result }
+    ensures { PutsNamed W.PlanSink names.now stage_text (stage_plan stage.now) sink.old sink.new result }
 {
     if let Err(e) = put_all(sink, b"\tpar![\n") {
         return Err(e);
@@ -216,7 +214,7 @@ fn put_stages<W: PlanSink, V: ResourceValue, S: System<V>, C: BatchController<V>
     names: &HashMap<String, SystemId>,
     stages: &Vec<Stage<V, S, C>>,
 ) -> Result<(), SinkFailed>
-    ensures { PutsText W.PlanSink sink.old sink.new (flat_map (stage_text (named_ids names.now)) (plan_of stages.now.items)) result }
+    ensures { PutsEach W.PlanSink names.now stage_text (plan_of stages.now.items) sink.old sink.new result }
 {
     for place in 0..stages.len() {
         if let Err(e) = put_stage(sink, names, &stages[place]) {
@@ -232,7 +230,7 @@ pub(crate) fn put_plan<W: PlanSink, V: ResourceValue, S: System<V>, C: BatchCont
     names: &HashMap<String, SystemId>,
     stages: &Vec<Stage<V, S, C>>,
 ) -> Result<(), SinkFailed>
-    ensures { PutsText W.PlanSink sink.old sink.new (plan_text (named_ids names.now) (plan_of stages.now.items)) result }
+    ensures { PutsNamed W.PlanSink names.now plan_text (plan_of stages.now.items) sink.old sink.new result }
 {
     if let Err(e) = put_all(sink, b"seq![\n") {
         return Err(e);

@@ -1,18 +1,14 @@
 //! A stage of a plan: groups that run beside each other.
 ghost use Rattle.std.proofs.Props.{props};
-ghost use Rattle.std.specs.Prelude.{◌≡◌, ◌↔◌, ◌<◌, ◌≤◌, length, All, IfOk, OnOk, OnErr, IsSome, IfSome, ◌++◌, ◌∷◌, [], slice_set, slice_index_or};
+ghost use Rattle.std.specs.Prelude.{◌≡◌, ◌↔◌, ◌<◌, ◌≤◌, length, All, IfOk, OnOk, OnErr, IsSome, IfSome, ◌++◌, ◌∷◌, []};
 ghost use Rattle.shred_model.specs.Plan.{group_access, group_ids, stage_ids};
-ghost use Rattle.shred_model.specs.Access.{Conflicts};
 ghost use Rattle.shred_model.specs.Beside.{AreApart};
-ghost use Rattle.shred_table.specs.Id.{same_id};
 ghost use Rattle.shred_stage.specs.Placement.{greatest_time};
 ghost use Rattle.shred_run.specs.Circles.{EntryOwns, StageOwns, TierOwns};
-ghost use Rattle.shred_run.specs.Left.{difference};
 ghost use Rattle.shred_run.specs.Hands.{KeepsRoom};
 ghost use Rattle.shred_run.specs.PlanOf.{entry_access, entry_plan, groups_plan, numbers_of, HasEntryIds};
-ghost use Rattle.shred_stage.specs.Search.{may_end, OthersDoNotConflict, SpotIs, TouchedIs};
-ghost use Rattle.shred_run.specs.Touching.{group_conflicts, is_touched};
-ghost use Rattle.std.specs.List.{list_any};
+ghost use Rattle.shred_stage.specs.Search.{OthersDoNotConflict, SpotIs, TouchedIs, touched_by, NoneConflicts, conflicts_with, TakesIds};
+ghost use Rattle.shred_run.specs.Touching.{is_touched};
 ghost use Rattle.shred_run.specs.Sides.{stage_side};
 ghost use Rattle.shred_stage.specs.Soundness.{IsSmallGroup};
 ghost use Rattle.shred_run.specs.Depths.{lists_of};
@@ -70,7 +66,7 @@ impl<V: ResourceValue, S: System<V>, C: BatchController<V>> Stage<V, S, C> {
     ghost use Rattle.shred_stage.specs.Added.{nothing_at, AreSame, IsNew};
     ghost use Rattle.shred_stage.specs.EntriesAt.{stage_entry_at};
     ghost use Rattle.shred_stage.specs.Plans.{stage_states};
-    ghost use Rattle.shred_stage.specs.StagePlan.{stage_plan};
+    ghost use Rattle.shred_stage.specs.StagePlan.{group_of, may_end_in, stage_plan, PushesEntry, PushesGroup};
 
     /// A stage with this entry alone.
     pub(crate) fn new(
@@ -101,7 +97,7 @@ impl<V: ResourceValue, S: System<V>, C: BatchController<V>> Stage<V, S, C> {
     /// The ids of a group's systems, in order, if the stage has this group.
     pub fn group_ids(&self, group: usize) -> Option<&[SystemId]>
         ensures some { IsSome result ↔ (group < length (stage_plan self.now)) }
-        ensures ids { IfSome result (λ ids. numbers_of ids.now ≡ group_ids (slice_index_or (stage_plan self.now) group [])) }
+        ensures ids { IfSome result (λ ids. numbers_of ids.now ≡ group_ids (group_of self.now group)) }
     {
         if group < self.groups.len() {
             Some(self.groups[group].ids.as_slice())
@@ -129,7 +125,7 @@ impl<V: ResourceValue, S: System<V>, C: BatchController<V>> Stage<V, S, C> {
 
     /// Whether a group of the stage conflicts with the entry.
     pub(crate) fn conflicts(&self, entry: &GroupEntry<V, Work<S, Nested<V, S, C>>>) -> bool
-        ensures { result ≡ list_any (group_conflicts same_id (entry_access entry.now)) (stage_plan self.now) }
+        ensures { result ≡ conflicts_with (stage_plan self.now) (entry_access entry.now) }
     {
         self.groups.iter().any(|group| group.conflicts(entry))
     }
@@ -137,7 +133,7 @@ impl<V: ResourceValue, S: System<V>, C: BatchController<V>> Stage<V, S, C> {
     /// Which groups the entry has to come after.
     #[tactic(auto, using(crate::proofs::Planner::Earlier::touched_all))]
     fn touched(&self, left: &[SystemId], entry: &GroupEntry<V, Work<S, Nested<V, S, C>>>) -> Touched
-        ensures { TouchedIs (is_touched same_id (numbers_of left.now) (entry_access entry.now)) (stage_plan self.now) result }
+        ensures { TouchedIs (touched_by left.now entry.now) (stage_plan self.now) result }
     {
         let mut touched = Touched::Nothing;
         for (place, group) in self.groups.iter().enumerate() {
@@ -159,7 +155,7 @@ impl<V: ResourceValue, S: System<V>, C: BatchController<V>> Stage<V, S, C> {
         group: usize,
     ) -> bool
         requires { group < length (stage_plan self.now) }
-        ensures { result ≡ may_end same_id (numbers_of left.now) (entry_plan entry.now) (stage_plan self.now) (slice_index_or (stage_plan self.now) group []) }
+        ensures { result ≡ may_end_in self.now group (numbers_of left.now) (entry_plan entry.now) }
     {
         let group = &self.groups[group];
         group.entries.len() < 4
@@ -181,7 +177,7 @@ impl<V: ResourceValue, S: System<V>, C: BatchController<V>> Stage<V, S, C> {
 
     /// Takes out of the list, for each id of the stage, one that equals it.
     pub(crate) fn take_ids(&self, left: &mut SmallVec<SystemId, 4>)
-        ensures { numbers_of left.new.items ≡ difference (numbers_of left.old.items) (stage_ids (stage_plan self.now)) }
+        ensures { TakesIds (stage_ids (stage_plan self.now)) left.old.items left.new.items }
     {
         for group in &self.groups {
             if left.is_empty() {
@@ -210,9 +206,9 @@ impl<V: ResourceValue, S: System<V>, C: BatchController<V>> Stage<V, S, C> {
         V: Drop,
         S: Drop,
         C: Drop,
-        requires free { All (λ group. Conflicts (group_access group) (entry_access entry) → ⊥) (stage_plan self.old) }
+        requires free { NoneConflicts (stage_plan self.old) (entry_access entry) }
         requires own_lists { EntryOwns S.System C.BatchController entry }
-        ensures ok { OnOk result (stage_plan self.new ≡ stage_plan self.old ++ (entry_plan entry ∷ []) ∷ []) }
+        ensures ok { OnOk result (PushesGroup self.old self.new (entry_plan entry)) }
         ensures err { OnErr result (stage_plan self.new ≡ stage_plan self.old) }
         ensures added { OnOk result (IsNew (stage_entry_at self.old) (stage_entry_at self.new) entry) }
         ensures unchanged { OnErr result (AreSame (stage_entry_at self.old) (stage_entry_at self.new)) }
@@ -234,10 +230,10 @@ impl<V: ResourceValue, S: System<V>, C: BatchController<V>> Stage<V, S, C> {
         S: Drop,
         C: Drop,
         requires within { group < length (stage_plan self.old) }
-        requires room { length (slice_index_or (stage_plan self.old) group []) < 4 }
+        requires room { length (group_of self.old group) < 4 }
         requires others { OthersDoNotConflict (stage_plan self.old) group (entry_access entry) }
         requires own_lists { EntryOwns S.System C.BatchController entry }
-        ensures ok { OnOk result (stage_plan self.new ≡ slice_set (stage_plan self.old) group (slice_index_or (stage_plan self.old) group [] ++ entry_plan entry ∷ [])) }
+        ensures ok { OnOk result (PushesEntry self.old self.new group (entry_plan entry)) }
         ensures err { OnErr result (stage_plan self.new ≡ stage_plan self.old) }
         ensures added { OnOk result (IsNew (stage_entry_at self.old) (stage_entry_at self.new) entry) }
         ensures unchanged { OnErr result (AreSame (stage_entry_at self.old) (stage_entry_at self.new)) }
@@ -363,7 +359,6 @@ impl<
     C: BatchController<V, Error = E> + Drop,
     E: Drop,
 > Stage<V, S, C> {
-    ghost use Rattle.shred_stage.specs.Situations.{stage_over};
     ghost use Rattle.shred_stage.specs.StagePlan.{stage_plan};
     ghost use Rattle.shred_stage.specs.OverWorlds.{StageSetUp, StageDisposed};
 

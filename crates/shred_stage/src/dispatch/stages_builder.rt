@@ -1,5 +1,5 @@
 //! The planner: it gives each new system a place in the plan.
-ghost use Rattle.std.specs.Prelude.{◌≡◌, ◌↔◌, ◌<◌, ◌≤◌, length, [], ◌∷◌, ◌++◌, AllPairs, IfOk, OnOk, OnErr};
+ghost use Rattle.std.specs.Prelude.{◌≡◌, ◌<◌, ◌≤◌, length, [], ◌++◌, AllPairs, IfOk, OnOk, OnErr};
 ghost use Rattle.std.specs.List.{flat_map};
 ghost use Rattle.shred_table.specs.Id.{IsBefore};
 ghost use Rattle.shred_table.specs.declared.id.ResourceId.{ResourceId};
@@ -7,16 +7,13 @@ ghost use Rattle.shred_model.specs.Plan as model;
 ghost use Rattle.shred_model.specs.Plan.{plan_ids};
 ghost use Rattle.shred_stage.specs.Earlier.{AllBeforeBarrier};
 ghost use Rattle.shred_run.specs.Circles.{EntryOwns};
-ghost use Rattle.shred_run.specs.Kept.{IsKept, HaveSameIds};
-ghost use Rattle.shred_stage.specs.Names.{first_unnamed, named_ids};
-ghost use Rattle.shred_stage.specs.SearchStart.{IsOrderedStart, IsSearchStart};
+ghost use Rattle.shred_run.specs.Kept.{HaveSameIds};
+ghost use Rattle.shred_stage.specs.SearchStart.{IsOrderedStart};
 ghost use Rattle.shred_stage.specs.declared.dispatch.rule.Rule.TheVariants.{First};
-ghost use Rattle.shred_stage.specs.Printed.{plan_text};
-ghost use Rattle.shred_stage.specs.Prints.{PrintsPlan};
 ghost use Rattle.shred_run.specs.PlanOf.{entry_access, entry_plan, numbers_of};
-ghost use Rattle.shred_stage.specs.Search.{PlaceIs};
 ghost use Rattle.shred_run.specs.Sides.{stage_side, plan_reads, plan_writes};
 ghost use Rattle.shred_stage.specs.StagePlan.{plan_of};
+ghost use Rattle.shred_stage.specs.SinkTexts.{PrintsNamed};
 
 use crate::dispatch::printing::{PrintError, print};
 use crate::dispatch::rule::Rule;
@@ -48,7 +45,7 @@ pub struct StagesBuilder<
 impl<V: ResourceValue, S: System<V>, C: BatchController<V>> StagesBuilder<V, S, C> {
     ghost use Rattle.shred_model.specs.Record.{Agent};
     ghost use Rattle.shred_stage.specs.Added.{AreSame, IsNew};
-    ghost use Rattle.shred_stage.specs.BuilderPlan.{planned, barrier_of, rule_of, builder_states, PlacesEntry};
+    ghost use Rattle.shred_stage.specs.BuilderPlan.{planned, barrier_of, rule_of, builder_states, IsPlaceFrom, IsStartOf, PlacesEntry, PushesStage};
     ghost use Rattle.shred_stage.specs.EntriesAt.{builder_entries};
     ghost use Rattle.shred_stage.specs.Plans.{plan_states};
 
@@ -150,8 +147,7 @@ impl<V: ResourceValue, S: System<V>, C: BatchController<V>> StagesBuilder<V, S, 
         sink: &mut W,
         names: &HashMap<String, SystemId>,
     ) -> Result<(), PrintError>
-        ensures { let pairs = named_ids names.now in
-            PrintsPlan W.told W.failures sink.old sink.new (first_unnamed pairs (plan_ids (planned self.now))) (plan_text pairs (planned self.now)) result }
+        ensures { PrintsNamed W.PlanSink names.now (planned self.now) sink.old sink.new result }
     {
         print(sink, names, &self.stages, b"")
     }
@@ -194,7 +190,7 @@ impl<V: ResourceValue, S: System<V>, C: BatchController<V>> StagesBuilder<V, S, 
         C: Drop,
         requires start { barrier_of self.old ≤ start }
         requires own_lists { EntryOwns S.System C.BatchController entry }
-        ensures placed { OnOk result (PlacesEntry self.old self.new start (numbers_of dependencies.now) (entry_plan entry)) }
+        ensures placed { OnOk result (PlacesEntry self.old self.new start dependencies.now entry) }
         ensures err { OnErr result (planned self.new ≡ planned self.old) }
         ensures added { OnOk result (IsNew (builder_entries self.old) (builder_entries self.new) entry) }
         ensures unchanged { OnErr result (AreSame (builder_entries self.old) (builder_entries self.new)) }
@@ -220,7 +216,7 @@ impl<V: ResourceValue, S: System<V>, C: BatchController<V>> StagesBuilder<V, S, 
         S: Drop,
         C: Drop,
         requires own_lists { EntryOwns S.System C.BatchController entry }
-        ensures ok { OnOk result (planned self.new ≡ planned self.old ++ ((entry_plan entry ∷ []) ∷ []) ∷ []) }
+        ensures ok { OnOk result (PushesStage self.old self.new (entry_plan entry)) }
         ensures err { OnErr result (planned self.new ≡ planned self.old) }
         ensures added { OnOk result (IsNew (builder_entries self.old) (builder_entries self.new) entry) }
         ensures unchanged { OnErr result (AreSame (builder_entries self.old) (builder_entries self.new)) }
@@ -236,7 +232,7 @@ impl<V: ResourceValue, S: System<V>, C: BatchController<V>> StagesBuilder<V, S, 
 
     /// Where the search for a stage that takes the entry begins.
     fn search_start(&self, entry: &GroupEntry<V, Work<S, Nested<V, S, C>>>) -> usize
-        ensures { IsSearchStart (rule_of self.now) (planned self.now) (barrier_of self.now) (entry_access entry.now) result }
+        ensures { IsStartOf self.now (entry_access entry.now) result }
     {
         match self.rule {
             Rule::First => self.barrier,
@@ -265,7 +261,7 @@ impl<V: ResourceValue, S: System<V>, C: BatchController<V>> StagesBuilder<V, S, 
         entry: &GroupEntry<V, Work<S, Nested<V, S, C>>>,
     ) -> Option<(usize, Spot)>
         requires { barrier_of self.now ≤ start }
-        ensures { PlaceIs (planned self.now) (barrier_of self.now) start (numbers_of left.items) (entry_plan entry.now) result }
+        ensures { IsPlaceFrom self.now start (numbers_of left.items) (entry_plan entry.now) result }
     {
         for place in self.barrier..self.stages.len() {
             let stage = &self.stages[place];
@@ -286,9 +282,7 @@ impl<V: ResourceValue + Drop, S: System<V> + Drop, C: BatchController<V> + Drop>
     C,
 > {
     ghost use Rattle.shred_stage.specs.Added.{AreSame};
-    ghost use Rattle.shred_run.specs.declared.work.Work.TheVariants.{System as ASystem};
-    ghost use Rattle.shred_stage.specs.BuilderPlan.{planned, barrier_of, rule_of, builder_states, InsertsEntry};
-    ghost use Rattle.shred_stage.specs.Inserted.{IsInserted};
+    ghost use Rattle.shred_stage.specs.BuilderPlan.{planned, barrier_of, rule_of, builder_states, InsertsEntry, InsertsSystem};
     ghost use Rattle.shred_model.specs.Record.{Agent};
 
     /// `insert`, of what is kept of a system or of a batch. It is there for `DispatcherBuilder`.
@@ -298,7 +292,7 @@ impl<V: ResourceValue + Drop, S: System<V> + Drop, C: BatchController<V> + Drop>
         entry: GroupEntry<V, Work<S, Nested<V, S, C>>>,
     ) -> Result<(), OutOfMemory>
         requires own_lists { EntryOwns S.System C.BatchController entry }
-        ensures inserted { OnOk result (InsertsEntry self.old self.new (numbers_of dependencies.now) (entry_plan entry) entry.work) }
+        ensures inserted { OnOk result (InsertsEntry self.old self.new dependencies.now entry) }
         ensures err { OnErr result (planned self.new ≡ planned self.old) }
         ensures states { OnErr result (AreSame (builder_states self.old) (builder_states self.new)) }
         ensures barrier { barrier_of self.new ≡ barrier_of self.old }
@@ -317,8 +311,7 @@ impl<V: ResourceValue + Drop, S: System<V> + Drop, C: BatchController<V> + Drop>
         id: SystemId,
         system: S,
     ) -> Result<(), OutOfMemory>
-        ensures placed { OnOk result ((entry : model.PlanEntry ResourceId) × IsKept id.0 (S.reads system) (S.writes system) (S.time system) entry
-            × IsInserted (rule_of self.old) (planned self.old) (planned self.new) (builder_states self.old) (builder_states self.new) (barrier_of self.old) (numbers_of dependencies.now) entry (ASystem system)) }
+        ensures placed { OnOk result (InsertsSystem self.old self.new dependencies.now id system) }
         ensures err { OnErr result (planned self.new ≡ planned self.old) }
         ensures states { OnErr result (AreSame (builder_states self.old) (builder_states self.new)) }
         ensures barrier { barrier_of self.new ≡ barrier_of self.old }

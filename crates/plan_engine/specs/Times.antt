@@ -35,4 +35,4 @@ pub record AreTimesOf (plan : Plan) (times : PlanTimes) : Type 0 where
   pub stages : AllZip (AreStageTimes plan.entries.items) plan.stages.items times.stages.items
   pub path : times.path.items ≡ longest_lanes times.stages.items
   pub path_time : times.path_time ≡ lane_time plan.entries.items times.path.items
-  pub whole_time : times.whole_time ≡ lane_time plan.entries.items (order_of plan)
+  pub sum_time : times.sum_time ≡ lane_time plan.entries.items (order_of plan)

@@ -49,7 +49,7 @@ stage_lines plan place (stage ∷ stages) = stage_line plan place stage ++ stage
 
 -- the time of the path, that of all entries, and the names on the path
 abbrev pub path_line : Plan → PlanTimes → List ℕ
-path_line plan times = codes "path " ++ (decimal times.path_time ++ (codes " of " ++ (decimal times.whole_time ++ names_line plan times.path.items)))
+path_line plan times = codes "path " ++ (decimal times.path_time ++ (codes " of " ++ (decimal times.sum_time ++ names_line plan times.path.items)))
 
 -- a number of hundredths, as a decimal
 abbrev pub hundredths_text : ℕ → List ℕ
@@ -65,4 +65,4 @@ bound_line path whole = cond (path == 0) [] (quotient_line path whole)
 
 -- what is told of a plan
 abbrev pub times_lines : Plan → PlanTimes → List ℕ
-times_lines plan times = title_line plan.batch ++ (stage_lines plan 0 times.stages.items ++ (path_line plan times ++ bound_line times.path_time times.whole_time))
+times_lines plan times = title_line plan.batch ++ (stage_lines plan 0 times.stages.items ++ (path_line plan times ++ bound_line times.path_time times.sum_time))

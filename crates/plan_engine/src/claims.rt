@@ -30,7 +30,7 @@ pub(crate) fn claims_of(alloc: Global, lines: &[PlanLine<'_>]) -> Result<Vec<Cla
     Ok(claims)
 }
 
-/// PutsBehind what the line at this place declares behind the claims, where it is that of a system.
+/// Puts what the line at this place declares behind the claims, where it is that of a system.
 fn add_line(
     alloc: Global,
     claims: &mut Vec<Claim>,
@@ -45,7 +45,7 @@ fn add_line(
     }
 }
 
-/// PutsBehind what the system of the line at this place declares behind the claims.
+/// Puts what the system of the line at this place declares behind the claims.
 fn add_system(
     alloc: Global,
     claims: &mut Vec<Claim>,
@@ -58,7 +58,7 @@ fn add_system(
     add_each(claims, place, system.line, resources.as_slice())
 }
 
-/// PutsBehind these resources, which the system of the line at this place declares, behind the claims.
+/// Puts these resources, which the system of the line at this place declares, behind the claims.
 fn add_each(
     claims: &mut Vec<Claim>,
     place: usize,

@@ -179,7 +179,7 @@ impl LineTaker for Level {
     }
 }
 
-/// PutsBehind the id behind these, if there is one.
+/// Puts the id behind these, if there is one.
 fn push_known(ids: &mut Vec<usize>, id: Option<SystemId>) -> Result<(), AllocError>
     ensures { OnOk result (ids.new.items ≡ ids.old.items ++ numbers_in id) }
 {

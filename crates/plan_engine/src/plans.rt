@@ -182,7 +182,7 @@ impl Plan {
     }
 }
 
-/// PutsBehind the ids of the groups of a stage behind those that are there.
+/// Puts the ids of the groups of a stage behind those that are there.
 fn append_stage(ids: &mut Vec<usize>, groups: &[Vec<usize>]) -> Result<(), AllocError>
     ensures { OnOk result (ids.new.items ≡ ids.old.items ++ stage_order groups.now) }
 {

@@ -27,7 +27,7 @@ pub(crate) fn report(
     Ok(text)
 }
 
-/// PutsBehind the lines of the plan at this place behind the text.
+/// Puts the lines of the plan at this place behind the text.
 fn write_plan(
     alloc: Global,
     text: &mut String,

@@ -9,7 +9,7 @@ use crate::lanes::first_greatest;
 use std::alloc::{AllocError, Global};
 use std::fmt::Write;
 
-/// PutsBehind the line of the attempt behind the text that shortens the path of the plan at this place most, of several the first; or
+/// Puts the line of the attempt behind the text that shortens the path of the plan at this place most, of several the first; or
 /// the line that none does.
 pub(crate) fn write_shorter(
     alloc: Global,
@@ -52,7 +52,7 @@ fn gain_of(attempt: &Attempt, plan: usize, path: usize) -> usize
     }
 }
 
-/// PutsBehind the line of the attempt at this place behind the text, or the line that none shortens the path.
+/// Puts the line of the attempt at this place behind the text, or the line that none shortens the path.
 fn write_best(
     text: &mut String,
     resources: &[&str],
@@ -72,7 +72,7 @@ fn write_best(
     }
 }
 
-/// PutsBehind the line of a path that is so much shorter without this declaration behind the text, or the line that none is.
+/// Puts the line of a path that is so much shorter without this declaration behind the text, or the line that none is.
 fn write_gain(
     text: &mut String,
     resources: &[&str],
@@ -91,7 +91,7 @@ fn write_gain(
     writeln!(text, "path {time} without {resource} in line {line}")
 }
 
-/// PutsBehind the line behind the text that says that no path is shorter.
+/// Puts the line behind the text that says that no path is shorter.
 fn write_none(text: &mut String) -> Result<(), AllocError>
     ensures { OnOk result (PutsBehind text.old text.new none_line) }
 {

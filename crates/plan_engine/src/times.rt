@@ -26,7 +26,7 @@ pub struct PlanTimes {
     pub path: Vec<usize>,
     pub path_time: usize,
     /// The time of all entries, one after the other.
-    pub whole_time: usize,
+    pub sum_time: usize,
 }
 
 /// What the plan takes.
@@ -38,12 +38,12 @@ pub(crate) fn times_of(alloc: Global, plan: &Plan) -> Result<PlanTimes, AllocErr
     let path = path_of(alloc, stages.as_slice())?;
     let path_time = lane_time(entries, path.as_slice())?;
     let order = plan.order(alloc)?;
-    let whole_time = lane_time(entries, order.as_slice())?;
+    let sum_time = lane_time(entries, order.as_slice())?;
     Ok(PlanTimes {
         stages,
         path,
         path_time,
-        whole_time,
+        sum_time,
     })
 }
 

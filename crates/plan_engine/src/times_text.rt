@@ -8,7 +8,7 @@ use std::alloc::AllocError;
 use std::fmt;
 use std::fmt::Write;
 
-/// PutsBehind the lines of what the plan takes behind the text.
+/// Puts the lines of what the plan takes behind the text.
 pub(crate) fn write_times(
     text: &mut String,
     plan: &Plan,
@@ -19,10 +19,10 @@ pub(crate) fn write_times(
     write_title(text, plan)?;
     write_stages(text, plan, times.stages.as_slice())?;
     write_path(text, plan, times)?;
-    write_bound(text, times.path_time, times.whole_time)
+    write_bound(text, times.path_time, times.sum_time)
 }
 
-/// PutsBehind the line behind the text that tells whose plan it is.
+/// Puts the line behind the text that tells whose plan it is.
 fn write_title(text: &mut String, plan: &Plan) -> Result<(), AllocError>
     ensures { OnOk result (PutsBehind text.old text.new (title_line plan.now.batch)) }
 {
@@ -32,7 +32,7 @@ fn write_title(text: &mut String, plan: &Plan) -> Result<(), AllocError>
     }
 }
 
-/// PutsBehind the lines of these stages behind the text.
+/// Puts the lines of these stages behind the text.
 fn write_stages(text: &mut String, plan: &Plan, stages: &[StageTimes]) -> Result<(), AllocError>
     ensures { OnOk result (PutsBehind text.old text.new (stage_lines plan.now 0 stages.now)) }
 {
@@ -42,7 +42,7 @@ fn write_stages(text: &mut String, plan: &Plan, stages: &[StageTimes]) -> Result
     Ok(())
 }
 
-/// PutsBehind the line of the stage at this place behind the text.
+/// Puts the line of the stage at this place behind the text.
 fn write_stage(
     text: &mut String,
     plan: &Plan,
@@ -59,15 +59,15 @@ fn write_stage(
     write_names(text, plan, stage.longest.as_slice())
 }
 
-/// PutsBehind the line of the path behind the text.
+/// Puts the line of the path behind the text.
 fn write_path(text: &mut String, plan: &Plan, times: &PlanTimes) -> Result<(), AllocError>
     ensures { OnOk result (PutsBehind text.old text.new (path_line plan.now times.now)) }
 {
-    write!(text, "path {} of {}", times.path_time, times.whole_time)?;
+    write!(text, "path {} of {}", times.path_time, times.sum_time)?;
     write_names(text, plan, times.path.as_slice())
 }
 
-/// PutsBehind the names of these entries and the end of the line behind the text.
+/// Puts the names of these entries and the end of the line behind the text.
 fn write_names(text: &mut String, plan: &Plan, ids: &[usize]) -> Result<(), AllocError>
     ensures { OnOk result (PutsBehind text.old text.new (names_line plan.now ids.now)) }
 {
@@ -77,7 +77,7 @@ fn write_names(text: &mut String, plan: &Plan, ids: &[usize]) -> Result<(), Allo
     writeln!(text)
 }
 
-/// PutsBehind the name of an entry behind the text, with what stands before the name at this place.
+/// Puts the name of an entry behind the text, with what stands before the name at this place.
 fn write_name(text: &mut String, plan: &Plan, place: usize, id: usize) -> Result<(), AllocError>
     ensures { OnOk result (PutsBehind text.old text.new (marked_name plan.now place id)) }
 {
@@ -88,7 +88,7 @@ fn write_name(text: &mut String, plan: &Plan, place: usize, id: usize) -> Result
     }
 }
 
-/// PutsBehind the line of the bound on the speed-up behind the text, where the path takes time.
+/// Puts the line of the bound on the speed-up behind the text, where the path takes time.
 fn write_bound(text: &mut String, path: usize, whole: usize) -> Result<(), AllocError>
     ensures { OnOk result (PutsBehind text.old text.new (bound_line path whole)) }
 {
@@ -99,7 +99,7 @@ fn write_bound(text: &mut String, path: usize, whole: usize) -> Result<(), Alloc
     }
 }
 
-/// PutsBehind the line behind the text that has the whole time over that of the path, and this in decimals, rounded down.
+/// Puts the line behind the text that has the whole time over that of the path, and this in decimals, rounded down.
 fn write_quotient(text: &mut String, path: usize, whole: usize) -> Result<(), AllocError>
     requires { path ≢ 0 }
     ensures { OnOk result (PutsBehind text.old text.new (quotient_line path whole)) }

@@ -38,7 +38,7 @@ impl Touched {
     }
 }
 
-/// PutsBehind those of the places at the end of the list that it lacks, each once.
+/// Puts those of the places at the end of the list that it lacks, each once.
 pub(crate) fn add_places(places: &mut Vec<usize>, more: &[usize]) -> Result<(), AllocError>
     ensures { OnOk result (places.new.items ≡ with_places places.old.items more.now) }
 {
@@ -48,7 +48,7 @@ pub(crate) fn add_places(places: &mut Vec<usize>, more: &[usize]) -> Result<(), 
     Ok(())
 }
 
-/// PutsBehind the place at the end of the list, where the list lacks it.
+/// Puts the place at the end of the list, where the list lacks it.
 fn add_place(places: &mut Vec<usize>, place: usize) -> Result<(), AllocError>
     ensures { OnOk result (places.new.items ≡ with_place places.old.items (Some place)) }
 {

@@ -102,7 +102,7 @@ fn declares_without(
     Ok(declares)
 }
 
-/// PutsBehind steps that declare what this one does, but not this resource, behind the others.
+/// Puts steps that declare what this one does, but not this resource, behind the others.
 fn add_declares(
     declares: &mut Vec<Step>,
     step: Step,
@@ -114,7 +114,7 @@ fn add_declares(
     add_read(declares, kept(left_out, step.read_place()))
 }
 
-/// PutsBehind a step that declares to write the resource at this place, if there is one, behind the others.
+/// Puts a step that declares to write the resource at this place, if there is one, behind the others.
 fn add_write(declares: &mut Vec<Step>, place: Option<usize>) -> Result<(), AllocError>
     ensures { OnOk result (declares.new.items ≡ declares.old.items ++ write_steps place) }
 {
@@ -124,7 +124,7 @@ fn add_write(declares: &mut Vec<Step>, place: Option<usize>) -> Result<(), Alloc
     Ok(())
 }
 
-/// PutsBehind a step that declares to read the resource at this place, if there is one, behind the others.
+/// Puts a step that declares to read the resource at this place, if there is one, behind the others.
 fn add_read(declares: &mut Vec<Step>, place: Option<usize>) -> Result<(), AllocError>
     ensures { OnOk result (declares.new.items ≡ declares.old.items ++ read_steps place) }
 {

@@ -52,15 +52,13 @@ struct Scores {
     last: u32,
 }
 
-impl TypedSystem<Value> for Scores {
-    type Data = Uses<Position, Score, Stopped>;
-
-    fn run(&mut self, view: &View<Value>, score: &mut Score) -> Ran<Stopped> {
+impl TryReadsWrites<Position, Score, Stopped> for Scores {
+    fn run(&mut self, position: &Position, score: &mut Score) -> Result<(), Stopped> {
         self.frame = self.frame.wrapping_add(1);
         if self.frame >= self.last {
-            return Err(Fault::Refused(Stopped::Over(self.frame)));
+            return Err(Stopped::Over(self.frame));
         }
-        if view.fetch::<Position>()?.0 >= 5 {
+        if position.0 >= 5 {
             score.0 = score.0.wrapping_add(1);
         }
         Ok(())
@@ -71,12 +69,9 @@ impl TypedSystem<Value> for Scores {
 #[derive(Drop)]
 struct Prints<R>(R);
 
-impl<R: Print> TypedSystem<Value> for Prints<R> {
-    type Data = Uses<Score, (), Stopped>;
-
-    fn run(&mut self, view: &View<Value>, _written: &mut ()) -> Ran<Stopped> {
-        let score = view.fetch::<Score>()?.0;
-        println!(self.0; "score {score}").map_err(|_| Fault::Refused(Stopped::Closed))
+impl<R: Print> TryReadsWrites<Score, (), Stopped> for Prints<R> {
+    fn run(&mut self, score: &Score, _none: &mut ()) -> Result<(), Stopped> {
+        println!(self.0; "score {}", score.0).map_err(|_| Stopped::Closed)
     }
 }
 
@@ -88,8 +83,9 @@ fn main(rt: HostRuntime) -> anyhow::Result<()> {
         .with(moves, "moves", &[])?
         .with(bounces, "bounces", &[])?;
     let scores = Scores { frame: 0, last: 7 };
-    let frame: DispatcherBuilder<_, Systems3<_, _, _>, _, _> = DispatcherBuilder::new(rt.alloc())
-        .with_rule(Rule::Ordered)?
+    let frame: DispatcherBuilder<Value, Systems3<_, _, _>, _, _> = DispatcherBuilder::new(
+        rt.alloc(),
+    ).with_rule(Rule::Ordered)?
         .with_batch(Rounds::new(4), steps, "sub-steps", &[])?
         .with(third_system(scores.into_system()), "scores", &[])?
         .with_thread_local(Now(Prints(&rt).into_system()))?;

@@ -3,17 +3,39 @@ use Rattle.std.proofs.Common.{◌≡◌, Bool, true, false, ◌||◌, Option, So
 use Rattle.std.specs.Prelude.{is_some, nat_eq}
 use Rattle.shred_table.specs.declared.id.Kind.{Kind}
 use Rattle.shred_table.specs.declared.id.ResourceId.{ResourceId}
-use Rattle.shred_table.specs.Id.{id_of, same_id}
+use Rattle.shred_table.specs.Id.{same_id}
 use Rattle.shred_table.specs.Slots.{among, with_at}
 use Rattle.shred_table.proofs.Tables.Slots.{same_id-refl}
+use Rattle.shred_world.specs.declared.world.view.DataError.{DataError}
 use Rattle.shred_world.specs.declared.world.view.DataError.TheVariants.{Taken, WrongKind}
 use Rattle.shred_world.specs.declared.world.view.View.{View}
 use Rattle.shred_world.specs.Bundles.{ids_of}
 use Rattle.shred_world.specs.Grants.{Grant, Moved, given_back, grant_of}
 use Rattle.shred_world.specs.Views.{is_out, may_read, refusal, view_held, view_refusal}
 use Rattle.shred_world.specs.Worked.{Held}
-use Rattle.shred.specs.Passed.{held_over, read_refusal}
+use Rattle.shred.specs.Passed.{AreShown, first_unfetched, first_unread, held_over, or_else, read_refusal}
 use Rattle.shred.specs.Typed.{held_with}
+
+-- the first of ids is among them
+first-among : (id : ResourceId) (ids : List ResourceId) → among (id ∷ ids) id ≡ true
+first-among id ids = ap (λ (b : Bool). b || among ids id) (same_id-refl id)
+
+-- and so are the others
+rest-among : (id : ResourceId) (ids : List ResourceId) (q : ResourceId) → among ids q ≡ true → among (id ∷ ids) q ≡ true
+rest-among id ids q listed = at (same_id id q) where
+  at : (b : Bool) → (b || among ids q) ≡ true
+  at true = refl
+  at false = listed
+
+-- where neither refuses, the first does not
+first-none : (a b : Option DataError) → or_else a b ≡ None → a ≡ None
+first-none None b none = refl
+first-none (Some error) b none = absurd (cc)
+
+-- nor does the second
+rest-none : (a b : Option DataError) → or_else a b ≡ None → b ≡ None
+rest-none None b none = none
+rest-none (Some error) b none = absurd (cc)
 
 module _ {V : Type 0} where
   -- under an id that is not among theirs what was held stays
@@ -64,33 +86,46 @@ module _ {V : Type 0} (kind : V → Kind) (reads writes : List ResourceId) (view
             unwritten true none = absurd (cc)
             unwritten false none = none
 
--- where the resource of a kind is all that is read
-module _ {V : Type 0} (kind : V → Kind) (asked : Kind) (writes : List ResourceId) (view : View V)
-    (declared : (q : ResourceId) → may_read view q ≡ (among (id_of asked 0 ∷ []) q || among writes q)) (out : (q : ResourceId) → is_out view q ≡ among writes q) (ms : Moved V) (listed : ids_of ms ≡ writes) where
-  is-listed : among (id_of asked 0 ∷ []) (id_of asked 0) ≡ true
-  is-listed = ap (λ (b : Bool). b || false) (same_id-refl (id_of asked 0))
+-- where a view has lent what is declared, and what is written is out
+module _ {V : Type 0} (kind : V → Kind) (reads writes : List ResourceId) (view : View V)
+    (declared : (q : ResourceId) → may_read view q ≡ (among reads q || among writes q)) (out : (q : ResourceId) → is_out view q ≡ among writes q) (ms : Moved V) (listed : ids_of ms ≡ writes) where
+  abbrev seen : Held V
+  seen = held_with kind reads writes view ms
 
-  is-declared : (among (id_of asked 0 ∷ []) (id_of asked 0) || among writes (id_of asked 0)) ≡ true
-  is-declared = ap (λ (b : Bool). b || among writes (id_of asked 0)) is-listed
+  module _ (id : ResourceId) (read : among reads id ≡ true) where
+    is-declared : (among reads id || among writes id) ≡ true
+    is-declared = ap (λ (b : Bool). b || among writes id) read
 
-  -- it is refused as the view refuses it
-  pub read-refused : read_refusal asked writes (held_with kind (id_of asked 0 ∷ []) writes view ms) ≡ view_refusal kind may_read view asked (id_of asked 0)
-  read-refused = at (among writes (id_of asked 0)) refl ∙ sym (λ i. refusal asked (id_of asked 0) ((declared (id_of asked 0) ∙ is-declared) i) (out (id_of asked 0) i) (is_some (view_held kind view (id_of asked 0)))) where
-    at : (b : Bool) → among writes (id_of asked 0) ≡ b → read_refusal asked writes (held_with kind (id_of asked 0 ∷ []) writes view ms) ≡ refusal asked (id_of asked 0) true (among writes (id_of asked 0)) (is_some (view_held kind view (id_of asked 0)))
-    at true taken = ap (λ (b : Bool). refusal asked (id_of asked 0) true b (is_some (held_with kind (id_of asked 0 ∷ []) writes view ms (id_of asked 0)))) taken
-        ∙ sym (ap (λ (b : Bool). refusal asked (id_of asked 0) true b (is_some (view_held kind view (id_of asked 0)))) taken)
-    at false away = ap (λ (h : Option V). refusal asked (id_of asked 0) true (among writes (id_of asked 0)) (is_some h)) (with-away kind (id_of asked 0 ∷ []) writes view ms listed (id_of asked 0) is-declared away)
+    -- one that is read is refused as the view refuses it
+    one-refused : read_refusal writes seen id ≡ view_refusal kind may_read view id.kind id
+    one-refused = at (among writes id) refl ∙ sym (λ i. refusal id.kind id ((declared id ∙ is-declared) i) (out id i) (is_some (view_held kind view id))) where
+      at : (b : Bool) → among writes id ≡ b → read_refusal writes seen id ≡ refusal id.kind id true (among writes id) (is_some (view_held kind view id))
+      at true taken = ap (λ (b : Bool). refusal id.kind id true b (is_some (seen id))) taken ∙ sym (ap (λ (b : Bool). refusal id.kind id true b (is_some (view_held kind view id))) taken)
+      at false away = ap (λ (h : Option V). refusal id.kind id true (among writes id) (is_some h)) (with-away kind reads writes view ms listed id is-declared away)
 
-  -- and shows what the view shows, where it is not refused
-  pub read-shown : view_refusal kind may_read view asked (id_of asked 0) ≡ None → held_with kind (id_of asked 0 ∷ []) writes view ms (id_of asked 0) ≡ view_held kind view (id_of asked 0)
-  read-shown unrefused = at (among writes (id_of asked 0)) refl where
-    taken-refused : (b c : Bool) → refusal asked (id_of asked 0) true true b ≡ None → c ≡ false
-    taken-refused b c none = told (nat_eq asked.0 asked.0) none where
-      told : (e : Bool) → cond e (Some (Taken (id_of asked 0))) (Some (WrongKind asked asked)) ≡ None → c ≡ false
-      told true none = absurd (cc)
-      told false none = absurd (cc)
+    -- and shows what the view shows, where it is not refused
+    one-shown : view_refusal kind may_read view id.kind id ≡ None → seen id ≡ view_held kind view id
+    one-shown unrefused = at (among writes id) refl where
+      taken-refused : (b c : Bool) → refusal id.kind id true true b ≡ None → c ≡ false
+      taken-refused b c none = told (nat_eq id.kind.0 id.kind.0) none where
+        told : (e : Bool) → cond e (Some (Taken id)) (Some (WrongKind id.kind id.kind)) ≡ None → c ≡ false
+        told true none = absurd (cc)
+        told false none = absurd (cc)
 
-    at : (b : Bool) → among writes (id_of asked 0) ≡ b → held_with kind (id_of asked 0 ∷ []) writes view ms (id_of asked 0) ≡ view_held kind view (id_of asked 0)
-    at true taken = with-away kind (id_of asked 0 ∷ []) writes view ms listed (id_of asked 0) is-declared (taken-refused (is_some (held_with kind (id_of asked 0 ∷ []) writes view ms (id_of asked 0))) (among writes (id_of asked 0))
-        (sym (ap (λ (b : Bool). refusal asked (id_of asked 0) true b (is_some (held_with kind (id_of asked 0 ∷ []) writes view ms (id_of asked 0)))) taken) ∙ read-refused ∙ unrefused))
-    at false away = with-away kind (id_of asked 0 ∷ []) writes view ms listed (id_of asked 0) is-declared away
+      at : (b : Bool) → among writes id ≡ b → seen id ≡ view_held kind view id
+      at true taken = with-away kind reads writes view ms listed id is-declared (taken-refused (is_some (seen id)) (among writes id)
+          (sym (ap (λ (b : Bool). refusal id.kind id true b (is_some (seen id))) taken) ∙ one-refused ∙ unrefused))
+      at false away = with-away kind reads writes view ms listed id is-declared away
+
+  -- several are refused as the view refuses them
+  pub all-refused : (ids : List ResourceId) → ((q : ResourceId) → among ids q ≡ true → among reads q ≡ true) → first_unread writes seen ids ≡ first_unfetched kind view ids
+  all-refused [] within = refl
+  all-refused (id ∷ ids) within = λ i. or_else (one-refused id (within id (first-among id ids)) i) (all-refused ids (λ q listed. within q (rest-among id ids q listed)) i)
+
+  -- and show what the view shows, where none is refused
+  pub all-shown : (ns : Moved V) → ((q : ResourceId) → among (ids_of ns) q ≡ true → among reads q ≡ true) → first_unfetched kind view (ids_of ns) ≡ None → AreShown ns (view_held kind view) → AreShown ns seen
+  all-shown [] within none shown = shown
+  all-shown (n ∷ ns) within none shown = (
+    one-shown n.0 (within n.0 (first-among n.0 (ids_of ns))) (first-none (view_refusal kind may_read view n.0.kind n.0) (first_unfetched kind view (ids_of ns)) none) ∙ shown.0,
+    all-shown ns (λ q listed. within q (rest-among n.0 (ids_of ns) q listed)) (rest-none (view_refusal kind may_read view n.0.kind n.0) (first_unfetched kind view (ids_of ns)) none) shown.1,
+  )

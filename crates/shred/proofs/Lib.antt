@@ -3,3 +3,4 @@ pub mod Planner
 pub mod Names
 pub mod Taken
 pub mod HeldOver
+mod Changed

@@ -1,7 +1,6 @@
 -- Additions to a builder: which are allowed, how they are refused, and what they add.
 use Rattle.std.specs.Borrow.{Bor}
 use Rattle.std.specs.Prelude.{ℕ, List}
-use Rattle.shred_model.specs.Plan.{PlanEntry}
 use Rattle.shred_run.specs.Alone.{access_by}
 use Rattle.shred_run.specs.declared.controller.BatchController as controllers
 use Rattle.shred_run.specs.declared.system.System as systems
@@ -12,11 +11,12 @@ use Rattle.shred_run.specs.declared.work.Work.TheVariants.{System}
 use Rattle.shred_stage.specs.Known.{texts_of}
 use Rattle.shred_stage.specs.Refusals.{IsBatchRefusal, IsRefusal, MayAdd}
 use Rattle.shred_stage.specs.declared.add_error.AddError.{AddError}
-use Rattle.shred_table.specs.declared.id.ResourceId.{ResourceId}
 use Rattle.shred.specs.Batches.{IsBatchAddition, IsTiersAddition}
 use Rattle.shred.specs.Builders.{built}
 use Rattle.shred.specs.Built.{IsAddition, IsEntryAdded}
 use Rattle.shred.specs.declared.dispatch.builder.DispatcherBuilder.{DispatcherBuilder}
+use Rattle.shred_run.specs.declared.entry.GroupEntry.{GroupEntry}
+use Rattle.shred_run.specs.PlanOf.{entry_plan}
 
 module _ {V S C L N A M B : Type 0} {vd : _} {sd : systems.Ghosts S V N A} {ad : _} {cd : controllers.Ghosts C V M B} {bd : _} where
   -- the builder may take what is added under this name
@@ -36,8 +36,8 @@ module _ {V S C L N A M B : Type 0} {vd : _} {sd : systems.Ghosts S V N A} {ad :
   AddsSystem old new name dependencies system = IsAddition (built old) (built new) name (texts_of dependencies) (sd.reads system) (sd.writes system) (sd.time system) (System system)
 
   -- an entry with this in it is added under this name
-  abbrev pub AddsEntry : (old new : DispatcherBuilder V S C L N A M B vd sd ad cd bd) → List ℕ → List (Bor (List ℕ)) → PlanEntry ResourceId → Work S (Nested V S C) → Type 0
-  AddsEntry old new name dependencies entry work = IsEntryAdded entry (built old) (built new) name (texts_of dependencies) work
+  abbrev pub AddsEntry : (old new : DispatcherBuilder V S C L N A M B vd sd ad cd bd) → List ℕ → List (Bor (List ℕ)) → GroupEntry V (Work S (Nested V S C)) → Type 0
+  AddsEntry old new name dependencies entry = IsEntryAdded (entry_plan entry) (built old) (built new) name (texts_of dependencies) entry.work
 
   -- a batch of the controller, and of what the other builder has come to, is added under this name
   abbrev pub AddsBatch : (old new : DispatcherBuilder V S C L N A M B vd sd ad cd bd) → List ℕ → List (Bor (List ℕ)) → C → DispatcherBuilder V S C L N A M B vd sd ad cd bd → Type 0

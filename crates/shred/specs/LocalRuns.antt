@@ -53,3 +53,11 @@ module _ {V L E : Type 0} (kind : V → Kind) (runs : Step V L E) where
 -- the systems were set up, in order, over what the world holds
 abbrev pub LocalsSetUpOver : {V L E : Type 0} → (V → Kind) → Step V L E → List L → World V → Answer (DispatchError E) → List L → World V → Type 0
 LocalsSetUpOver kind sets_up olds before answer news after = LocalsSetup sets_up olds (world_held kind before) answer news (world_held kind after)
+
+-- the system at this place was set up over what the world holds
+abbrev pub LocalSetUpOver : {V L E : Type 0} → (V → Kind) → Step V L E → ℕ → L → World V → Answer (DispatchError E) → L → World V → Type 0
+LocalSetUpOver kind sets_up index old before answer new after = LocalSetup sets_up index old (world_held kind before) answer new (world_held kind after)
+
+-- all the systems were disposed of, in order, over what the world holds
+abbrev pub LocalsDisposed : {V L E : Type 0} → (V → Kind) → (L → Held V → Outcome E → Held V → Type 0) → List L → World V → Answer (DispatchError E) → World V → Type 0
+LocalsDisposed kind disposes olds before answer after = LocalsDisposal disposes olds (world_held kind before) answer (world_held kind after)

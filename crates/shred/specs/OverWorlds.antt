@@ -18,8 +18,9 @@ use Rattle.shred_stage.specs.declared.dispatch.plan.Plan.{Plan}
 use Rattle.shred.specs.declared.dispatch.dispatcher.Dispatcher.{Dispatcher}
 use Rattle.shred.specs.declared.dispatch.kept_dispatcher.KeptDispatcher.{KeptDispatcher}
 use Rattle.shred.specs.declared.thread_local.ThreadLocal.{ThreadLocal}
-use Rattle.shred.specs.Dispatchers.{dispatcher_over, dispatcher_over_local}
+use Rattle.shred.specs.Dispatchers.{dispatcher_locals, dispatcher_over, dispatcher_over_local}
 use Rattle.shred.specs.FullRuns.{FullyDispatched, RunsNow, whole_of, whole_over, whole_over_local}
+use Rattle.shred.specs.LocalRuns.{LocalsRun}
 use Rattle.shred.specs.Setups.{IsDisposedOf, IsSetUp}
 
 module _ {V S C L E A B : Type 0} {vd : values.Ghosts V} {sd : systems.Ghosts S V E A} {ad : _} {cd : controllers.Ghosts C V E B} {bd : _} where
@@ -54,6 +55,11 @@ module _ {V S C L E A B : Type 0} {vd : values.Ghosts V} {sd : systems.Ghosts S 
   -- the plan was set up over the world, and then the thread-local systems, whatever the number of threads
   abbrev pub BothSetUp : Step V L E → Plan V S C E A E B vd sd ad cd bd → ThreadLocal L → World V → Answer (DispatchError E) → Plan V S C E A E B vd sd ad cd bd → ThreadLocal L → World V → Type 0
   BothSetUp local plan locals before answer left others after = (workers : ℕ) → IsSetUp (setups_of sd cd) local (whole_of plan locals workers (world_held vd.kind_of before)) answer (whole_of left others workers (world_held vd.kind_of after))
+
+module _ {V S C L E N A M B : Type 0} {vd : values.Ghosts V} {sd : _} {ad : _} {cd : _} {bd : _} where
+  -- the thread-local systems ran over the world
+  abbrev pub LocalsDispatched : Step V L E → Dispatcher V S C L N A M B vd sd ad cd bd → World V → Answer (DispatchError E) → Dispatcher V S C L N A M B vd sd ad cd bd → World V → Type 0
+  LocalsDispatched runs old before answer new after = LocalsRun vd.kind_of runs (dispatcher_locals old) (world_held vd.kind_of before) answer (dispatcher_locals new) (world_held vd.kind_of after)
 
 module _ {R V S C L E A B : Type 0} {vd : values.Ghosts V} {sd : systems.Ghosts S V E A} {ad : _} {cd : controllers.Ghosts C V E B} {bd : _} where
   -- the staged systems of a dispatcher with kept workers were dispatched over the world

@@ -1,9 +1,9 @@
 //! The thread-local systems of a dispatcher, and their runs, one after the other.
 ghost use Rattle.std.specs.Prelude.{◌≡◌, ◌++◌, ◌∷◌, [], length, OnOk, OnErr};
 ghost use Rattle.shred_run.specs.Alone.{KeepsKindsIn};
-ghost use Rattle.shred.specs.LocalRuns.{LocalDisposal, LocalSetup, LocalsDisposal, LocalRanOver, LocalsRanOver, LocalsSetUpOver};
+ghost use Rattle.shred.specs.LocalRuns.{LocalDisposal, LocalRanOver, LocalsRanOver, LocalsSetUpOver, LocalsDisposed, LocalSetUpOver};
 ghost use Rattle.shred_world.specs.Worlds.{local_held};
-ghost use Rattle.shred_world.specs.Between.{OverWorld, LeavesWorld};
+ghost use Rattle.shred_world.specs.Between.{LeavesWorld};
 
 use shred_run::RunNow;
 use shred_run::first::first;
@@ -19,7 +19,7 @@ pub struct ThreadLocal<L> {
 }
 
 impl<L: Drop> ThreadLocal<L> {
-    ghost use Rattle.shred.specs.ThreadLocals.{systems_of};
+    ghost use Rattle.shred.specs.ThreadLocals.{systems_of, ThreadLocalRan, ThreadLocalSetUp};
 
     /// No systems. It takes no memory.
     pub fn new(alloc: Global) -> Self
@@ -53,7 +53,7 @@ impl<L: Drop> ThreadLocal<L> {
     ) -> Result<(), DispatchError<L::Error>>
     where
         L: RunNow<V>,
-        ensures run { LocalsRanOver V.kind_of L.runs (systems_of self.old) world.old result (systems_of self.new) world.new }
+        ensures run { ThreadLocalRan V.kind_of L.runs self.old world.old result self.new world.new }
         ensures kinds { KeepsKindsIn local_held V.kind_of world.old world.new }
     {
         run_locals(rt, self.systems.as_mut_slice(), world)
@@ -66,7 +66,7 @@ impl<L: Drop> ThreadLocal<L> {
     ) -> Result<(), DispatchError<L::Error>>
     where
         L: RunNow<V>,
-        ensures { LocalsSetUpOver V.kind_of L.sets_up (systems_of self.old) world.old result (systems_of self.new) world.new }
+        ensures { ThreadLocalSetUp V.kind_of L.sets_up self.old world.old result self.new world.new }
     {
         set_up_each(self.systems.as_mut_slice(), world)
     }
@@ -78,7 +78,7 @@ impl<L: Drop> ThreadLocal<L> {
     ) -> Result<(), DispatchError<E>>
     where
         L: RunNow<V, Error = E>,
-        ensures { LeavesWorld V.kind_of (LocalsDisposal L.disposes (systems_of self)) world.old result world.new }
+        ensures { LocalsDisposed V.kind_of L.disposes (systems_of self) world.old result world.new }
     {
         dispose_of_each(self.systems, world)
     }
@@ -123,7 +123,7 @@ fn set_up_one<V: ResourceValue, L: RunNow<V>>(
     local: &mut L,
     world: &mut World<V>,
 ) -> Result<(), DispatchError<L::Error>>
-    ensures { OverWorld V.kind_of (LocalSetup L.sets_up index) local.old world.old result local.new world.new }
+    ensures { LocalSetUpOver V.kind_of L.sets_up index local.old world.old result local.new world.new }
 {
     match local.setup(world) {
         Ok(()) => Ok(()),
@@ -165,7 +165,7 @@ fn dispose_of_each<V: ResourceValue, L: RunNow<V, Error = E> + Drop, E: Drop>(
     locals: Vec<L>,
     world: &mut World<V>,
 ) -> Result<(), DispatchError<E>>
-    ensures { LeavesWorld V.kind_of (LocalsDisposal L.disposes locals.items) world.old result world.new }
+    ensures { LocalsDisposed V.kind_of L.disposes locals.items world.old result world.new }
 {
     let mut answer = Ok(());
     let mut index = 0;

@@ -8,6 +8,8 @@ mod calls;
 #[cfg(test)]
 mod gate;
 #[cfg(test)]
+mod lists;
+#[cfg(test)]
 mod locals;
 #[cfg(test)]
 mod typed;

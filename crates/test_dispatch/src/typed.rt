@@ -2,6 +2,7 @@
 
 use shred::prelude::*;
 use shred::{Counted, DispatchError, NoBatch, RunNow, SystemId, first_id, second_id, third_id};
+use std::alloc::Global;
 use std::process::Abort;
 use std::test::Fail;
 
@@ -85,6 +86,101 @@ impl ReadsWrites<First<i64>, First<i64>> for Overlaps {
     }
 }
 
+/// Why a system refuses.
+#[derive(Debug, Drop, PartialEq)]
+enum Stopped {
+    TooSmall,
+    NotRising,
+    Data(DataError),
+}
+
+impl From<DataError> for Stopped {
+    fn from(error: DataError) -> Self {
+        Stopped::Data(error)
+    }
+}
+
+/// The last two numbers become the sum and the difference of the first two. It refuses where the first is smaller, once it has
+/// written the sum.
+#[derive(Drop)]
+struct Splits;
+
+impl TryReads2Writes<First<i64>, Second<i64>, (Third<i64>, Fourth<i64>), Stopped> for Splits {
+    fn run(
+        &mut self,
+        first: &First<i64>,
+        second: &Second<i64>,
+        (sum, difference): &mut (Third<i64>, Fourth<i64>),
+    ) -> Result<(), Stopped> {
+        sum.0 = first.0.wrapping_add(second.0);
+        if first.0 < second.0 {
+            return Err(Stopped::TooSmall);
+        }
+        difference.0 = first.0.wrapping_sub(second.0);
+        Ok(())
+    }
+}
+
+/// The last number gets the digits of the first three.
+#[derive(Drop)]
+struct Digits;
+
+impl Reads3Writes<First<i64>, Second<i64>, Third<i64>, Fourth<i64>> for Digits {
+    fn run(
+        &mut self,
+        first: &First<i64>,
+        second: &Second<i64>,
+        third: &Third<i64>,
+        fourth: &mut Fourth<i64>,
+    ) {
+        let tens = first.0.wrapping_mul(10).wrapping_add(second.0);
+        fourth.0 = tens.wrapping_mul(10).wrapping_add(third.0);
+    }
+}
+
+/// Refuses where the numbers do not rise.
+#[derive(Drop)]
+struct Rises;
+
+impl TryReads4Writes<First<i64>, Second<i64>, Third<i64>, Fourth<i64>, (), Stopped> for Rises {
+    fn run(
+        &mut self,
+        first: &First<i64>,
+        second: &Second<i64>,
+        third: &Third<i64>,
+        fourth: &Fourth<i64>,
+        _none: &mut (),
+    ) -> Result<(), Stopped> {
+        if first.0 < second.0 && second.0 < third.0 && third.0 < fourth.0 {
+            Ok(())
+        } else {
+            Err(Stopped::NotRising)
+        }
+    }
+}
+
+/// The first number falls by one, and refuses to fall below 0.
+#[derive(Drop)]
+struct Falls;
+
+impl TryWrites<First<i64>, Stopped> for Falls {
+    fn run(&mut self, first: &mut First<i64>) -> Result<(), Stopped> {
+        if first.0 <= 0 {
+            return Err(Stopped::TooSmall);
+        }
+        first.0 -= 1;
+        Ok(())
+    }
+}
+
+/// Whether the run was refused by this error.
+fn is_stopped_by(ran: Ran<Stopped>, error: Stopped) -> bool {
+    match ran {
+        Err(Fault::Refused(told)) => told == error,
+        _ => false,
+    }
+}
+
 /// Whether the run was refused by this error.
 fn is_refused_by(ran: Ran, error: DataError) -> bool {
     match ran {
@@ -149,6 +245,95 @@ fn what_is_written_may_not_be_read(rt: HostRuntime) -> Result<(), Fail> {
         )
     );
     assert_eq!(rt; numbers(&world), [3, 0, 0, 0]);
+    Ok(())
+}
+
+/// A world of these four numbers.
+fn world_of(alloc: Global, numbers: [i64; 4]) -> Result<World<Value>, WorldError> {
+    let [first, second, third, fourth] = numbers;
+    let mut world = World::empty(alloc);
+    world.insert(First(first))?;
+    world.insert(Second(second))?;
+    world.insert(Third(third))?;
+    world.insert(Fourth(fourth))?;
+    Ok(world)
+}
+
+#[test]
+fn two_are_read_and_two_written_up_to_a_refusal(rt: HostRuntime) -> Result<(), Fail> {
+    let mut splits = Now(Splits.into_system());
+    let mut world = world_of(rt.alloc(), [7, 3, 0, 0])?;
+    assert!(rt; splits.run_now(&rt, world.local()).is_ok());
+    assert_eq!(rt; numbers(&world), [7, 3, 10, 4]);
+    world.insert(First(2))?;
+    let ran = splits.run_now(&rt, world.local());
+    assert!(rt; is_stopped_by(ran, Stopped::TooSmall));
+    assert_eq!(rt; numbers(&world), [2, 3, 5, 4]);
+    Ok(())
+}
+
+#[test]
+fn a_later_read_that_is_missing_is_told(rt: HostRuntime) -> Result<(), Fail> {
+    let mut splits = Now(Splits.into_system());
+    let mut world = world_of(rt.alloc(), [7, 3, 1, 2])?;
+    world.remove::<Second<i64>>();
+    let ran = splits.run_now(&rt, world.local());
+    let second = Stopped::Data(DataError::Missing(second_id(0)));
+    assert!(rt; is_stopped_by(ran, second));
+    assert_eq!(rt; numbers(&world), [7, 0, 1, 2]);
+    Ok(())
+}
+
+#[test]
+fn the_first_read_that_is_missing_is_told(rt: HostRuntime) -> Result<(), Fail> {
+    let mut splits = Now(Splits.into_system());
+    let mut world: World<Value> = World::empty(rt.alloc());
+    world.insert(Third(1))?;
+    world.insert(Fourth(2))?;
+    let ran = splits.run_now(&rt, world.local());
+    let first = Stopped::Data(DataError::Missing(first_id(0)));
+    assert!(rt; is_stopped_by(ran, first));
+    assert_eq!(rt; numbers(&world), [0, 0, 1, 2]);
+    Ok(())
+}
+
+#[test]
+fn systems_that_refuse_and_others_share_a_dispatcher(rt: HostRuntime) -> Result<(), Fail> {
+    let mut all: Dispatcher<Value, Systems3<_, _, _>> = DispatcherBuilder::new(rt.alloc())
+        .with(first_system(Falls.into_system()), "falls", &[])?
+        .with(
+            second_system(Digits.into_system_with_error::<Stopped>()),
+            "digits",
+            &["falls"],
+        )?
+        .with(third_system(Rises.into_system()), "rises", &["digits"])?
+        .build();
+    let mut world = world_of(rt.alloc(), [2, 3, 4, 0])?;
+    assert!(rt; all.dispatch(&rt, &mut world).is_ok());
+    assert_eq!(rt; numbers(&world), [1, 3, 4, 134]);
+    world.insert(Second(9))?;
+    let refused = match all.dispatch(&rt, &mut world) {
+        Err(
+            DispatchError::System {
+                id: SystemId(2),
+                fault: Fault::Refused(Stopped::NotRising),
+            },
+        ) => true,
+        _ => false,
+    };
+    assert!(rt; refused);
+    assert_eq!(rt; numbers(&world), [0, 9, 4, 94]);
+    let refused = match all.dispatch(&rt, &mut world) {
+        Err(
+            DispatchError::System {
+                id: SystemId(0),
+                fault: Fault::Refused(Stopped::TooSmall),
+            },
+        ) => true,
+        _ => false,
+    };
+    assert!(rt; refused);
+    assert_eq!(rt; numbers(&world), [0, 9, 4, 94]);
     Ok(())
 }
 

@@ -1,6 +1,6 @@
 //! The builder of dispatchers.
 ghost use Rattle.std.specs.HashMap.{IsUnique};
-ghost use Rattle.std.specs.Prelude.{◌≡◌, ◌<◌, ◌++◌, ℕ, List, [], None, Some, true, All, IfOk, IfSome, OnOk, OnErr, IfErr};
+ghost use Rattle.std.specs.Prelude.{◌≡◌, ◌<◌, ℕ, List, [], Some, true, IfOk, IfSome, OnOk, OnErr, IfErr};
 ghost use Rattle.std.specs.Option.{option_map};
 ghost use Rattle.std.specs.String.{string_eq};
 ghost use Rattle.std.proofs.Props.{props};
@@ -13,7 +13,6 @@ ghost use Rattle.shred.specs.AsyncDispatchers.{state_of};
 ghost use Rattle.shred.specs.Built.{IsBarrierSet, IsConsistent, IsLocalAdded, IsNewBuilt, IsPoolSet, IsRuleSet, IsSameBuilt, KeepsAdditionIfOrdered};
 ghost use Rattle.shred_run.specs.AdditionOrder.{KeepsAddition};
 ghost use Rattle.shred_stage.specs.declared.dispatch.rule.Rule.TheVariants.{Ordered};
-ghost use Rattle.shred_model.specs.Access.{Access};
 ghost use Rattle.shred_run.specs.PlanOf.{entry_plan};
 ghost use Rattle.shred.specs.Dispatchers.{dispatcher_locals, dispatcher_plan, dispatcher_states, dispatcher_workers};
 ghost use Rattle.shred.specs.SystemNames.{names_known, names_pairs};
@@ -349,7 +348,7 @@ impl<
         requires own_lists { EntryOwns S.System C.BatchController entry }
         requires id { (entry_plan entry).id ≡ (built self.old).next }
         ensures id { IfOk result (λ id. id.0 ≡ (built self.old).next) }
-        ensures added { OnOk result (AddsEntry self.old self.new name.now dependencies.now (entry_plan entry) entry.work) }
+        ensures added { OnOk result (AddsEntry self.old self.new name.now dependencies.now entry) }
         ensures refused { IfErr result (λ e. e ≡ AddError.OutOfMemory) }
         ensures unchanged { OnErr result (IsSameBuilt (built self.old) (built self.new)) }
     {

@@ -10,13 +10,11 @@ ghost use Rattle.shred.specs.PrintedPlans.{PrintsDispatcher};
 ghost use Rattle.shred_stage.specs.StagePlan.{plan_of, widest};
 ghost use Rattle.shred.specs.Dispatchers.{dispatcher_locals, dispatcher_plan, dispatcher_states, dispatcher_workers};
 ghost use Rattle.shred.specs.FullRuns.{IsRefusedBy, RunsNow, whole_with};
-ghost use Rattle.shred.specs.LocalRuns.{LocalsRun};
 ghost use Rattle.shred.specs.Setups.{DisposesNow, SetsUpNow};
 ghost use Rattle.shred.specs.SystemNames.{names_known, names_pairs};
 ghost use Rattle.shred.specs.ThreadLocals.{systems_of};
 ghost use Rattle.shred_world.specs.Worlds.{local_held, world_held};
-ghost use Rattle.shred_world.specs.Between.{OverWorld};
-ghost use Rattle.shred.specs.OverWorlds.{AllDispatched, AllDispatchedLocally, BothSetUp, DispatcherDisposed, DispatcherRan, DispatcherSetUp, StagesDispatched};
+ghost use Rattle.shred.specs.OverWorlds.{AllDispatched, AllDispatchedLocally, BothSetUp, DispatcherDisposed, DispatcherRan, DispatcherSetUp, StagesDispatched, LocalsDispatched};
 ghost use Rattle.shred_stage.specs.Added.{AreSame};
 
 use crate::dispatch::names::SystemNames;
@@ -132,7 +130,7 @@ impl<V: ResourceValue, S: System<V>, C: BatchController<V>, L: RunNow<V> + Drop>
         rt: &R,
         world: &mut World<V>,
     ) -> Result<(), DispatchError<L::Error>>
-        ensures run { OverWorld V.kind_of (LocalsRun V.kind_of L.runs) (dispatcher_locals self.old) world.old result (dispatcher_locals self.new) world.new }
+        ensures run { LocalsDispatched L.runs self.old world.old result self.new world.new }
         ensures kinds { KeepsKindsIn world_held V.kind_of world.old world.new }
         ensures plan { dispatcher_plan self.new ≡ dispatcher_plan self.old }
         ensures states { AreSame (dispatcher_states self.old) (dispatcher_states self.new) }

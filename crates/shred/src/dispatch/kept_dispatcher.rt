@@ -5,7 +5,7 @@ ghost use Rattle.shred_run.specs.Depths.{steps_of};
 ghost use Rattle.shred_run.specs.WorkSetups.{setups_of};
 ghost use Rattle.shred.specs.Dispatchers.{dispatcher_locals, dispatcher_workers};
 ghost use Rattle.shred.specs.FullRuns.{RunsNow, whole_with};
-ghost use Rattle.shred.specs.KeptDispatchers.{dispatcher_of};
+ghost use Rattle.shred.specs.KeptDispatchers.{dispatcher_of, KeepsLocals, KeepsWorkers};
 ghost use Rattle.shred.specs.Setups.{DisposesNow, SetsUpNow};
 ghost use Rattle.shred_world.specs.Worlds.{local_held, world_held};
 ghost use Rattle.shred.specs.OverWorlds.{AllKeptDispatched, AllKeptDispatchedLocally, DispatcherDisposed, KeptSetUp, KeptStagesDispatched, StagesDispatchedLocally};
@@ -99,8 +99,8 @@ impl<
     /// are free and on the caller's thread.
     pub fn dispatch_par(&mut self, world: &mut World<V>) -> Result<(), DispatchError<E>>
         ensures dispatched { KeptStagesDispatched self.old world.old result self.new world.new }
-        ensures locals { dispatcher_locals (dispatcher_of self.new) ≡ dispatcher_locals (dispatcher_of self.old) }
-        ensures workers { dispatcher_workers (dispatcher_of self.new) ≡ dispatcher_workers (dispatcher_of self.old) }
+        ensures locals { KeepsLocals self.old self.new }
+        ensures workers { KeepsWorkers self.old self.new }
     {
         self.dispatcher.run_on(&mut self.crew, world.local())
     }

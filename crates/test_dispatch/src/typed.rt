@@ -298,42 +298,33 @@ fn the_first_read_that_is_missing_is_told(rt: HostRuntime) -> Result<(), Fail> {
 }
 
 #[test]
-fn systems_that_refuse_and_others_share_a_dispatcher(rt: HostRuntime) -> Result<(), Fail> {
-    let mut all: Dispatcher<Value, Systems3<_, _, _>> = DispatcherBuilder::new(rt.alloc())
-        .with(first_system(Falls.into_system()), "falls", &[])?
-        .with(
-            second_system(Digits.into_system_with_error::<Stopped>()),
-            "digits",
-            &["falls"],
-        )?
-        .with(third_system(Rises.into_system()), "rises", &["digits"])?
-        .build();
+fn three_are_read_by_their_places(rt: HostRuntime) -> Result<(), Fail> {
+    let mut digits = Now(Digits.into_system());
     let mut world = world_of(rt.alloc(), [2, 3, 4, 0])?;
-    assert!(rt; all.dispatch(&rt, &mut world).is_ok());
-    assert_eq!(rt; numbers(&world), [1, 3, 4, 134]);
-    world.insert(Second(9))?;
-    let refused = match all.dispatch(&rt, &mut world) {
-        Err(
-            DispatchError::System {
-                id: SystemId(2),
-                fault: Fault::Refused(Stopped::NotRising),
-            },
-        ) => true,
-        _ => false,
-    };
-    assert!(rt; refused);
-    assert_eq!(rt; numbers(&world), [0, 9, 4, 94]);
-    let refused = match all.dispatch(&rt, &mut world) {
-        Err(
-            DispatchError::System {
-                id: SystemId(0),
-                fault: Fault::Refused(Stopped::TooSmall),
-            },
-        ) => true,
-        _ => false,
-    };
-    assert!(rt; refused);
-    assert_eq!(rt; numbers(&world), [0, 9, 4, 94]);
+    assert!(rt; digits.run_now(&rt, world.local()).is_ok());
+    assert_eq!(rt; numbers(&world), [2, 3, 4, 234]);
+    Ok(())
+}
+
+#[test]
+fn four_are_read_and_one_that_does_not_rise_refuses(rt: HostRuntime) -> Result<(), Fail> {
+    let mut rises = Now(Rises.into_system());
+    let mut world = world_of(rt.alloc(), [1, 3, 4, 4])?;
+    let ran = rises.run_now(&rt, world.local());
+    assert!(rt; is_stopped_by(ran, Stopped::NotRising));
+    assert_eq!(rt; numbers(&world), [1, 3, 4, 4]);
+    Ok(())
+}
+
+#[test]
+fn a_system_that_only_writes_may_refuse(rt: HostRuntime) -> Result<(), Fail> {
+    let mut falls = Now(Falls.into_system());
+    let mut world = world_of(rt.alloc(), [1, 0, 0, 0])?;
+    assert!(rt; falls.run_now(&rt, world.local()).is_ok());
+    assert_eq!(rt; numbers(&world), [0, 0, 0, 0]);
+    let ran = falls.run_now(&rt, world.local());
+    assert!(rt; is_stopped_by(ran, Stopped::TooSmall));
+    assert_eq!(rt; numbers(&world), [0, 0, 0, 0]);
     Ok(())
 }
 

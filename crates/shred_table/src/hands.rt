@@ -1,5 +1,5 @@
 //! Hands for several pairs of lists of ids: what each pair writes is moved into its hand, and back.
-ghost use Rattle.std.specs.Prelude.{◌≡◌, false, is_some, IfOk};
+ghost use Rattle.std.specs.Prelude.{◌≡◌, false, is_some, IfOk, length};
 ghost use Rattle.std.specs.List.{All, AllZip};
 ghost use Rattle.shred_table.specs.declared.id.ResourceId.{ResourceId};
 ghost use Rattle.shred_table.specs.Parting.{AreEmpty};
@@ -13,19 +13,35 @@ use crate::parting::{move_back, move_out};
 use crate::table::{Table, forget_notes};
 use std::alloc::Global;
 
-/// A hand for each pair, with room for what the pair writes.
-pub fn make_hands<V: Drop>(
+// As many hands, the first of them those that are there.
+fn counted<V: Drop>(
+    alloc: Global,
+    count: usize,
+    mut hands: Vec<Table<V>>,
+) -> Result<Vec<Table<V>>, OutOfMemory>
+    ensures { IfOk result (λ counted. length counted.items ≡ count) }
+{
+    hands.truncate(count);
+    while hands.len() < count {
+        hands.push(Table::new(alloc))?;
+    }
+    Ok(hands)
+}
+
+/// A hand for each pair, with room for what the pair writes. The hands that are there are used again, whatever is in them.
+pub fn fit_hands<V: Drop>(
     table: &Table<V>,
     alloc: Global,
     pairs: &[(&[ResourceId], &[ResourceId])],
+    hands: Vec<Table<V>>,
 ) -> Result<Vec<Table<V>>, OutOfMemory>
-    ensures { IfOk result (λ hands. AllZip (HasRoom table.now) pairs.now hands.items) }
+    ensures { IfOk result (λ fitted. AllZip (HasRoom table.now) pairs.now fitted.items) }
 {
-    let mut hands = Vec::new(alloc);
-    for pair in pairs {
-        let mut hand = Table::with_homes(alloc, pair.1.len())?;
-        table.make_room(pair.1, &mut hand)?;
-        hands.push(hand)?;
+    let mut hands = counted(alloc, pairs.len(), hands)?;
+    for i in 0..pairs.len() {
+        let hand = &mut hands[i];
+        hand.make_ready(pairs[i].1.len())?;
+        table.make_room(pairs[i].1, hand)?;
     }
     Ok(hands)
 }

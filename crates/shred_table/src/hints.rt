@@ -31,6 +31,12 @@ impl Hints {
         })
     }
 
+    // Forgets the homes, and makes room for so many.
+    pub(crate) fn make_room(&mut self, count: usize) -> Result<(), OutOfMemory> {
+        self.homes.clear();
+        Ok(self.homes.resize(count, 0)?)
+    }
+
     // The place to look at first.
     pub(crate) fn next(&self) -> usize
         ensures { result ≡ self.now.next }

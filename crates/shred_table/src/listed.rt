@@ -40,6 +40,15 @@ impl<V> Listed<V> {
         }
     }
 
+    // Takes all slots away, with their values; the memory stays.
+    pub(crate) fn clear(&mut self)
+    where
+        V: Drop,
+        ensures { (id : ResourceId) → listed_at self.new id ≡ None }
+    {
+        self.slots.clear();
+    }
+
     // Where the slot of the id is, or where it would go.
     fn place(&self, id: ResourceId) -> Result<usize, usize>
         ensures found { IfOk result (IsPlaceOf id self.now.slots.items) }

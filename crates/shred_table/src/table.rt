@@ -111,6 +111,17 @@ impl<V> Table<V> {
         })
     }
 
+    // Takes all slots away, with their values, and makes room to note where so many values came from. The memory stays, and so
+    // where there was as much before, no more is taken.
+    pub(crate) fn make_ready(&mut self, count: usize) -> Result<(), OutOfMemory>
+    where
+        V: Drop,
+        ensures { (id : ResourceId) → slot_at self.new id ≡ None }
+    {
+        self.slots.clear();
+        self.hints.make_room(count)
+    }
+
     /// The allocator that the table was made with.
     pub fn allocator(&self) -> Global {
         *self.out.allocator()
@@ -268,6 +279,15 @@ pub fn forget_notes<V>(table: &mut Table<V>)
     ensures noted { (q : ResourceId) → noted_in table.new q ≡ false }
 {
     table.out.clear();
+}
+
+/// The list in which the table has noted what is handed out, out of the table, which notes nothing then.
+pub fn take_notes<V>(table: &mut Table<V>) -> Vec<ResourceId>
+    ensures slots { slots_of table.new ≡ slots_of table.old }
+    ensures noted { (q : ResourceId) → noted_in table.new q ≡ false }
+{
+    let alloc = table.allocator();
+    mem::replace(&mut table.out, Vec::new(alloc))
 }
 
 /// Notes just these ids.

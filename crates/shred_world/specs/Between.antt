@@ -1,7 +1,5 @@
 -- Relations on what is held, as relations on the views and worlds that hold it.
 use Rattle.shred_table.specs.declared.id.Kind.{Kind}
-use Rattle.shred_table.specs.declared.table.Table.{Table}
-use Rattle.shred_table.specs.Slots.{held}
 use Rattle.shred_world.specs.declared.world.World.{World}
 use Rattle.shred_world.specs.declared.world.local.LocalWorld.{LocalWorld}
 use Rattle.shred_world.specs.declared.world.view.View.{View}

@@ -64,14 +64,15 @@ fn is_taken(view: &View<Value>, id: ResourceId) -> bool {
     view.read::<Count>(id).copied() == Err(DataError::Taken(id))
 }
 
-/// Parts the view in two, works over the two hands, and joins the parts.
+/// Parts the view in two in the room of these hands, works over the two hands, joins the parts, and gives the hands back.
 pub fn over_parts<W: OverTwo>(
     alloc: Global,
     view: &mut View<Value>,
     pairs: &[(&[ResourceId], &[ResourceId])],
+    hands: Vec<Table<Value>>,
     counts: TwoCounts,
     work: &mut W,
-) -> Result<TwoOut, OutOfMemory>
+) -> Result<(TwoOut, Vec<Table<Value>>), OutOfMemory>
     requires needs { W.needs }
     requires nothing_out { (id : ResourceId) → is_out view.old id ≡ false }
     requires reads_within { All (λ p. (id : ResourceId) → IsTrue (among (reads_of p) id) → IsTrue (may_read view.old id)) pairs.now }
@@ -81,7 +82,7 @@ pub fn over_parts<W: OverTwo>(
     ensures same { IsSameView view.old view.new }
     ensures ids { KeepsHeldIds (view_held kind_of view.old) (view_held kind_of view.new) }
 {
-    let mut parts = match view.part(alloc, pairs) {
+    let mut parts = match view.part_with(alloc, pairs, hands) {
         Ok(parts) => parts,
         Err(error) => return Err(error),
     };
@@ -91,6 +92,5 @@ pub fn over_parts<W: OverTwo>(
         first: is_taken(view, counts.first),
         second: is_taken(view, counts.second),
     };
-    parts.join(view);
-    Ok(out)
+    Ok((out, parts.join(view)))
 }

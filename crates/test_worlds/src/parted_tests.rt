@@ -1,5 +1,5 @@
 //! Views that are parted, worked over and joined.
-use crate::parted_threads::add_beside;
+use crate::parted_threads::{add_beside, add_beside_in};
 use shred_world::{Kind, ResourceId, World};
 use std::alloc::Global;
 use std::process::Abort;
@@ -36,8 +36,20 @@ fn expect_counts(rt: &impl Abort, world: &World<Value>, counts: &[i64]) {
 #[test]
 fn two_parts_are_worked_over_in_the_halves_of_a_fork(rt: HostRuntime) -> Result<(), Fail> {
     let mut world = world_of(rt.alloc(), &[10, 20, 30])?;
-    let out = add_beside(&rt, rt.alloc(), &mut world)?;
+    let (out, _) = add_beside(&rt, rt.alloc(), &mut world)?;
     assert_eq!(rt; (out.first, out.second), (true, true));
     expect_counts(&rt, &world, &[11, 21, 30]);
+    Ok(())
+}
+
+#[test]
+fn hands_of_another_world_and_other_ids_are_room_alone(rt: HostRuntime) -> Result<(), Fail> {
+    let mut other = world_of(rt.alloc(), &[10, 20, 30])?;
+    let (_, hands) = add_beside(&rt, rt.alloc(), &mut other)?;
+    let mut world = world_of(rt.alloc(), &[100, 200, 300])?;
+    let (out, hands) = add_beside_in(&rt, rt.alloc(), &mut world, hands)?;
+    assert_eq!(rt; (out.first, out.second, hands.len()), (true, true, 2));
+    expect_counts(&rt, &world, &[101, 201, 300]);
+    expect_counts(&rt, &other, &[11, 21, 30]);
     Ok(())
 }

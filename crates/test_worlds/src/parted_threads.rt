@@ -95,12 +95,12 @@ impl<'r, R: Threads + Sync> OverTwo for AddingBeside<'r, R> {
     }
 }
 
-/// Adds one to the counts of numbers 0 and 1, which two parts write, beside each other.
+/// Adds one to the counts of numbers 0 and 1, which two parts write, beside each other, and gives back their hands.
 pub fn add_beside<R: Threads + Sync>(
     rt: &R,
     alloc: Global,
     world: &mut World<Value>,
-) -> Result<TwoOut, OutOfMemory> {
+) -> Result<(TwoOut, Vec<Table<Value>>), OutOfMemory> {
     let first = count_id(0);
     let second = count_id(1);
     let one = [first];
@@ -109,5 +109,38 @@ pub fn add_beside<R: Threads + Sync>(
     let both = [first, second];
     let mut view = world.lend(&[], &both);
     let counts = TwoCounts { first, second };
-    over_parts(alloc, &mut view, &pairs, counts, &mut AddingBeside { rt })
+    let none = Vec::new(alloc);
+    over_parts(
+        alloc,
+        &mut view,
+        &pairs,
+        none,
+        counts,
+        &mut AddingBeside { rt },
+    )
+}
+
+/// The same in the room of these hands, where the first part writes the count of number 2, too.
+pub fn add_beside_in<R: Threads + Sync>(
+    rt: &R,
+    alloc: Global,
+    world: &mut World<Value>,
+    hands: Vec<Table<Value>>,
+) -> Result<(TwoOut, Vec<Table<Value>>), OutOfMemory> {
+    let first = count_id(0);
+    let second = count_id(1);
+    let one = [first, count_id(2)];
+    let two = [second];
+    let pairs: [(&[ResourceId], &[ResourceId]); 2] = [(&[], &one), (&[], &two)];
+    let all = [first, second, count_id(2)];
+    let mut view = world.lend(&[], &all);
+    let counts = TwoCounts { first, second };
+    over_parts(
+        alloc,
+        &mut view,
+        &pairs,
+        hands,
+        counts,
+        &mut AddingBeside { rt },
+    )
 }

@@ -26,6 +26,13 @@ module _ {A B : Type 0} where
   zip-length R (x ∷ xs) [] zip = absurd zip
   zip-length R (x ∷ xs) (y ∷ ys) zip = ap suc (zip-length R xs ys zip.1)
 
+  -- two lists that are as long as each other go together
+  pub zip-any : (xs : List A) (ys : List B) → length xs ≡ length ys → AllZip (λ x y. ⊤) xs ys
+  zip-any [] [] long = tt
+  zip-any [] (y ∷ ys) long = absurd (omega (arith, long))
+  zip-any (x ∷ xs) [] long = absurd (omega (arith, long))
+  zip-any (x ∷ xs) (y ∷ ys) long = (tt, zip-any xs ys (omega (arith, long)))
+
   -- what holds of each second one, by what holds of it with the first
   pub zip-second : (R : A → B → Type 0) (S : B → Type 0) (xs : List A) (ys : List B) (d : A) → ((x : A) (y : B) → R x y → S y) → AllZip R xs ys → All S ys
   zip-second R S xs ys d f zip i e below = f (get_or xs i d) (get_or ys i e) (zip-get R i xs ys d e (rw (zip-length R xs ys zip) below) zip)

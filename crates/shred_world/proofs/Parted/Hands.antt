@@ -29,7 +29,7 @@ vacant-emptied : {V : Type 0} (t : Option (Slot V)) → is_vacant (emptied t) �
 vacant-emptied (Some s) = refl
 vacant-emptied None = refl
 
-and_false : (b : Bool) → (b && false) ≡ false
+pub and_false : (b : Bool) → (b && false) ≡ false
 and_false true = refl
 and_false false = refl
 

@@ -7,28 +7,29 @@ ghost use Rattle.shred_world.specs.OwnViews.{IsLent};
 ghost use Rattle.shred_world.specs.Parted.{has_place, IsJoinedWith, IsParted, IsViewOfPair, MayBeJoined, ShowsSame, AllWithin};
 ghost use Rattle.shred_table.specs.Parting.{emptied};
 ghost use Rattle.shred_table.specs.Parts.{DoNotConflict, reads_of, writes_of, written_by, HasNothingOut, HasRoom, HoldsWritten, Fits, IsHandOf, IsJoined};
-ghost use Rattle.shred_table.specs.Slots.{slot_at, noted_in, among};
+ghost use Rattle.shred_table.specs.Slots.{slot_at, slots_of, noted_in, among};
 ghost use Rattle.shred_world.specs.Views.{may_read, may_write, is_out, is_own, table_name, view_slot, IsSameLoan};
 
 use crate::world::parted::Parts;
 use crate::world::tuples::joined;
 use crate::world::view::{Shelf, View};
 use shred_table::accessor::OutOfMemory;
-use shred_table::hands::{make_hands, move_all_back, move_all_out};
+use shred_table::hands::{fit_hands, move_all_back, move_all_out};
 use shred_table::id::ResourceId;
 use shred_table::resource::ResourceValue;
 use shred_table::table::{self, Table};
 use std::alloc::Global;
 use std::snapshot::Snapshot;
 
-// The ids that the pairs write.
+// The ids that the pairs write, in the room of a list.
 fn written_ids(
-    alloc: Global,
+    room: Vec<ResourceId>,
     pairs: &[(&[ResourceId], &[ResourceId])],
 ) -> Result<Vec<ResourceId>, OutOfMemory>
     ensures { IfOk result (λ ids. (q : ResourceId) → among ids.items q ≡ written_by pairs.now q) }
 {
-    let mut ids = Vec::new(alloc);
+    let mut ids = room;
+    ids.clear();
     for pair in pairs {
         ids = match joined(ids, pair.1) {
             Ok(ids) => ids,
@@ -36,6 +37,29 @@ fn written_ids(
         };
     }
     Ok(ids)
+}
+
+// Hands with room for what the pairs write, and the list of it, in the room that the table has for its notes.
+fn make_ready<V: Drop>(
+    table: &mut Table<V>,
+    alloc: Global,
+    pairs: &[(&[ResourceId], &[ResourceId])],
+    hands: Vec<Table<V>>,
+) -> Result<(Vec<Table<V>>, Vec<ResourceId>), OutOfMemory>
+    ensures slots { slots_of table.new ≡ slots_of table.old }
+    ensures nothing_noted { (q : ResourceId) → noted_in table.new q ≡ false }
+    ensures hands { IfOk result (λ ready. AllZip (HasRoom table.old) pairs.now ready.0.items) }
+    ensures ids { IfOk result (λ ready. (q : ResourceId) → among ready.1.items q ≡ written_by pairs.now q) }
+{
+    let fitted = fit_hands(table, alloc, pairs, hands);
+    let room = table::take_notes(table);
+    match fitted {
+        Ok(hands) => match written_ids(room, pairs) {
+            Ok(ids) => Ok((hands, ids)),
+            Err(error) => Err(error),
+        },
+        Err(error) => Err(error),
+    }
 }
 
 /// The pairs of lists by which a view is parted, and what lies behind the hands of the parts.
@@ -86,12 +110,29 @@ impl<'s, 'a, V: ResourceValue + Drop> View<'s, 'a, V> {
         ensures refused { OnErr result (ShowsSame self.old self.new) }
         ensures nothing_begun { OnErr result ((q : ResourceId) → is_out self.new q ≡ false) }
     {
-        let mut hands = match make_hands(self.own, alloc, pairs) {
-            Ok(hands) => hands,
-            Err(error) => return Err(error),
-        };
-        let written = match written_ids(alloc, pairs) {
-            Ok(ids) => ids,
+        self.part_with(alloc, pairs, Vec::new(alloc))
+    }
+
+    /// `part`, with hands that `Parts::join` gave back, whatever is in them: where they and the view have the room that this takes,
+    /// as after a run by the same pairs, no memory is taken.
+    pub fn part_with<'p>(
+        &mut self,
+        alloc: Global,
+        pairs: &'p [(&'p [ResourceId], &'p [ResourceId])],
+        hands: Vec<Table<V>>,
+    ) -> Result<Parts<'p, 'a, V>, OutOfMemory>
+        requires nothing_out { (id : ResourceId) → is_out self.old id ≡ false }
+        requires reads_within { AllWithin reads_of (may_read self.old) pairs.now }
+        requires writes_within { AllWithin writes_of (may_write self.old) pairs.now }
+        requires apart { DoNotConflict pairs.now }
+        ensures loan { IsSameLoan self.old self.new }
+        ensures parted { IfOk result (λ parts. IsParted self.old pairs.now parts self.new) }
+        ensures out { OnOk result ((q : ResourceId) → is_out self.new q ≡ (written_by pairs.now q && has_place self.old q)) }
+        ensures refused { OnErr result (ShowsSame self.old self.new) }
+        ensures nothing_begun { OnErr result ((q : ResourceId) → is_out self.new q ≡ false) }
+    {
+        let (mut hands, written) = match make_ready(self.own, alloc, pairs, hands) {
+            Ok(ready) => ready,
             Err(error) => return Err(error),
         };
         move_all_out(self.own, pairs, hands.as_mut_slice());
@@ -118,8 +159,9 @@ impl<'p, 'a, V: ResourceValue + Drop> Parts<'p, 'a, V> {
         }
     }
 
-    /// Moves each value back into the slot of its id in the view that was parted, which it left empty.
-    pub fn join(self, lender: &mut View<V>)
+    /// Moves each value back into the slot of its id in the view that was parted, which it left empty. It gives back the hands, of
+    /// which `part_with` takes the room.
+    pub fn join(self, lender: &mut View<V>) -> Vec<Table<V>>
         requires { MayBeJoined V.kind_of self lender.old }
         ensures loan { IsSameLoan lender.old lender.new }
         ensures joined { IsJoinedWith V.kind_of self.entry lender.old lender.new }
@@ -132,5 +174,6 @@ impl<'p, 'a, V: ResourceValue + Drop> Parts<'p, 'a, V> {
             mut hands,
         } = self;
         move_all_back(lender.own, pairs, hands.as_mut_slice());
+        hands
     }
 }

@@ -36,13 +36,13 @@ join-requires g c =
       lender = (sym c.in-Ok.ensures.parted.lender);
       out = (λ q. c.in-Ok.ensures.out q
           ∙ ap (λ b. written_by c.args.pairs.now q && b) (sym (c.in-Ok.ensures.loan.slots q))
-          ∙ ap (λ (ps : List Pair). written_by ps q && is_some (slot_at c.part.new.self.own.now q)) (sym c.in-Ok.ensures.parted.pairs));
+          ∙ ap (λ (ps : List Pair). written_by ps q && is_some (slot_at c.part_with.new.self.own.now q)) (sym c.in-Ok.ensures.parted.pairs));
       given_back = (let was = c.in-Ok.parts.hands.items in
           let now = c.over_hands.new.hands in
           let slots : AllZip IsSameSlots was now = subst (λ (hs : List (Table Value)). AllZip IsSameSlots hs now) c.as_mut_slice.ensures.value c.over_hands.ensures.slots in
           subst (All HasNothingOut) (sym (written-over c.in-Ok.parts.hands.len was now (sym c.as_mut_slice.ensures.len ∙ ap length c.as_mut_slice.ensures.value) (sym (zip-length IsSameSlots was now slots))))
           c.over_hands.ensures.given_back);
-      fit = (let left = c.part.new.self.own.now in
+      fit = (let left = c.part_with.new.self.own.now in
           let was = c.in-Ok.parts.hands.items in
           let now = c.over_hands.new.hands in
           let slots : AllZip IsSameSlots was now = subst (λ (hs : List (Table Value)). AllZip IsSameSlots hs now) c.as_mut_slice.ensures.value c.over_hands.ensures.slots in
@@ -57,7 +57,7 @@ join-requires g c =
     }
 
 pub returns-clause-same : goal.returns-clause-same
-returns-clause-same g c = same-again c.args.view.now c.part.new.self c.join.new.lender c.in-Ok.ensures.loan c.join.ensures.loan c.requires.nothing_out c.join.ensures.nothing_out
+returns-clause-same g c = same-again c.args.view.now c.part_with.new.self c.join.new.lender c.in-Ok.ensures.loan c.join.ensures.loan c.requires.nothing_out c.join.ensures.nothing_out
 
 pub returns-clause-ids : goal.returns-clause-ids
 returns-clause-ids g c =
@@ -65,5 +65,5 @@ returns-clause-ids g c =
     let hands = c.in-Ok.parts.hands.items in
     let ids = subst (λ (ps : List Pair). AllZip (HoldsIdsOf kind_of new.own.now) ps hands) c.in-Ok.ensures.parted.pairs
     (subst (λ (was : List (Table Value)). AllZip (HoldsIdsOf kind_of new.own.now) c.in-Ok.parts.pairs.now was) c.in-Ok.ensures.parted.parted c.join.ensures.joined.ids) in
-    held-kept kind_of c.args.view.now c.part.new.self new c.args.pairs.now hands c.in-Ok.ensures.loan c.join.ensures.loan c.in-Ok.ensures.parted.hands ids c.in-Ok.ensures.parted.left
+    held-kept kind_of c.args.view.now c.part_with.new.self new c.args.pairs.now hands c.in-Ok.ensures.loan c.join.ensures.loan c.in-Ok.ensures.parted.hands ids c.in-Ok.ensures.parted.left
     (λ q out. c.join.ensures.joined.rest q (ap (λ (ps : List Pair). written_by ps q) c.in-Ok.ensures.parted.pairs ∙ out))

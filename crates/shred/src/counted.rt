@@ -7,7 +7,7 @@ use shred_world::{OutOfMemory, ResourceValue, View, World};
 use std::alloc::Global;
 
 /// A system with the number of its runs, and of those that were not done. It does what the system within does, and declares the
-/// same. A number that is the greatest of its type stays.
+/// same. A number that is the greatest of its type stays. Of one in a dispatcher the numbers are seen by `Dispatcher::system`.
 #[derive(Drop)]
 pub struct Counted<S> {
     system: S,

@@ -1,3 +1,4 @@
 pub mod Planner
 pub mod Names
 pub mod Runs
+mod Lookups

@@ -21,3 +21,4 @@ pub mod OverWorlds
 pub mod Inner
 pub mod Inserted
 pub mod Refusals
+pub mod Lookups

@@ -1,7 +1,9 @@
 //! Systems that name what they read and write by its types, alone and in rounds.
 
 use shred::prelude::*;
-use shred::{Counted, DispatchError, NoBatch, RunNow, SystemId, first_id, second_id, third_id};
+use shred::{
+    Counted, DispatchError, NoBatch, OneOf, RunNow, SystemId, first_id, second_id, third_id,
+};
 use std::alloc::Global;
 use std::process::Abort;
 use std::test::Fail;
@@ -233,6 +235,43 @@ fn a_counted_system_counts_its_runs_and_refusals(rt: HostRuntime) -> Result<(), 
     Ok(())
 }
 
+type Counts = Systems2<
+    Counted<PassedSystem<Doubles, (First<i64>,), Second<i64>>>,
+    Counted<PassedSystem<Swaps, (), (First<i64>, Second<i64>)>>,
+>;
+
+/// The runs and the refusals of the system of this id, if there is one.
+fn counts_of(dispatcher: &Dispatcher<Value, Counts>, id: SystemId) -> Option<[u64; 2]> {
+    match dispatcher.system(id)? {
+        OneOf::First(doubles) => Some([doubles.runs(), doubles.refusals()]),
+        OneOf::Second(OneOf::First(swaps)) => Some([swaps.runs(), swaps.refusals()]),
+        OneOf::Second(OneOf::Second(_)) => None,
+    }
+}
+
+#[test]
+fn counts_are_seen_in_a_dispatcher(rt: HostRuntime) -> Result<(), Fail> {
+    let builder: DispatcherBuilder<Value, Counts> = DispatcherBuilder::new(rt.alloc());
+    let doubles = first_system(Counted::new(Doubles.into_system()));
+    let swaps = second_system(Counted::new(Swaps.into_system()));
+    let (mut both, names) = builder
+        .with(doubles, "doubles", &[])?
+        .with(swaps, "swaps", &["doubles"])?
+        .build_with_names();
+    let mut world = World::empty(rt.alloc());
+    world.insert(First(3))?;
+    world.insert(Second(1))?;
+    assert!(rt; both.dispatch(&rt, &mut world).is_ok());
+    assert!(rt; both.dispatch(&rt, &mut world).is_ok());
+    world.remove::<Second<i64>>();
+    assert!(rt; both.dispatch(&rt, &mut world).is_err());
+    assert_eq!(rt; counts_of(&both, SystemId(0)), Some([3, 1]));
+    assert_eq!(rt; names.id_of("swaps"), Some(SystemId(1)));
+    assert_eq!(rt; counts_of(&both, SystemId(1)), Some([2, 0]));
+    assert_eq!(rt; counts_of(&both, SystemId(2)), None);
+    Ok(())
+}
+
 #[test]
 fn what_is_written_may_not_be_read(rt: HostRuntime) -> Result<(), Fail> {
     let mut overlaps = Now(Overlaps.into_system());
@@ -358,6 +397,7 @@ fn a_batch_of_rounds_runs_its_plan_as_often(rt: HostRuntime) -> Result<(), Fail>
     world.insert(Fourth(4))?;
     assert!(rt; outer.dispatch(&rt, &mut world).is_ok());
     assert_eq!(rt; numbers(&world), [2, 3, 4, 1]);
+    assert!(rt; outer.system(SystemId(0)).is_none());
     Ok(())
 }
 

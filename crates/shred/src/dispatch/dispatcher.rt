@@ -1,9 +1,11 @@
 //! The dispatcher: it runs a plan, and then the thread-local systems.
-ghost use Rattle.std.specs.Prelude.{◌≡◌};
+ghost use Rattle.std.specs.Option.{option_map};
+ghost use Rattle.std.specs.Prelude.{◌≡◌, IfSome};
 ghost use Rattle.shred_model.specs.Record.{Agent};
 ghost use Rattle.shred_run.specs.Alone.{KeepsKindsIn};
 ghost use Rattle.shred_run.specs.Depths.{steps_of};
 ghost use Rattle.shred_run.specs.WorkSetups.{setups_of};
+ghost use Rattle.shred_stage.specs.Lookups.{IsSystemOf, plan_system};
 ghost use Rattle.shred_stage.specs.Names.{AreNames};
 ghost use Rattle.shred_stage.specs.Plans.{plan_states};
 ghost use Rattle.shred.specs.PrintedPlans.{PrintsDispatcher};
@@ -20,7 +22,7 @@ ghost use Rattle.shred_stage.specs.Added.{AreSame};
 use crate::dispatch::names::SystemNames;
 use crate::thread_local::ThreadLocal;
 use shred_run::first::first;
-use shred_run::{BatchController, Fault, NoBatch, Now, RunNow, System};
+use shred_run::{BatchController, Fault, NoBatch, Now, RunNow, System, SystemId};
 use shred_stage::{DispatchError, Plan, PlanSink, PrintError, Stage};
 use shred_world::{LocalWorld, ResourceValue, World};
 use std::thread::Threads;
@@ -70,6 +72,15 @@ impl<V: ResourceValue, S: System<V>, C: BatchController<V>, L> Dispatcher<V, S, 
         ensures { result.now ≡ self.now.plan }
     {
         &self.plan
+    }
+
+    /// The system of this id, as its runs have left it, if the plan has it, and it is no batch. What stands in a batch is not
+    /// looked for, and a thread-local system has no id.
+    pub fn system(&self, id: SystemId) -> Option<&S>
+        ensures first { option_map (λ system. system.now) result ≡ plan_system id.0 self.now.plan.stages.items }
+        ensures stands { IfSome result (λ system. IsSystemOf self.now.plan.stages.items id.0 system.now) }
+    {
+        self.plan.system(id)
     }
 
     /// Puts the plan's text and a line feed into the sink, with the names of the builder. Where a system has no name,

@@ -1,5 +1,6 @@
 //! A dispatcher whose stages run on workers that are kept.
-ghost use Rattle.std.specs.Prelude.{◌≡◌, IfErr, IfOk};
+ghost use Rattle.std.specs.Option.{option_map};
+ghost use Rattle.std.specs.Prelude.{◌≡◌, IfErr, IfOk, IfSome};
 ghost use Rattle.shred_run.specs.Alone.{KeepsKindsIn};
 ghost use Rattle.shred_run.specs.Depths.{steps_of};
 ghost use Rattle.shred_run.specs.WorkSetups.{setups_of};
@@ -7,12 +8,13 @@ ghost use Rattle.shred.specs.Dispatchers.{dispatcher_locals, dispatcher_workers}
 ghost use Rattle.shred.specs.FullRuns.{RunsNow, whole_with};
 ghost use Rattle.shred.specs.KeptDispatchers.{dispatcher_of, KeepsLocals, KeepsWorkers};
 ghost use Rattle.shred.specs.Setups.{DisposesNow, SetsUpNow};
+ghost use Rattle.shred_stage.specs.Lookups.{IsSystemOf, plan_system};
 ghost use Rattle.shred_world.specs.Worlds.{local_held, world_held};
 ghost use Rattle.shred.specs.OverWorlds.{AllKeptDispatched, AllKeptDispatchedLocally, DispatcherDisposed, KeptSetUp, KeptStagesDispatched, StagesDispatchedLocally};
 
 use crate::dispatch::dispatcher::{Dispatcher, as_run};
 use shred_kept::StageCrew;
-use shred_run::{BatchController, Fault, NoBatch, Now, RunNow, System};
+use shred_run::{BatchController, Fault, NoBatch, Now, RunNow, System, SystemId};
 use shred_stage::DispatchError;
 use shred_world::{LocalWorld, ResourceValue, World};
 use std::alloc::{AllocFailed, Global};
@@ -103,6 +105,14 @@ impl<
         ensures workers { KeepsWorkers self.old self.new }
     {
         self.dispatcher.run_on(&mut self.crew, world.local())
+    }
+
+    /// The system of this id, as `Dispatcher::system` lends it.
+    pub fn system(&self, id: SystemId) -> Option<&S>
+        ensures first { option_map (λ system. system.now) result ≡ plan_system id.0 (dispatcher_of self.now).plan.stages.items }
+        ensures stands { IfSome result (λ system. IsSystemOf (dispatcher_of self.now).plan.stages.items id.0 system.now) }
+    {
+        self.dispatcher.system(id)
     }
 
     /// The dispatcher, without its workers, which end.

@@ -1,8 +1,10 @@
 //! The plan that a dispatcher runs: stages, one after the other.
-ghost use Rattle.std.specs.Prelude.{◌≡◌, Err};
+ghost use Rattle.std.specs.Option.{option_map};
+ghost use Rattle.std.specs.Prelude.{◌≡◌, Err, IfSome};
 ghost use Rattle.shred_stage.specs.SinkTexts.{PutsPlan};
 ghost use Rattle.shred_stage.specs.Setups.{StageDisposalAt};
 ghost use Rattle.shred_stage.specs.Situations.{dispatch_answer};
+ghost use Rattle.shred_stage.specs.Lookups.{IsSystemOf, plan_system};
 ghost use Rattle.shred_stage.specs.StagePlan.{plan_of, widest};
 ghost use Rattle.shred_world.specs.Between.{LeavesWorld};
 ghost use Rattle.shred_stage.specs.OverWorlds.{PlanDispatchedLocally, PlanDisposed, PlanSetUp};
@@ -49,6 +51,20 @@ impl<V: ResourceValue, S: System<V>, C: BatchController<V>> Plan<V, S, C> {
             most = most.max(self.stages[place].max_threads());
         }
         most
+    }
+
+    /// The system of this id, if the plan has it, and it is no batch. One that stands in a batch is not looked for.
+    pub fn system(&self, id: SystemId) -> Option<&S>
+        ensures first { option_map (λ system. system.now) result ≡ plan_system id.0 self.now.stages.items }
+        ensures stands { IfSome result (λ system. IsSystemOf self.now.stages.items id.0 system.now) }
+    {
+        for stage in &self.stages {
+            let system = stage.system(id);
+            if system.is_some() {
+                return system;
+            }
+        }
+        None
     }
 
     /// Puts the plan's text and what follows it into the sink, with these names. Where a system has no name, nothing is put,

@@ -15,6 +15,7 @@ ghost use Rattle.shred_run.specs.Depths.{lists_of};
 ghost use Rattle.shred_run.specs.OwnFacts.{owns_itself-is_fact};
 ghost use Rattle.std.specs.Coded.{Coded-set};
 
+use crate::dispatch::lookup::group_system;
 use shred_kept::{StageCrew, turn_kept};
 use shred_run::dispose::dispose_of_groups;
 use shred_run::entry::{Group, GroupEntry, Side};
@@ -65,6 +66,8 @@ impl<V: ResourceValue, S: System<V>, C: BatchController<V>> Stage<V, S, C> {
     ghost use Rattle.shred_run.specs.Works.{tier_plan, tier_states};
     ghost use Rattle.shred_stage.specs.Added.{nothing_at, AreSame, IsNew};
     ghost use Rattle.shred_stage.specs.EntriesAt.{stage_entry_at};
+    ghost use Rattle.shred_stage.specs.Lookups.{stage_system};
+    ghost use Rattle.std.specs.Option.{option_map};
     ghost use Rattle.shred_stage.specs.Plans.{stage_states};
     ghost use Rattle.shred_stage.specs.StagePlan.{group_of, may_end_in, stage_plan, PushesEntry, PushesGroup};
 
@@ -104,6 +107,19 @@ impl<V: ResourceValue, S: System<V>, C: BatchController<V>> Stage<V, S, C> {
         } else {
             None
         }
+    }
+
+    /// The system of this id, if the stage has it, and it is no batch.
+    pub fn system(&self, id: SystemId) -> Option<&S>
+        ensures { option_map (λ system. system.now) result ≡ stage_system id.0 self.now }
+    {
+        for group in &self.groups {
+            let system = group_system(group, id);
+            if system.is_some() {
+                return system;
+            }
+        }
+        None
     }
 
     /// Where the stage takes the entry, if it does, while these dependencies are left.

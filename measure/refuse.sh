@@ -14,7 +14,7 @@ differ=0
 tests='test_worlds refusals::
 test_cells refusals::
 test_trees refusals::
-test_kept refusals::once_a_stage_has_run
+test_kept refusals::once_a_
 test_async refusals::a_run_is_begun_or_all_is_lost
 test_store refusals::
 test_builder refusals::

@@ -1,5 +1,6 @@
 -- What lanes ask, and what a batch asks that is alone in its group.
-use Rattle.std.proofs.Common.{◌≡◌, ◌==◌, ◌∙◌, true, false, List, [], ◌∷◌, All, length, map, get_or, sym, ap, subst, arith}
+use Rattle.std.proofs.Common.{◌≡◌, ◌==◌, ◌∙◌, ◌&&◌, Bool, true, false, IsTrue, cond, Some, None, Option, List, [], ◌∷◌, length, map, get_or, refl, sym, ap, subst, arith}
+use Rattle.std.specs.Prelude.{is_some}
 use Rattle.shred_run.specs.declared.entry.Group.{Group}
 use Rattle.shred_run.specs.declared.entry.GroupEntry.{GroupEntry}
 use Rattle.shred_run.specs.declared.work.Work.{Work}
@@ -7,10 +8,16 @@ use Rattle.shred_run.specs.Hands.{HasPlace}
 use Rattle.shred_run.specs.Lanes.{IsReady}
 use Rattle.shred_run.specs.OneBatch.{is_batch, is_one_batch}
 use Rattle.shred_run.specs.OwnLists.{IsEntryOf}
-use Rattle.shred_run.specs.OwnSlots.{LiesBefore}
+use Rattle.shred_run.specs.OwnSlots.{HasJustSlots, HasOnlySlots, LiesBefore, lent_before}
 use Rattle.shred_run.specs.PlanOf.{entry_plan}
+use Rattle.shred_run.proofs.Circle.Tiers.{emptied-is}
+use Rattle.shred_run.proofs.Runs.Hands.{none_of}
 use Rattle.shred_table.specs.declared.id.ResourceId.{ResourceId}
-use Rattle.shred_table.specs.Shown.{HasOwnSlots, Lent}
+use Rattle.shred_table.specs.declared.table.Slot.{Slot}
+use Rattle.shred_table.specs.declared.table.Table.{Table}
+use Rattle.shred_table.specs.Parting.{AreEmpty, FitsJust, emptied}
+use Rattle.shred_table.specs.Shown.{HasOwnSlots, IsSameSlots, Lent}
+use Rattle.shred_table.specs.Slots.{among, or_slot, slot_at}
 use Rattle.shred_world.specs.declared.world.view.Shelf.{Shelf}
 use Rattle.shred_world.specs.Views.{lent_slot}
 use Rattle.shred_kept.specs.declared.level.Level.{Level}
@@ -50,3 +57,42 @@ module _ {V X : Type 0} (own : X → List ResourceId → List ResourceId → Typ
 -- the only entry of a group of one batch is a batch
 pub one-batch : {V S B : Type 0} (entries : List (GroupEntry V (Work S B))) (entry : GroupEntry V (Work S B)) → entries ≡ entry ∷ [] → is_one_batch entries ≡ true → is_batch entry.work ≡ true
 one-batch entries entry was one = sym (ap is_one_batch was) ∙ one
+
+-- An entry's own hand, into which what it writes was moved out of the group's.
+module _ {V : Type 0} (writes : List ResourceId) (own after hand : Table V) (taken : (q : ResourceId) → slot_at hand q ≡ cond (among writes q) (slot_at own q) None) (left : (q : ResourceId) → slot_at after q ≡ cond (among writes q) (emptied (slot_at own q)) (slot_at own q)) where
+  same-slots : IsSameSlots own after
+  same-slots q = ap is_some (left q) ∙ emptied-is (among writes q) (slot_at own q)
+
+  -- it has the slots that are lent behind it
+  pub hand-slots : (lent : Lent V) → HasOwnSlots writes lent own → HasOwnSlots writes (lent_before after lent) hand
+  hand-slots lent has id there none =
+      let here : slot_at own id ≡ None = sym (taken id ∙ ap (λ (b : Bool). cond b (slot_at own id) None) there) ∙ none in
+      let out : slot_at after id ≡ None = none_of (slot_at after id) (same-slots id ∙ ap is_some here) in
+      ap (λ (s : Option (Slot V)). or_slot s (lent id)) out ∙ has id there here
+
+  -- and no others
+  pub hand-only : HasOnlySlots writes hand
+  hand-only id out = taken id ∙ ap (λ (b : Bool). cond b (slot_at own id) None) out
+
+  -- the group's hand lies before the shelf still
+  pub hand-lies : (ids : List ResourceId) (shelf : List (Shelf V)) → HasJustSlots ids own → LiesBefore ids shelf after
+  hand-lies ids shelf just = record {
+    own_slots = λ id there none. absurd (let no : true ≡ false = sym (same-slots id ∙ just id ∙ there) ∙ ap is_some none in cc);
+    only_own = λ some id out. none_of (slot_at after id) (same-slots id ∙ just id ∙ out);
+  }
+
+  module _ (ran : Table V) (same : IsSameSlots hand ran) where
+    -- what the hand has after a step fits the slots that it came from
+    pub hand-fits : FitsJust writes (slot_at after) ran
+    hand-fits q = same q ∙ ap is_some (taken q) ∙ carried (among writes q) (slot_at own q) ∙ ap (λ (b : Bool). among writes q && b) (sym (same-slots q)) where
+      carried : (b : Bool) (s : Option (Slot V)) → is_some (cond b s None) ≡ (b && is_some s)
+      carried true s = refl
+      carried false s = refl
+
+  -- which are empty
+  pub hand-left : AreEmpty (among writes) after
+  hand-left q there = left q ∙ stays (among writes q) (slot_at own q) there ∙ ap emptied (sym (left q)) where
+    stays : (b : Bool) (s : Option (Slot V)) → IsTrue b → cond b (emptied s) s ≡ emptied (cond b (emptied s) s)
+    stays true (Some s) there = refl
+    stays true None there = refl
+    stays false s there = absurd (let no : false ≡ true = there in cc)

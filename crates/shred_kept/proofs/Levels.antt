@@ -1,5 +1,5 @@
 -- What levels lend, and shelves that stand for them.
-use Rattle.std.proofs.Common.{◌≡◌, ℕ, ◌<◌, ◌+◌, ◌==◌, ◌++◌, ◌∙◌, Bool, true, false, List, [], ◌∷◌, length, map, refl, sym, ap, subst, arith}
+use Rattle.std.proofs.Common.{◌≡◌, ℕ, ◌<◌, ◌==◌, ◌++◌, ◌∙◌, Bool, true, false, List, [], ◌∷◌, length, map, refl, sym, ap, subst, arith}
 use Rattle.std.proofs.lemmas.Bool.Decides.{nat_tests}
 use Rattle.shred_run.specs.OwnSlots.{HasOnlySlots, LiesBefore, lent_before}
 use Rattle.shred_table.specs.declared.id.ResourceId.{ResourceId}
@@ -8,7 +8,7 @@ use Rattle.shred_table.specs.Shown.{HasOwnSlots, Lent}
 use Rattle.shred_world.specs.declared.world.view.Shelf.{Shelf}
 use Rattle.shred_world.specs.Views.{lent_slot}
 use Rattle.shred_kept.specs.declared.level.Level.{Level}
-use Rattle.shred_kept.specs.Levels.{AreLaid, HasLaid, IsLaid, LaidBefore, Reach, Stand, lent_by, lent_over}
+use Rattle.shred_kept.specs.Levels.{AreExchanged, AreLaid, HasLaid, LaidBefore, Reach, Stand, lent_by, lent_over}
 
 abbrev last_or : {A : Type 0} → A → List A → A
 last_or d [] = d
@@ -20,6 +20,19 @@ last-end d (y ∷ ys) x = last-end y ys x
 
 same-last : {A : Type 0} (xs ys : List A) (x y : A) → xs ++ x ∷ [] ≡ ys ++ y ∷ [] → x ≡ y
 same-last xs ys x y is = sym (last-end x xs x) ∙ ap (last_or x) is ∙ last-end x ys y
+
+abbrev all_but_last : {A : Type 0} → List A → List A
+all_but_last [] = []
+all_but_last (x ∷ []) = []
+all_but_last (x ∷ y ∷ xs) = x ∷ all_but_last (y ∷ xs)
+
+front-end : {A : Type 0} (xs : List A) (x : A) → all_but_last (xs ++ x ∷ []) ≡ xs
+front-end [] x = refl
+front-end (y ∷ []) x = refl
+front-end (y ∷ z ∷ zs) x = ap (λ ws. y ∷ ws) (front-end (z ∷ zs) x)
+
+same-front : {A : Type 0} (xs ys : List A) (x y : A) → xs ++ x ∷ [] ≡ ys ++ y ∷ [] → xs ≡ ys
+same-front xs ys x y is = sym (front-end xs x) ∙ ap all_but_last is ∙ front-end ys y
 
 some-are : (n : ℕ) → 0 < n → (n == 0) ≡ false
 some-are n some = grind (arith, nat_tests, some)
@@ -112,3 +125,10 @@ module _ {V : Type 0} where
       nothing [] l same = cc
       nothing (x ∷ xs) l same = cc
   laid-some f levels ids own (x ∷ xs) laid = omega arith
+
+  -- a list of which the last was taken off and put back with another table
+  pub exchanged : (old front new : List (Level V)) (level last : Level V) (table left : Table V) → old ≡ front ++ level ∷ [] → new ≡ front ++ last ∷ [] → last ≡ record level { table = table } → left ≡ level.table → AreExchanged old table new left
+  exchanged old front new level last table left at now changed went levels ids was (l, is, own, same) =
+      let one : level ≡ l = same-last front levels level l (sym at ∙ is) in
+      let others : front ≡ levels = same-front front levels level l (sym at ∙ is) in
+      ((record level { table = table }, now ∙ ap (λ (x : Level V). front ++ x ∷ []) changed ∙ ap (λ (ls : List (Level V)). ls ++ record level { table = table } ∷ []) others, refl, ap (λ (x : Level V). x.ids.items) one ∙ same), went ∙ ap (λ (x : Level V). x.table) one ∙ own)

@@ -14,7 +14,8 @@ use Rattle.shred_run.specs.Depths.{lists_of, steps_of}
 use Rattle.shred_run.specs.Lanes.{GroupWent, IsReady}
 use Rattle.shred_run.specs.OwnSlots.{lent_before}
 use Rattle.shred_run.specs.Rules.{RuleOwns, RuleStep}
-use Rattle.shred_run.specs.Steps.{Step}
+use Rattle.shred_run.specs.Steppers.{IsStepBy}
+use Rattle.shred_run.specs.Steps.{Outcome, Step}
 use Rattle.shred_table.specs.declared.id.Kind.{Kind}
 use Rattle.shred_table.specs.declared.id.ResourceId.{ResourceId}
 use Rattle.shred_table.specs.declared.table.Table.{Table}
@@ -56,6 +57,10 @@ module _ {V S C E A B : Type 0} (kind : V → Kind) (s : systems.Ghosts S V E A)
   -- each of the groups ran over what the levels lend
   abbrev pub RanOverLevels : Option ℕ → List (Arc (Level V) Global) → Vec (Group V (Work S (Nested V S C))) Global → Answer (StageFault E) → Vec (Group V (Work S (Nested V S C))) Global → Type 0
   RanOverLevels at levels old answer new = WentOver (RuleOwns (lists_of s c) at) kind (RuleStep kind (steps_of s c) at) (lent_by (levels_of levels)) old.items answer new.items
+
+  -- what stands in an entry made its step over what the levels lend
+  abbrev pub SteppedOverLevels : Option ℕ → (reads writes : List ResourceId) → List (Arc (Level V) Global) → Work S (Nested V S C) → Table V → Outcome E → Work S (Nested V S C) → Table V → Type 0
+  SteppedOverLevels at reads writes levels old before outcome new after = IsStepBy kind (RuleOwns (lists_of s c) at) (RuleStep kind (steps_of s c) at) reads writes (lent_by (levels_of levels)) old before outcome new after
 
   -- each of the groups ran over the table, before the shelf
   abbrev pub RanBefore : Option ℕ → Table V → List (Shelf V) → Vec (Group V (Work S (Nested V S C))) Global → Answer (StageFault E) → Vec (Group V (Work S (Nested V S C))) Global → Type 0

@@ -53,6 +53,14 @@ module _ {V : Type 0} where
   abbrev pub IsLast : List (Level V) → Table V → Type 0
   IsLast laid table = (levels : List (Level V)) (ids : List ResourceId) (was : Table V) → HasLaid levels ids was laid → table ≡ was
 
+  -- the table of the last level was changed for another, whose place it has now
+  abbrev pub AreExchanged : List (Level V) → Table V → List (Level V) → Table V → Type 0
+  AreExchanged old table new left = (levels : List (Level V)) (ids : List ResourceId) (was : Table V) → HasLaid levels ids was old → HasLaid levels ids table new × (left ≡ was)
+
+  -- there is a level more, with these ids
+  abbrev pub HasLevelFor : List (Arc (Level V) Global) → List ResourceId → List (Arc (Level V) Global) → Type 0
+  HasLevelFor levels ids laid = (table : Table V) × HasLaid (levels_of levels) ids table (levels_of laid)
+
   -- the last of the levels lies before the shelf, and the others are as they were
   abbrev pub LaidBefore : List (Level V) → List (Shelf V) → List (Level V) → Type 0
   LaidBefore levels shelf laid = (level : Level V) × (laid ≡ levels ++ level ∷ []) × LiesBefore level.ids.items shelf level.table

@@ -4,33 +4,36 @@ ghost use Rattle.std.specs.Prelude.{◌≡◌, ◌≤◌, [], ◌∷◌, true, f
 ghost use Rattle.shred_model.specs.Beside.{AreApart};
 ghost use Rattle.shred_model.specs.Plan.{group_access};
 ghost use Rattle.shred_run.specs.Depths.{lists_of};
-ghost use Rattle.shred_run.specs.Hands.{KeepsRoom, some_writes};
+ghost use Rattle.shred_run.specs.Hands.{HasEntryRoom, KeepsRoom, is_single, some_writes};
 ghost use Rattle.shred_run.specs.OneBatch.{is_batch, is_one_batch};
-ghost use Rattle.shred_run.specs.OwnLists.{IsGroupOf};
-ghost use Rattle.shred_run.specs.OwnSlots.{HasSlotsFor, LiesBefore};
-ghost use Rattle.shred_run.specs.PlanOf.{groups_plan};
+ghost use Rattle.shred_run.specs.OwnLists.{IsEntryOf, IsGroupOf};
+ghost use Rattle.shred_run.specs.OwnSlots.{HasJustSlots, HasOnlySlots, HasSlotsFor, LendsSome, LiesBefore};
+ghost use Rattle.shred_run.specs.PlanOf.{entry_plan, groups_plan};
 ghost use Rattle.shred_run.specs.Rules.{RuleOwns};
+ghost use Rattle.shred_table.specs.Shown.{HasOwnSlots};
 ghost use Rattle.shred_world.specs.Views.{lent_slot};
-ghost use Rattle.shred_run.specs.Circles.{BatchFits, PartsFit, TierFits, TiersFit, GroupsOwn, GroupReady, GroupsReady, WorkStepped, BatchRan, RoundsRan, TiersRan, TierTurned, GroupsTurned, GroupRan, GroupsRan, PartsStay, TiersStay};
-ghost use Rattle.shred_kept.specs.Lanes.{RanBefore, RanOverLevels, ReadyBefore, ReadyOverLevels};
-ghost use Rattle.shred_kept.specs.Levels.{LaidBefore, Stand, levels_of};
+ghost use Rattle.shred_run.specs.Circles.{BatchFits, PartsFit, TierFits, TiersFit, GroupsOwn, GroupReady, GroupsReady, WorkStepped, EntryStepped, BatchRan, RoundsRan, TiersRan, TierTurned, GroupsTurned, GroupRan, GroupsRan, PartsStay, TiersStay};
+ghost use Rattle.shred_kept.specs.Lanes.{RanBefore, RanOverLevels, ReadyBefore, ReadyOverLevels, SteppedOverLevels};
+ghost use Rattle.shred_kept.specs.Levels.{HasLevelFor, LaidBefore, Stand, lent_by, levels_of};
 
 use crate::cut::put_back;
 use crate::groups::{run_in_order, values_back, values_out};
 use crate::lane::StageLane;
 use crate::lane_crew::LaneCrew;
+use crate::laying::exchange;
 use crate::level::Level;
 use crate::share::share_of;
-use shred_run::calls::{Ask, Begin};
+use shred_run::calls::{Ask, Begin, Run, call_over};
 use shred_run::control::{KeptController, call_kept};
 use shred_run::depth::depth_by;
-use shred_run::entry::Group;
+use shred_run::entry::{Group, GroupEntry};
 use shred_run::first::first;
 use shred_run::in_order::group_over;
 use shred_run::loan::{Loan, behind};
 use shred_run::one_batch::{is_lone_batch, is_one_batch};
 use shred_run::work::within;
 use shred_run::{Batch, BatchController, Fault, Nested, StageFault, System, Tier, Work};
+use shred_world::parting::{move_back, move_out};
 use shred_world::{ResourceId, ResourceValue, Shelf, Table};
 use std::sync::{Arc, Wait};
 
@@ -456,10 +459,139 @@ fn run_group<
     ensures { GroupRan V.kind_of S.System C.BatchController at shelf.now group.old result group.new }
 {
     if is_one_batch(group.entries.as_slice()) {
-        run_one_batch(rt, crew, at, group, shelf, levels)
-    } else {
-        group_over(at, group, shelf)
+        return run_one_batch(rt, crew, at, group, shelf, levels);
     }
+    let Some(mut laid) = crew.room_for(&*group, levels) else {
+        return group_over(at, group, shelf);
+    };
+    let answer = run_entries(rt, crew, at, group, shelf, levels, &mut laid);
+    crew.levels.keep_room(laid);
+    answer
+}
+
+// The entries of a group of several, in order, up to the first that is not Done.
+#[cycle(kept)]
+fn run_entries<
+    R: Wait,
+    V: ResourceValue + Drop,
+    S: System<V, Error = E> + Drop,
+    C: BatchController<V, Error = E> + Drop,
+    E: Drop,
+>(
+    rt: &R,
+    crew: &mut LaneCrew<V, S, C>,
+    at: Option<usize>,
+    group: &mut Group<V, Work<S, Nested<V, S, C>>>,
+    shelf: &[Shelf<V>; 1],
+    levels: &[Arc<Level<V>>],
+    laid: &mut Vec<Arc<Level<V>>>,
+) -> Result<(), StageFault<E>>
+    requires stand { Stand (levels_of levels.now) shelf.now }
+    requires ready { GroupReady S.System C.BatchController at shelf.now group.old }
+    requires several { is_single group.old ≡ false }
+    requires room { HasLevelFor levels.now group.old.written.items laid.old.items }
+    ensures { GroupRan V.kind_of S.System C.BatchController at shelf.now group.old result group.new }
+{
+    let written = group.written.as_slice();
+    let hand = &mut group.hand;
+    let entries = group.entries.as_mut_slice();
+    for entry in entries.iter_mut() {
+        if let Err(fault) = run_in_own_hand(
+            rt, crew, at, entry, written, shelf, levels, laid, hand,
+        ) {
+            return Err(StageFault::System {
+                id: entry.id,
+                fault,
+            });
+        }
+    }
+    Ok(())
+}
+
+// One step of what stands in the entry over its own hand, into which what it writes is moved before, and out of it after. Meanwhile the
+// group's hand is the last of the levels.
+#[cycle(kept)]
+fn run_in_own_hand<
+    R: Wait,
+    V: ResourceValue + Drop,
+    S: System<V, Error = E> + Drop,
+    C: BatchController<V, Error = E> + Drop,
+    E: Drop,
+>(
+    rt: &R,
+    crew: &mut LaneCrew<V, S, C>,
+    at: Option<usize>,
+    entry: &mut GroupEntry<V, Work<S, Nested<V, S, C>>>,
+    written: &[ResourceId],
+    shelf: &[Shelf<V>; 1],
+    levels: &[Arc<Level<V>>],
+    laid: &mut Vec<Arc<Level<V>>>,
+    own: &mut Table<V>,
+) -> Result<(), Fault<E>>
+    requires stand { Stand (levels_of levels.now) shelf.now }
+    requires laid { HasLevelFor levels.now written.now laid.old.items }
+    requires own_lists { IsEntryOf (RuleOwns (lists_of S.System C.BatchController) at) entry.old }
+    requires own_slots { HasOwnSlots entry.old.writes.items (lent_slot shelf.now) own.old }
+    requires just_slots { HasJustSlots written.now own.old }
+    requires room { HasEntryRoom own.old entry.old }
+    ensures stepped { EntryStepped V.kind_of S.System C.BatchController at shelf.now entry.old own.old result entry.new own.new }
+    ensures plan { entry_plan entry.new ≡ entry_plan entry.old }
+    ensures own_lists { IsEntryOf (RuleOwns (lists_of S.System C.BatchController) at) entry.new }
+    ensures room { HasEntryRoom own.new entry.new }
+    ensures laid { HasLevelFor levels.now written.now laid.new.items }
+{
+    move_out(own, entry.writes.as_slice(), &mut entry.hand);
+    exchange(rt, laid, own);
+    let outcome = run_behind(
+        rt,
+        crew,
+        at,
+        entry.reads.as_slice(),
+        entry.writes.as_slice(),
+        shelf,
+        levels,
+        laid.as_slice(),
+        &mut entry.work,
+        &mut entry.hand,
+    );
+    exchange(rt, laid, own);
+    move_back(own, entry.writes.as_slice(), &mut entry.hand);
+    outcome
+}
+
+// One step of what stands in an entry, over levels of which the last lies before the shelf.
+#[cycle(kept)]
+fn run_behind<
+    's,
+    R: Wait,
+    V: ResourceValue + Drop,
+    S: System<V, Error = E> + Drop,
+    C: BatchController<V, Error = E> + Drop,
+    E: Drop,
+>(
+    rt: &R,
+    crew: &mut LaneCrew<V, S, C>,
+    at: Option<usize>,
+    reads: &'s [ResourceId],
+    writes: &'s [ResourceId],
+    shelf: &'s [Shelf<'s, V>],
+    levels: &[Arc<Level<V>>],
+    laid: &[Arc<Level<V>>],
+    work: &mut Work<S, Nested<V, S, C>>,
+    own: &mut Table<V>,
+) -> Result<(), Fault<E>>
+    requires stand { Stand (levels_of levels.now) shelf.now }
+    requires laid { LaidBefore (levels_of levels.now) shelf.now (levels_of laid.now) }
+    requires own_lists { (RuleOwns (lists_of S.System C.BatchController) at) work.old reads.now writes.now }
+    requires own_slots { HasOwnSlots writes.now (lent_by (levels_of laid.now)) own.old }
+    requires only_own { HasOnlySlots writes.now own.old }
+    ensures stepped { SteppedOverLevels V.kind_of S.System C.BatchController at reads.now writes.now laid.now work.old own.old result work.new own.new }
+{
+    let Some((level, _)) = laid.split_last() else {
+        unreachable!()
+    };
+    let nearest = behind(&level.table, level.ids.as_slice(), &*shelf);
+    run_work(rt, crew, at, reads, writes, &nearest, laid, work, own)
 }
 
 // The run of a group of one batch over its hand.
@@ -503,7 +635,7 @@ fn run_one_batch<
     }
 }
 
-// One step of a batch that stands in an entry.
+// One step of what stands in an entry, a system or a batch, over a table that lies before what is lent shared.
 #[cycle(kept)]
 fn run_work<
     's,
@@ -523,7 +655,7 @@ fn run_work<
     work: &mut Work<S, Nested<V, S, C>>,
     own: &mut Table<V>,
 ) -> Result<(), Fault<E>>
-    requires batch { is_batch work.old ≡ true }
+    requires behind { is_batch work.old ≡ false → LendsSome shelf.now }
     requires own_lists { (RuleOwns (lists_of S.System C.BatchController) at) work.old reads.now writes.now }
     requires before { LiesBefore writes.now shelf.now own.old }
     requires stand { Stand (levels_of levels.now) shelf.now }
@@ -531,7 +663,14 @@ fn run_work<
 {
     let depth = depth_by(at, work);
     match work {
-        Work::System(_) => unreachable!(),
+        Work::System(system) => {
+            let loan = Loan {
+                reads,
+                writes,
+                shelf,
+            };
+            call_over(&Run, &loan, system, own)
+        }
         Work::Batch(nested) => run_batch(
             rt,
             crew,

@@ -1,6 +1,7 @@
 //! What hands out lanes.
-ghost use Rattle.std.specs.Prelude.{◌≡◌, ◌≤◌, ◌++◌, IfSome, IfNone, vec_capacity, vec_len};
-ghost use Rattle.shred_kept.specs.Levels.{levels_of};
+ghost use Rattle.std.specs.Prelude.{◌≡◌, false, ◌≤◌, ◌++◌, IfSome, IfNone, vec_capacity, vec_len};
+ghost use Rattle.shred_run.specs.Hands.{is_single};
+ghost use Rattle.shred_kept.specs.Levels.{HasLevelFor, levels_of};
 
 use crate::crew::Crew;
 use crate::cut::cut_off;
@@ -8,11 +9,10 @@ use crate::lane::StageLane;
 use crate::laying::LevelRooms;
 use crate::level::Level;
 use crate::rooms::Rooms;
-use shred_run::entry::Group;
-use shred_run::one_batch::is_lone_batch;
+use shred_run::entry::{Group, GroupEntry};
 use shred_run::{BatchController, Nested, System, Work};
 use shred_workers::Workers;
-use shred_world::ResourceValue;
+use shred_world::{ResourceValue, Table};
 use std::alloc::Global;
 use std::sync::Arc;
 
@@ -27,6 +27,26 @@ pub(crate) struct LaneCrew<
     pub(crate) crew: Crew<StageLane<V, S, C>>,
     pub(crate) rooms: Rooms<Group<V, Work<S, Nested<V, S, C>>>>,
     pub(crate) levels: LevelRooms<V>,
+}
+
+// Whether a batch stands in one of the entries.
+fn has_batch<V, S, B>(entries: &[GroupEntry<V, Work<S, B>>]) -> bool {
+    for entry in entries {
+        if matches!(&entry.work, Work::Batch(_)) {
+            return true;
+        }
+    }
+    false
+}
+
+// Whether a batch stands in an entry of one of the groups.
+fn have_batch<V, S, B>(groups: &[Group<V, Work<S, B>>]) -> bool {
+    for group in groups {
+        if has_batch(group.entries.as_slice()) {
+            return true;
+        }
+    }
+    false
 }
 
 impl<
@@ -46,7 +66,27 @@ impl<
 
     /// Whether there may be something to hand out: there are places for workers, and several groups or the inner stages of a batch.
     pub(crate) fn may_hand_out(&mut self, groups: &[Group<V, Work<S, Nested<V, S, C>>>]) -> bool {
-        self.crew.len() > 0 && (groups.len() > 1 || is_lone_batch(groups))
+        self.crew.len() > 0 && (groups.len() > 1 || have_batch(groups))
+    }
+
+    /// Room for a level before these, for the hand of a group of several entries, where a batch is among them and there are places for
+    /// workers. None where memory is refused.
+    pub(crate) fn room_for(
+        &mut self,
+        group: &Group<V, Work<S, Nested<V, S, C>>>,
+        levels: &[Arc<Level<V>>],
+    ) -> Option<Vec<Arc<Level<V>>>>
+        ensures several { IfSome result (λ laid. is_single group.now ≡ false) }
+        ensures room { IfSome result (λ laid. HasLevelFor levels.now group.now.written.items laid.items) }
+    {
+        if self.crew.len() == 0
+            || group.entries.len() == 1
+            || !has_batch(group.entries.as_slice())
+        {
+            return None;
+        }
+        let mut none = Table::new(self.levels.alloc());
+        self.levels.lay(levels, group.written.as_slice(), &mut none)
     }
 
     /// The last groups, as a lane. None where memory is refused; then they stay.

@@ -1,7 +1,7 @@
 //! Levels laid behind the hands of groups, and taken up again; the room for them is kept.
 ghost use Rattle.std.specs.Prelude.{◌≡◌, ◌+◌, ◌<◌, ◌++◌, IfSome, IfNone, OnOk, length, vec_capacity, vec_len};
 ghost use Rattle.std.specs.Arc.{arc_value};
-ghost use Rattle.shred_kept.specs.Levels.{HasLaid, IsLast, IsLevelFilled, levels_of};
+ghost use Rattle.shred_kept.specs.Levels.{AreExchanged, HasLaid, IsLast, IsLevelFilled, levels_of};
 
 use crate::level::Level;
 use crate::rooms::Rooms;
@@ -47,9 +47,10 @@ fn fill<V>(level: &mut Arc<Level<V>>, ids: &[ResourceId], table: &mut Table<V>) 
     true
 }
 
-// Moves the table out of the level, once nobody else shares it.
-fn empty<R: Wait, V>(rt: &R, level: &mut Arc<Level<V>>, table: &mut Table<V>)
-    ensures { table.new ≡ (arc_value level.old).table }
+// Changes the table of the level for another, once nobody else shares it.
+fn swap_table<R: Wait, V>(rt: &R, level: &mut Arc<Level<V>>, table: &mut Table<V>)
+    ensures table { table.new ≡ (arc_value level.old).table }
+    ensures level { arc_value level.new ≡ record (arc_value level.old) { table = table.old } }
 {
     for _ in rt.forever() {
         if let Some(place) = Arc::get_mut(level) {
@@ -61,6 +62,18 @@ fn empty<R: Wait, V>(rt: &R, level: &mut Arc<Level<V>>, table: &mut Table<V>)
     unreachable!()
 }
 
+/// Changes the table of the last level for another.
+pub(crate) fn exchange<R: Wait, V>(rt: &R, laid: &mut Vec<Arc<Level<V>>>, table: &mut Table<V>)
+    requires { 0 < vec_len laid.old }
+    ensures { AreExchanged (levels_of laid.old.items) table.old (levels_of laid.new.items) table.new }
+{
+    let Some(mut level) = laid.pop() else {
+        unreachable!()
+    };
+    swap_table(rt, &mut level, table);
+    laid.push_reserved(level);
+}
+
 impl<V: Drop> LevelRooms<V> {
     /// None. It takes no memory.
     pub(crate) fn new(alloc: Global) -> LevelRooms<V> {
@@ -69,6 +82,11 @@ impl<V: Drop> LevelRooms<V> {
             spare: Vec::new(alloc),
             alloc,
         }
+    }
+
+    /// What memory is asked of.
+    pub(crate) fn alloc(&self) -> Global {
+        self.alloc
     }
 
     // A level that nobody shares.
@@ -128,6 +146,15 @@ impl<V: Drop> LevelRooms<V> {
         Some(laid)
     }
 
+    /// Keeps the room of the list and of the last level.
+    pub(crate) fn keep_room(&mut self, laid: Vec<Arc<Level<V>>>) {
+        let mut laid = laid;
+        if let Some(level) = laid.pop() {
+            let _ = self.spare.push(level);
+        }
+        self.lists.keep(laid);
+    }
+
     /// Takes the table of the last level up again.
     pub(crate) fn take_up<R: Wait>(
         &mut self,
@@ -142,7 +169,7 @@ impl<V: Drop> LevelRooms<V> {
         let Some(mut level) = laid.pop() else {
             unreachable!()
         };
-        empty(rt, &mut level, table);
+        swap_table(rt, &mut level, table);
         let _ = self.spare.push(level);
         self.lists.keep(laid);
     }

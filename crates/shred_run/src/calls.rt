@@ -71,7 +71,7 @@ impl<V: ResourceValue, C: BatchController<V, Error = E>, E> Call<V, C, bool, E> 
 
 /// The run of a system.
 #[derive(Drop)]
-pub(crate) struct Run;
+pub struct Run;
 
 impl<V: ResourceValue, S: System<V, Error = E>, E> Call<V, S, (), E> for Run {
     ghost reads_of = { S.reads };
@@ -88,7 +88,7 @@ impl<V: ResourceValue, S: System<V, Error = E>, E> Call<V, S, (), E> for Run {
 
 /// The call, over a table that has what may be written and nothing else, before what is lent shared.
 #[inline(always)]
-pub(crate) fn call_over<V: ResourceValue, C, A, E, K: Call<V, C, A, E>>(
+pub fn call_over<V: ResourceValue, C, A, E, K: Call<V, C, A, E>>(
     call: &K,
     loan: &Loan<V>,
     on: &mut C,

@@ -31,7 +31,7 @@ pub(crate) const UNMET: u8 = 100;
 /// Does that with the count of its number. Once it has seen the others, it is patient.
 #[derive(Drop)]
 pub(crate) struct Adds {
-    number: u64,
+    pub(crate) number: u64,
     does: Does,
     arrived: Arc<AtomicU64>,
     wanted: u64,

@@ -1,9 +1,9 @@
-//! Many dispatches, by one dispatcher and by several.
+//! Many dispatches, by one dispatcher and by several, and the systems that a dispatcher lends.
 
 use crate::adds::ADDS;
 use crate::frames::play;
 use crate::keeping::{expect_counts, first_refusal, kept_on, refusal, stage_of, zeros};
-use shred::DEFAULT_LOOKS;
+use shred::{DEFAULT_LOOKS, SystemId};
 use std::process::Abort;
 use std::sync::Wait;
 use std::test::Fail;
@@ -62,5 +62,18 @@ fn a_thousand_frames_are_played(rt: HostRuntime) -> Result<(), Fail> {
     let mut world = zeros(rt.alloc(), 4)?;
     assert!(rt; play(&rt, &mut world, 1_000).is_ok());
     expect_counts(&rt, &world, 4, 1_000);
+    Ok(())
+}
+
+#[test]
+fn a_system_is_lent_by_its_id(rt: HostRuntime) -> Result<(), Fail> {
+    let builder = stage_of(rt.alloc(), &[ADDS; 3])?;
+    let kept = kept_on(&rt, rt.alloc(), builder, 2, 0)?;
+    let mut lent = None;
+    if let Some(system) = kept.system(SystemId(1)) {
+        lent = Some(system.0.number);
+    }
+    assert_eq!(rt; lent, Some(1));
+    assert!(rt; kept.system(SystemId(3)).is_none());
     Ok(())
 }

@@ -1,7 +1,9 @@
 //! Systems that wait for each other, on workers that are kept, and how many of these there are.
 
 use crate::adds::{ADDS, Does, UNMET};
-use crate::keeping::{beside_a_system, first_refusal, in_batches, kept_on, stage_of, zeros};
+use crate::keeping::{
+    behind_a_system, beside_a_system, first_refusal, in_batches, kept_on, stage_of, zeros,
+};
 use shred::{AddError, DEFAULT_LOOKS};
 use std::alloc::Global;
 use std::process::Abort;
@@ -169,6 +171,45 @@ fn gate_batch_beside_a_system_in_such_a_batch(rt: HostRuntime) -> Result<(), Fai
             assert_eq!(rt; code, Some(UNMET));
         }
     }
+    Ok(())
+}
+
+/// The same two in a batch at the end of a system's group, which is the first of its stage or the last.
+fn code_behind<R: Threads + Wait + Clone + Drop + Send + 'static>(
+    rt: &R,
+    alloc: Global,
+    group_first: bool,
+    turns: u32,
+    threads: usize,
+) -> Result<Option<u8>, AddError> {
+    let does = Does {
+        members: 2,
+        turns,
+        ..ADDS
+    };
+    let inner = stage_of(alloc, &[does, does])?;
+    let outer = behind_a_system(alloc, inner, group_first)?;
+    let mut kept = kept_on(rt, alloc, outer, threads, 0)?;
+    let mut world = zeros(alloc, 6)?;
+    let refusal = first_refusal(&mut kept, &mut world, 3);
+    Ok(refusal.map(|(_, code)| code))
+}
+
+/// The stage has three groups, which take two workers, and the two that wait need a third. Where their group is the first it stays on
+/// the caller's thread, which has both workers out meanwhile.
+#[test]
+fn gate_batch_behind_a_system(rt: HostRuntime) -> Result<(), Fail> {
+    for group_first in [true, false] {
+        for threads in [4, 8] {
+            let code = code_behind(&rt, rt.alloc(), group_first, TURNS, threads)?;
+            assert_eq!(rt; code, None);
+        }
+        for threads in [1, 2] {
+            let code = code_behind(&rt, rt.alloc(), group_first, VAIN, threads)?;
+            assert_eq!(rt; code, Some(UNMET));
+        }
+    }
+    assert_eq!(rt; code_behind(&rt, rt.alloc(), true, VAIN, 3)?, Some(UNMET));
     Ok(())
 }
 

@@ -103,6 +103,31 @@ pub(crate) fn beside_a_system(
     outer.with_batch(Once, inner, "", &[])
 }
 
+/// The plan in a batch at the end of a system's group, which is the first of its stage or the last. Beside it are another batch and a
+/// group of two systems. The systems have the numbers from 2 to 5.
+pub(crate) fn behind_a_system(
+    alloc: Global,
+    inner: Builder,
+    group_first: bool,
+) -> Result<Builder, AddError> {
+    let Ok(arrived) = nobody(alloc) else {
+        return Err(AddError::OutOfMemory);
+    };
+    let mut other: Builder = DispatcherBuilder::new(alloc);
+    other.add(system_of(&arrived, 5, ADDS)?, "", &[])?;
+    let mut outer: Builder = DispatcherBuilder::new(alloc);
+    if group_first {
+        outer.add(system_of(&arrived, 2, ADDS)?, "second", &[])?;
+    }
+    outer = outer.with_batch(Once, other, "", &[])?;
+    outer.add(system_of(&arrived, 3, ADDS)?, "third", &[])?;
+    outer.add(system_of(&arrived, 4, ADDS)?, "", &["third"])?;
+    if !group_first {
+        outer.add(system_of(&arrived, 2, ADDS)?, "second", &[])?;
+    }
+    outer.with_batch(Once, inner, "", &["second"])
+}
+
 /// The plan on so many threads, which are kept.
 pub(crate) fn kept_on<R: Threads + Wait + Clone + Drop + Send + 'static>(
     rt: &R,

@@ -1,10 +1,10 @@
-//! Which refusal is told, and dispatchers that are dropped after it. The last two tests pass whichever request for memory or
+//! Which refusal is told, and dispatchers that are dropped after it. The last three tests pass whichever request for memory or
 //! thread is refused.
 
 use crate::adds::{ADDS, Does};
 use crate::keeping::{
-    Builder, beside_a_system, expect_counts, first_refusal, in_batches, kept_on, refusal, stage_of,
-    zeros,
+    Builder, behind_a_system, beside_a_system, expect_counts, first_refusal, in_batches, kept_on,
+    refusal, stage_of, zeros,
 };
 use shred::AddError;
 use std::alloc::Global;
@@ -157,4 +157,17 @@ fn once_a_stage_has_run_that_a_batch_hands_out_it_takes_none(rt: HostRuntime) {
         };
         expect_no_memory(&rt, builder, 3, 3);
     }
+}
+
+/// The same two in a batch at the end of a system's group, which stays on the caller's thread.
+fn impatient_behind(alloc: Global) -> Result<Builder, AddError> {
+    behind_a_system(alloc, stage_of(alloc, &[IMPATIENT; 2])?, true)
+}
+
+#[test]
+fn once_a_batch_behind_a_system_has_handed_out_it_takes_none(rt: HostRuntime) {
+    let Ok(builder) = impatient_behind(rt.alloc()) else {
+        return;
+    };
+    expect_no_memory(&rt, builder, 4, 6);
 }

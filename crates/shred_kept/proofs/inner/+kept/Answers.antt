@@ -1,32 +1,39 @@
-use Rattle.std.proofs.Common.{◌≡◌, ◌≤◌, ◌+◌, ◌-◌, Ok, List, length, map, refl, sym, ◌∙◌, ap, subst, subst₂, arith, rules, All, None, true, false, Err, ◌∷◌, []}
-use Rattle.std.proofs.Math.ListN.{set, length-append}
+use Rattle.std.proofs.Common.{◌≡◌, ◌≤◌, ◌+◌, ◌-◌, Ok, List, cond, length, map, refl, sym, ◌∙◌, ap, subst, subst₂, arith, rules, All, None, true, false, Err, ◌∷◌, []}
+use Rattle.std.proofs.Math.ListN.{set, length-append, length-set}
 use Rattle.std.proofs.lemmas.List.{map-append, with_items_is}
 use Rattle.shred_model.proofs.Joined.AllWent.{AllWent-halves, WentTo, WentTo-start, WentTo-length, WentTo-at, WentTo-more, WentTo-end}
-use Rattle.shred_run.specs.Depths.{Owns, WorkStep, lists_of, steps_of}
+use Rattle.shred_run.specs.Depths.{lists_of, steps_of}
 use Rattle.shred_run.specs.Entries.{entry_answer}
 use Rattle.shred_run.specs.Hands.{IsBack, some_writes}
 use Rattle.shred_run.specs.Lanes.{GroupWent, IsReady}
-use Rattle.shred_run.specs.OwnSlots.{LiesBefore, lent_before}
-use Rattle.shred_run.specs.Rules.{RuleOwns, RuleStep, bound_of}
+use Rattle.shred_run.specs.OneBatch.{is_batch}
+use Rattle.shred_run.specs.OwnSlots.{HasOnlySlots, LendsSome, LiesBefore, lent_before}
+use Rattle.shred_run.specs.Steppers.{IsStepBy}
+use Rattle.shred_run.specs.Rules.{RuleOwns, RuleStep, bound_of, rule_depth}
 use Rattle.shred_run.specs.declared.entry.StageFault.TheVariants.{System}
 use Rattle.shred_run.specs.declared.work.Nested.TheViews.{out-roll-Nested}
-use Rattle.shred_table.specs.Slots.{slot_at}
+use Rattle.shred_table.specs.Slots.{among, slot_at}
 use Rattle.shred_table.specs.declared.id.ResourceId.{ResourceId}
 use Rattle.shred_table.specs.declared.table.Table.{Table}
 use Rattle.shred_world.specs.Views.{lent_slot}
 use Rattle.shred_run.proofs.Circle.Bounds.{bounded_beside}
+use Rattle.shred_run.proofs.Circle.Entries.{entries-more, entries-start, entry-slots, group-done, group-faulted}
 use Rattle.shred_run.proofs.Circle.OneBatch.{one-entry, one-took, one-went, took-of_one}
 use Rattle.shred_run.proofs.Circle.Rounds.{batch-ran, parts-begun, rounds-end, rounds-fault, rounds-inner_fault, rounds-next, rounds-no}
 use Rattle.shred_run.proofs.Circle.Tiers.{groups-back, groups-ready, groups-took, out-slots, tiers-end, tiers-fault, tiers-next, tiers-start}
-use Rattle.shred_run.proofs.Circle.WorkSteps.{rule-below, batch-deep, batch-within, ran-batch}
+use Rattle.shred_run.proofs.Circle.WorkSteps.{rule-below, batch-deep, batch-within, ran-batch, ran-system, system-lists}
+use Rattle.shred_run.proofs.Runs.Handed.{handed}
 use Rattle.shred_run.proofs.Runs.Forked.{out-fits}
 use Rattle.shred_run.proofs.Runs.Hands.{still_before}
-use Rattle.shred_table.specs.Shown.{Lent}
+use Rattle.shred_table.specs.Parting.{AreEmpty, FitsJust, emptied}
+use Rattle.shred_table.specs.Shown.{HasOwnSlots, Lent}
 use Rattle.std.specs.Arc.{arc_value}
+use Rattle.std.specs.declared.alloc.Global.{Global}
+use Rattle.std.specs.declared.sync.Arc.{Arc}
 use Rattle.shred_kept.specs.declared.level.Level.{Level}
 use Rattle.shred_kept.specs.Lanes.{AreReadyOver, IsLaneReady, WentOver}
-use Rattle.shred_kept.specs.Levels.{LaidBefore, lent_by}
-use Rattle.shred_kept.proofs.Lanes.{lane-ready, one-batch, one-before, one-lists}
+use Rattle.shred_kept.specs.Levels.{HasLevelFor, LaidBefore, lent_by, levels_of}
+use Rattle.shred_kept.proofs.Lanes.{hand-fits, hand-left, hand-lies, hand-only, hand-slots, lane-ready, one-batch, one-before, one-lists}
 use Rattle.shred_kept.proofs.Parts.{All-back, All-front, AllWent-length}
 use Rattle.shred_kept.proofs.Levels.{before-laid, laid-some, last-before, lent-laid, stand-laid}
 use Rattle.shred_kept.proofs.inner.+kept.Goals as goal
@@ -136,8 +143,15 @@ run_work-run_batch-requires g t c κs within =
     let deep : 1 ≤ c.depth_by-depth.result = batch-deep (lists_of g.S.System g.C.BatchController) c.args.at c.args.reads.now c.args.writes.now c.in-Batch.is c.depth_by-depth.ensures c.requires.own_lists in
     ((let fall = c.decreases in omega (arith, deep, below, fall)), bounded_beside within (c.requires.before, (c.requires.stand, batch-within (lists_of g.S.System g.C.BatchController) c.args.at c.args.reads.now c.args.writes.now c.in-Batch.is c.depth_by-depth.ensures c.requires.own_lists)))
 
-pub run_work-returns : goal.run_work-returns
-run_work-returns g t c = record { stepped = ran-batch (lists_of g.S.System g.C.BatchController) c.args.at c.args.reads.now c.args.writes.now (steps_of g.S.System g.C.BatchController) c.in-Batch.is c.depth_by-depth.ensures c.requires.own_lists (ap (λ level. level.batch) (out-roll-Nested _ _ _ _)) c.run_batch.ensures }
+pub run_work-call_over-requires-clause-own_lists : goal.run_work-call_over-requires-clause-own_lists
+run_work-call_over-requires-clause-own_lists g t c = system-lists (lists_of g.S.System g.C.BatchController) c.args.reads.now c.args.writes.now (rule_depth c.args.at c.args.work.now) c.args.work.now c.in-System.system c.in-System.is c.requires.own_lists
+
+pub run_work-returns-in-System : goal.run_work-returns-in-System
+run_work-returns-in-System g t c =
+    record { stepped = ran-system (lists_of g.S.System g.C.BatchController) c.args.at c.args.reads.now c.args.writes.now (steps_of g.S.System g.C.BatchController) c.in-System.is c.call_over.ensures }
+
+pub run_work-returns-in-Batch : goal.run_work-returns-in-Batch
+run_work-returns-in-Batch g t c = record { stepped = ran-batch (lists_of g.S.System g.C.BatchController) c.args.at c.args.reads.now c.args.writes.now (steps_of g.S.System g.C.BatchController) c.in-Batch.is c.depth_by-depth.ensures c.requires.own_lists (ap (λ level. level.batch) (out-roll-Nested _ _ _ _)) c.run_batch.ensures }
 
 pub run_over-run_laid-answer-requires : goal.run_over-run_laid-answer-requires
 run_over-run_laid-answer-requires g t c κs within =
@@ -306,6 +320,141 @@ run_one_batch-run_work-requires g t c κs within =
     let group = c.args.group.now in
     let entry = c.index_mut-entry.result.now in
     let was : group.entries.items ≡ entry ∷ [] = one-entry group.entries.items c.requires.one entry c.index_mut-entry.ensures.value in
+    let behind : is_batch entry.work ≡ false → LendsSome c.args.shelf.now = λ system. absurd (let no : true ≡ false = sym (one-batch group.entries.items entry was c.requires.one) ∙ system in cc) in
     let lists = subst₂ (own entry.work) (sym c.as_slice.ensures.value) (sym c.as_slice-2.ensures.value) (one-lists own c.args.shelf.now group entry was c.requires.ready) in
     let before = subst (λ (ids : List ResourceId). LiesBefore ids c.args.shelf.now group.hand) (sym c.as_slice-2.ensures.value) (one-before own c.args.shelf.now group entry was c.requires.ready) in
-    ((let down = c.decreases in omega (arith, down)), bounded_beside within (one-batch group.entries.items entry was c.requires.one, (lists, (before, c.requires.stand))))
+    ((let down = c.decreases in omega (arith, down)), bounded_beside within (behind, (lists, (before, c.requires.stand))))
+
+pub run_group-run_entries-answer-requires : goal.run_group-run_entries-answer-requires
+run_group-run_entries-answer-requires g t c κs within =
+    ((let down = c.decreases in omega (arith, down)), bounded_beside within (omega arith, (c.requires.stand, (c.requires.ready, (c.in-Some.ensures.several, c.in-Some.ensures.room)))))
+
+pub run_entries-loop-entry-init : goal.run_entries-loop-entry-init
+run_entries-loop-entry-init g t c =
+    (entries-start c.args.group.now c.requires.ready c.as_mut_slice-entries.ensures.value (sym c.requires.several), subst (λ (ids : List ResourceId). HasLevelFor c.args.levels.now ids c.args.laid.now.items) (sym c.as_slice-written.ensures.value) c.requires.room)
+
+pub run_entries-loop-entry-preserved : goal.run_entries-loop-entry-preserved
+run_entries-loop-entry-preserved g t c =
+    (entries-more c.loop-entry.invariant.0 c.entry-item.result (omega arith) c.run_in_own_hand.new.entry c.run_in_own_hand.new.own c.run_in_own_hand.ensures.stepped c.run_in_own_hand.ensures.plan c.run_in_own_hand.ensures.own_lists c.run_in_own_hand.ensures.room (search rules), c.run_in_own_hand.ensures.laid)
+
+pub run_entries-returns : goal.run_entries-returns
+run_entries-returns g t c =
+    let same : length c.loop-entry.entries ≡ c.args.group.now.entries.len = c.loop-entry.auto.entries ∙ c.as_mut_slice-entries.ensures.len in
+    group-done c.args.group.now c.requires.ready c.as_mut_slice-entries.ensures.value c.loop-entry.invariant.0 _ refl refl (with_items_is c.args.group.now.entries c.loop-entry.entries same) refl (omega arith)
+
+pub run_entries-returns-in-Err : goal.run_entries-returns-in-Err
+run_entries-returns-in-Err g t c =
+    let same : length (set c.loop-entry.entries c.loop-entry.entry-index c.run_in_own_hand.new.entry) ≡ c.args.group.now.entries.len = simp length-set (c.loop-entry.auto.entries ∙ c.as_mut_slice-entries.ensures.len) in
+    group-faulted c.args.group.now c.requires.ready c.as_mut_slice-entries.ensures.value c.loop-entry.invariant.0 _ refl refl c.entry-item.result (omega arith) c.run_in_own_hand.new.entry c.run_in_own_hand.new.own c.run_in_own_hand.ensures.stepped c.run_in_own_hand.ensures.plan c.run_in_own_hand.ensures.own_lists c.in-Err.fault c.in-Err.is (with_items_is c.args.group.now.entries _ same) refl
+
+pub run_entries-run_in_own_hand-requires : goal.run_entries-run_in_own_hand-requires
+run_entries-run_in_own_hand-requires g t c κs within =
+    let ran = c.loop-entry.invariant.0 in
+    let own_lists = ran.own_lists c.loop-entry.entry-index c.entry-item.result (omega arith) in
+    let own_slots = entry-slots c.args.group.now c.requires.ready c.as_mut_slice-entries.ensures.value ran c.entry-item.result (omega arith) in
+    let just_slots = λ (id : ResourceId). ran.slots id ∙ c.requires.ready.just_slots id ∙ ap (λ (ids : List ResourceId). among ids id) (sym c.as_slice-written.ensures.value) in
+    let room = ran.places c.loop-entry.entry-index c.entry-item.result (omega arith) in
+    ((let down = c.decreases in omega (arith, down)), bounded_beside within (omega arith, (c.requires.stand, (c.loop-entry.invariant.1, (own_lists, (own_slots, (just_slots, room)))))))
+
+pub run_in_own_hand-exchange-requires : goal.run_in_own_hand-exchange-requires
+run_in_own_hand-exchange-requires g t c =
+    let some = laid-some arc_value (levels_of c.args.levels.now) c.args.written.now c.requires.laid.0 c.args.laid.now.items c.requires.laid.1 in
+    let counted = c.args.laid.now.ok in
+    omega (arith, some, counted)
+
+pub run_in_own_hand-run_behind-outcome-requires : goal.run_in_own_hand-run_behind-outcome-requires
+run_in_own_hand-run_behind-outcome-requires g t c κs within =
+    let levels = levels_of c.args.levels.now in
+    let shelf = c.args.shelf.now in
+    let entry = c.args.entry.now in
+    let own = c.args.own.now in
+    let after = c.move_out.new.table in
+    let hand = c.move_out.new.hand in
+    let laid = levels_of c.exchange.new.laid.items in
+    let has = (c.exchange.ensures levels c.args.written.now c.requires.laid.0 c.requires.laid.1).0 in
+    let taken = rw c.as_slice.ensures.value at c.move_out.ensures.hand in
+    let left = rw c.as_slice.ensures.value at c.move_out.ensures.left in
+    let lies = hand-lies entry.writes.items own after hand taken left c.args.written.now shelf c.requires.just_slots in
+    let before = subst (λ (laid : List (Arc (Level g.row.V.Denot) Global)). LaidBefore levels shelf (levels_of laid)) (sym c.as_slice-4.ensures.value) (before-laid levels shelf c.requires.stand c.args.written.now after laid lies has) in
+    let lists = subst₂ (RuleOwns (lists_of g.S.System g.C.BatchController) c.args.at entry.work) (sym c.as_slice-2.ensures.value) (sym c.as_slice-3.ensures.value) c.requires.own_lists.lists in
+    let lent = lent-laid levels shelf c.requires.stand c.args.written.now after laid has in
+    let slots = subst (λ (lent : Lent g.row.V.Denot). HasOwnSlots entry.writes.items lent hand) (sym lent) (hand-slots entry.writes.items own after hand taken left (lent_slot shelf) c.requires.own_slots) in
+    let own_slots = subst₂ (λ (ids : List ResourceId) (laid : List (Arc (Level g.row.V.Denot) Global)). HasOwnSlots ids (lent_by (levels_of laid)) hand) (sym c.as_slice-3.ensures.value) (sym c.as_slice-4.ensures.value) slots in
+    let only_own = subst (λ (ids : List ResourceId). HasOnlySlots ids hand) (sym c.as_slice-3.ensures.value) (hand-only entry.writes.items own after hand taken left) in
+    ((let down = c.decreases in omega (arith, down)), bounded_beside within (c.requires.stand, (before, (lists, (own_slots, only_own)))))
+
+pub run_in_own_hand-exchange-requires-2 : goal.run_in_own_hand-exchange-requires-2
+run_in_own_hand-exchange-requires-2 g t c =
+    let has = (c.exchange.ensures (levels_of c.args.levels.now) c.args.written.now c.requires.laid.0 c.requires.laid.1).0 in
+    let some = laid-some arc_value (levels_of c.args.levels.now) c.args.written.now c.move_out.new.table c.exchange.new.laid.items has in
+    let counted = c.exchange.new.laid.ok in
+    omega (arith, some, counted)
+
+pub run_in_own_hand-move_back-requires : goal.run_in_own_hand-move_back-requires
+run_in_own_hand-move_back-requires g t c =
+    let entry = c.args.entry.now in
+    let own = c.args.own.now in
+    let after = c.exchange-2.new.table in
+    let hand = c.move_out.new.hand in
+    let has = (c.exchange.ensures (levels_of c.args.levels.now) c.args.written.now c.requires.laid.0 c.requires.laid.1).0 in
+    let same : after ≡ c.move_out.new.table = (c.exchange-2.ensures (levels_of c.args.levels.now) c.args.written.now c.move_out.new.table has).1 in
+    let taken = rw c.as_slice.ensures.value at c.move_out.ensures.hand in
+    let left = subst (λ (table : Table g.row.V.Denot). (q : ResourceId) → slot_at table q ≡ cond (among entry.writes.items q) (emptied (slot_at own q)) (slot_at own q)) (sym same) (rw c.as_slice.ensures.value at c.move_out.ensures.left) in
+    let fits = hand-fits entry.writes.items own after hand taken left c.run_behind-outcome.new.own c.run_behind-outcome.ensures.stepped.slots in
+    let empty = hand-left entry.writes.items own after hand taken left in
+    record {
+      slots = subst (λ (ids : List ResourceId). FitsJust ids (slot_at after) c.run_behind-outcome.new.own) (sym c.as_slice-5.ensures.value) fits;
+      empty = subst (λ (ids : List ResourceId). AreEmpty (among ids) after) (sym c.as_slice-5.ensures.value) empty;
+    }
+
+pub run_in_own_hand-returns-clause-stepped : goal.run_in_own_hand-returns-clause-stepped
+run_in_own_hand-returns-clause-stepped g t c =
+    let levels = levels_of c.args.levels.now in
+    let shelf = c.args.shelf.now in
+    let own = c.args.own.now in
+    let after = c.exchange-2.new.table in
+    let has = (c.exchange.ensures levels c.args.written.now c.requires.laid.0 c.requires.laid.1).0 in
+    let same : after ≡ c.move_out.new.table = (c.exchange-2.ensures levels c.args.written.now c.move_out.new.table has).1 in
+    let taken = rw c.as_slice.ensures.value at c.move_out.ensures.hand in
+    let left = subst (λ (table : Table g.row.V.Denot). (q : ResourceId) → slot_at table q ≡ cond (among c.args.entry.now.writes.items q) (emptied (slot_at own q)) (slot_at own q)) (sym same) (rw c.as_slice.ensures.value at c.move_out.ensures.left) in
+    let back = rw c.as_slice-5.ensures.value at c.move_back.ensures.back in
+    let lent = lent-laid levels shelf c.requires.stand c.args.written.now c.move_out.new.table (levels_of c.exchange.new.laid.items) has in
+    let behind = λ (q : ResourceId). ap (λ (lent : Lent g.row.V.Denot). lent q) lent ∙ ap (λ (table : Table g.row.V.Denot). lent_before table (lent_slot shelf) q) (sym same) in
+    handed own after c.move_back.new.table c.move_out.new.hand c.run_behind-outcome.new.own taken left back behind (rw (c.as_slice-2.ensures.value, c.as_slice-3.ensures.value, c.as_slice-4.ensures.value) at c.run_behind-outcome.ensures.stepped)
+
+pub run_in_own_hand-returns-clause-laid : goal.run_in_own_hand-returns-clause-laid
+run_in_own_hand-returns-clause-laid g t c =
+    let levels = levels_of c.args.levels.now in
+    let has = (c.exchange.ensures levels c.args.written.now c.requires.laid.0 c.requires.laid.1).0 in
+    (c.exchange.new.table, (c.exchange-2.ensures levels c.args.written.now c.move_out.new.table has).0)
+
+pub run_behind-behind-nearest-requires : goal.run_behind-behind-nearest-requires
+run_behind-behind-nearest-requires g t c =
+    let table = ap (λ (level : Level g.row.V.Denot). level.table) c.deref.ensures in
+    let ids = c.as_slice.ensures.value ∙ ap (λ (level : Level g.row.V.Denot). level.ids.items) c.deref-2.ensures in
+    let at = ap (map arc_value) c.in-Some.ensures.cases.0 ∙ map-append arc_value c.in-Some.field-0-1.now (c.in-Some.level.now ∷ []) in
+    (omega arith, subst₂ (λ (ids : List ResourceId) (table : Table g.row.V.Denot). LiesBefore ids c.args.shelf.now table) (sym ids) (sym table) (last-before (map arc_value c.args.levels.now) c.args.shelf.now c.requires.stand (map arc_value c.args.laid.now) c.requires.laid (map arc_value c.in-Some.field-0-1.now) (arc_value c.in-Some.level.now) at))
+
+pub run_behind-run_work-requires : goal.run_behind-run_work-requires
+run_behind-run_work-requires g t c κs within =
+    let nearest = c.behind-nearest.result in
+    let table = ap (λ (level : Level g.row.V.Denot). level.table) c.deref.ensures in
+    let others = map arc_value c.in-Some.field-0-1.now in
+    let at = ap (map arc_value) c.in-Some.ensures.cases.0 ∙ map-append arc_value c.in-Some.field-0-1.now (c.in-Some.level.now ∷ []) in
+    let some : LendsSome nearest = search rules in
+    let stand = stand-laid (map arc_value c.args.levels.now) c.args.shelf.now c.requires.stand (map arc_value c.args.laid.now) c.requires.laid others (arc_value c.in-Some.level.now) at nearest some (λ id. c.behind-nearest.ensures id ∙ ap (λ (table : Table g.row.V.Denot). lent_before table (lent_slot c.args.shelf.now) id) table) in
+    let behind : is_batch c.args.work.now ≡ false → LendsSome nearest = λ system. some in
+    let slots = subst (λ (lent : Lent g.row.V.Denot). HasOwnSlots c.args.writes.now lent c.args.own.now) (λ i id. sym (stand.shows id) i) c.requires.own_slots in
+    let before : LiesBefore c.args.writes.now nearest c.args.own.now = record { own_slots = slots; only_own = λ lends. c.requires.only_own } in
+    ((let down = c.decreases in omega (arith, down)), bounded_beside within (behind, (c.requires.own_lists, (before, stand))))
+
+pub run_behind-returns : goal.run_behind-returns
+run_behind-returns g t c =
+    let kind = g.V.ResourceValue.kind_of in
+    let own = RuleOwns (lists_of g.S.System g.C.BatchController) c.args.at in
+    let step = RuleStep kind (steps_of g.S.System g.C.BatchController) c.args.at in
+    let table = ap (λ (level : Level g.row.V.Denot). level.table) c.deref.ensures in
+    let others = map arc_value c.in-Some.field-0-1.now in
+    let at = ap (map arc_value) c.in-Some.ensures.cases.0 ∙ map-append arc_value c.in-Some.field-0-1.now (c.in-Some.level.now ∷ []) in
+    let stand = stand-laid (map arc_value c.args.levels.now) c.args.shelf.now c.requires.stand (map arc_value c.args.laid.now) c.requires.laid others (arc_value c.in-Some.level.now) at c.behind-nearest.result (search rules) (λ id. c.behind-nearest.ensures id ∙ ap (λ (table : Table g.row.V.Denot). lent_before table (lent_slot c.args.shelf.now) id) table) in
+    record { stepped = subst (λ (lent : Lent g.row.V.Denot). IsStepBy kind own step c.args.reads.now c.args.writes.now lent c.args.work.now c.args.own.now c.run_work.result c.run_work.new.work c.run_work.new.own) (λ i id. stand.shows id i) c.run_work.ensures.stepped }

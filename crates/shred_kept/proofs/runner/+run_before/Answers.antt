@@ -1,4 +1,4 @@
-use Rattle.std.proofs.Common.{◌≡◌, ◌∙◌, List, length, map, ap, subst, subst₂, sym, arith, rules}
+use Rattle.std.proofs.Common.{◌≡◌, ◌∙◌, List, map, ap, subst, subst₂, sym, arith, rules}
 use Rattle.std.specs.Arc.{arc_value}
 use Rattle.shred_run.specs.Depths.{lists_of, steps_of}
 use Rattle.shred_run.specs.OwnSlots.{LiesBefore, lent_before}

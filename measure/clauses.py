@@ -4,7 +4,7 @@ import glob
 import re
 import sys
 
-PROGRAMS = {"shredrun", "shredkept", "shredbench", "shredplan", "shredmeasure"}
+PROGRAMS = {"shredrun", "shredkept", "shredbench", "shredplan", "shredmeasure", "storemeasure"}
 
 
 def libraries():

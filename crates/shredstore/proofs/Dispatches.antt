@@ -34,12 +34,12 @@ use Rattle.shredstore.specs.declared.rule.Overflow.{Overflow}
 use Rattle.shredstore.specs.declared.rule_system.RuleSystem.{RuleSystem}
 use Rattle.shredstore.specs.Facts.{OnlyLive, Values}
 use Rattle.shredstore.specs.Meaning.{Meaning}
-use Rattle.shredstore.specs.Plans.{RuleState, RulesOver, RunsRules, rule_relations, rule_state}
+use Rattle.shredstore.specs.Plans.{RuleState, RulesOver, RunsOverAny, RunsRules, rule_relations, rule_state}
 use Rattle.shredstore.specs.Rows.{IsRefusedFor, Pairs, made_beside}
 use Rattle.shredstore.specs.RuleSteps.{IsRuleFault, AppliesRule}
 use Rattle.shredstore.specs.Rules.{applied, applied_all, with_table}
 use Rattle.shredstore.specs.Tables.{table_kind, table_id, value_in, values_in}
-use Rattle.shredstore.specs.Ticks.{RulesDispatched, IsOfSystems, IsOverflowOf, IsTick, RuleRecord, Tells}
+use Rattle.shredstore.specs.Ticks.{IsOfSystems, IsOverflowOf, IsTick, RuleRecord, RulesDispatched, StoreState, Tells, Ticks}
 use Rattle.shredstore.proofs.KeptStates.{Found, Keeps, KeepsRows, replay-found, replay-keeps}
 use Rattle.shredstore.proofs.Lists.{AllByRecursion-weaker}
 use Rattle.shredstore.proofs.PlanOrder.{order-at, order-counts}
@@ -122,9 +122,10 @@ module _ {R : Type 0} (meaning : R → Meaning) where
     pub only-live : (live : ℕ → Bool) → OnlyLive live (values_in before.values) → OnlyLive live (values_in after.values)
     only-live live only entity table some = only entity table (sym (kept.1 entity table) ∙ some)
 
-    -- the same rules stand where they stood
-    pub still-runs : (rules : List R) → RunsRules meaning rules before → RunsRules meaning rules after
-    still-runs rules runs =
+    -- the same rules stand where they stood, whatever is held
+    pub still-runs : (rules : List R) → RunsOverAny meaning rules (λ values. record before { values = values }) → RunsOverAny meaning rules (λ values. record after { values = values })
+    still-runs rules any values =
+        let runs = any before.values in
         let at_before : (place : Agent) (entry : PlanEntry ResourceId) → entry_at after.plan place ≡ Some entry → entry_at before.plan place ≡ Some entry = λ place entry at. sym (ap (λ (p : Plan ResourceId). entry_at p place) ran.plan) ∙ at in
         record {
           in_order = subst KeepsAddition (sym ran.plan) runs.in_order;
@@ -220,12 +221,12 @@ module _ {R : Type 0} (meaning : R → Meaning) where
         of-fault OutOfMemory same = absurd (let told = subst₂ Tells (t.told ∙ ap (λ (f : Fault Overflow). Err (dispatch.System (record { 0 = t.entry.id }) f)) same) is tells in let no = told in cc)
 
   -- what a tick tells
-  pub tick-told : (rules : List R) (before after : RulesOver R) → ∥ RunsRules meaning rules before ∥₁ → (answer : Answer (DispatchError Overflow)) (result : Answer TickError) → RulesDispatched meaning before answer after → Tells answer result → IsTick meaning rules before result after
+  tick-told : (rules : List R) (before after : RulesOver R) → ∥ RunsRules meaning rules before ∥₁ → (answer : Answer (DispatchError Overflow)) (result : Answer TickError) → RulesDispatched meaning before answer after → Tells answer result → IsTick meaning rules before result after
   tick-told rules before after runs answer result ran tells =
       record { answer = answer; dispatch = ran; tells = tells; overflow = λ place entity is. ∥∥₁_map runs (λ r. overflow-told rules before after r answer ran result tells place entity is); no_want = λ place is. ∥∥₁_elim runs (Prim.hlevel props) (λ r. never-wants rules before after r answer ran result tells place is) }
 
   -- the entity that it tells had a value before, so it is live
-  pub overflow-live : (rules : List R) (before after : RulesOver R) (result : Answer TickError) → IsTick meaning rules before result after → (live : ℕ → Bool) → OnlyLive live (values_in before.values) → (place entity : ℕ) → result ≡ Err (tick.Overflow place entity) → live entity ≡ true
+  overflow-live : (rules : List R) (before after : RulesOver R) (result : Answer TickError) → IsTick meaning rules before result after → (live : ℕ → Bool) → OnlyLive live (values_in before.values) → (place entity : ℕ) → result ≡ Err (tick.Overflow place entity) → live entity ≡ true
   overflow-live rules before after result ticked live only place entity is = ∥∥₁_elim (ticked.overflow place entity is) (Prim.hlevel props) its where
     ran : RulesDispatched meaning before ticked.answer after
     ran = ticked.dispatch
@@ -257,13 +258,28 @@ module _ {R : Type 0} (meaning : R → Meaning) where
       (in-order R (RuleState R) (NoBatch Overflow) Overflow meaning (λ plain. plain.0.0) states rules 0 added.order rules (λ k. ap (slice_get rules) (let z : 0 + k ≡ k = omega arith in z)) (omega arith) counts has)
       (entries-run R (RuleState R) (NoBatch Overflow) Overflow meaning (λ plain. plain.0.0) table_kind (rule_relations meaning) applies added.depth (occupants_of before) added.order added.list there added.run) added.replays
 
-  -- what is held does not matter to which rules stand in a plan
-  pub runs-over : (rules : List R) (situation : RulesOver R) (values : Held (Only Pairs)) → RunsRules meaning rules situation → RunsRules meaning rules (record situation { values = values })
-  runs-over rules situation values runs = record { in_order = runs.in_order; one_place = runs.one_place; each = runs.each; stands = runs.stands }
-
   -- where a tick tells that it is Done, it applied the rules
-  pub tick-applies : (rules : List R) (before after : RulesOver R) → ∥ RunsRules meaning rules before ∥₁ → (answer : Answer (DispatchError Overflow)) (result : Answer TickError) → RulesDispatched meaning before answer after → Tells answer result → OnOk result ((entity table : ℕ) → values_in after.values entity table ≡ applied_all meaning rules (values_in before.values) entity table)
+  tick-applies : (rules : List R) (before after : RulesOver R) → ∥ RunsRules meaning rules before ∥₁ → (answer : Answer (DispatchError Overflow)) (result : Answer TickError) → RulesDispatched meaning before answer after → Tells answer result → OnOk result ((entity table : ℕ) → values_in after.values entity table ≡ applied_all meaning rules (values_in before.values) entity table)
   tick-applies rules before after runs (Ok ended) (Ok told) ran tells = λ entity table. ∥∥₁_elim runs (Prim.hlevel props) (λ r. ap (λ v. v entity table) (ticked rules before after r ran))
   tick-applies rules before after runs (Ok ended) (Err error) ran tells = tt
   tick-applies rules before after runs (Err refused) (Ok told) ran tells = absurd tells
   tick-applies rules before after runs (Err refused) (Err error) ran tells = tt
+
+  -- a store whose tables are those of the plan
+  abbrev pub stood : List R → (ℕ → Bool) → (next tables : ℕ) → RulesOver R → StoreState R
+  stood rules live next tables situation = record { rules = rules; contents = record { facts = record { live = live; value = values_in situation.values }; next = next; tables = tables }; situation = situation }
+
+  -- a tick does what it says
+  pub ticks : (rules : List R) (live : ℕ → Bool) (next tables : ℕ) (before after : RulesOver R) (answer : Answer (DispatchError Overflow)) (result : Answer TickError) → RulesDispatched meaning before answer after → Tells answer result
+      → ∥ RunsOverAny meaning rules (λ values. record before { values = values }) ∥₁ → OnlyLive live (values_in before.values) → ((entity : ℕ) → live entity ≡ true → entity < next)
+      → Ticks meaning (stood rules live next tables before) result (stood rules live next tables after)
+  ticks rules live next tables before after answer result ran tells any only below =
+      let runs = ∥∥₁_map any (λ over. over before.values) in
+      let told = tick-told rules before after runs answer result ran tells in
+      record {
+        applied = tick-applies rules before after runs answer result ran tells;
+        dispatched = told;
+        live = λ place entity is. let its = overflow-live rules before after result told live only place entity is in (its, below entity its);
+        kept = record { live = λ entity. refl; next = refl; tables = refl };
+        rules = refl;
+      }

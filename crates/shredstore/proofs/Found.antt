@@ -20,9 +20,6 @@ FindsChanged old new entity value = (other : ℕ) → value_at new other ≡ (if
 none_before_tail : (row : ℕ × ℤ) (rows : Pairs) (entity place : ℕ) → NoneBefore (row ∷ rows) entity (suc place) → NoneBefore rows entity place
 none_before_tail row rows entity place none i below = none (suc i) (omega (arith, below))
 
-none_from_tail : (row : ℕ × ℤ) (rows : Pairs) (entity place : ℕ) → NoneFrom (row ∷ rows) entity (suc place) → NoneFrom rows entity place
-none_from_tail row rows entity place none i from below = none (suc i) (omega (arith, from)) (omega (arith, below))
-
 -- in the tail, a row is one place lower
 is_at_tail : (row : ℕ × ℤ) (rows : Pairs) (entity place : ℕ) → IsAt (row ∷ rows) entity (suc place) → IsAt rows entity place
 is_at_tail row rows entity place at = record { in_range = omega (arith, at.in_range); is_its = at.is_its }

@@ -7,10 +7,11 @@ use Rattle.shred_table.specs.Id.{same_id}
 use Rattle.shred_table.specs.Slots.{with_at}
 use Rattle.shred_world.specs.declared.world.view.View.{View}
 use Rattle.shred_world.specs.Views.{IsSameView, declared_held, may_read, may_write, view_held}
+use Rattle.shredstore.specs.declared.rule.Overflow.{Overflow}
 use Rattle.shredstore.specs.Meaning.{Meaning}
 use Rattle.shredstore.specs.Rows.{IsLeastRefused, NoneRefused, Pairs, made_beside, value_at}
 use Rattle.shredstore.specs.Rules.{RefusesNone, IsFirstRefused, applied}
-use Rattle.shredstore.specs.Tables.{IsLeastRefusedIn, IsRemade, MakesIn, NoneRefusedIn, table_kind, table_id, table_of, value_in, values_in}
+use Rattle.shredstore.specs.Tables.{IsOverflowIn, IsRemade, MakesIn, NoneRefusedIn, table_kind, table_id, table_of, value_in, values_in}
 use Rattle.shredstore.proofs.RemadeTables.{not-remade, remade, remade-others, remade-values}
 use Rattle.shredstore.proofs.Shown.{may_read-same}
 use Rattle.shredstore.proofs.Told.{same_id-true}
@@ -61,9 +62,9 @@ made-step old new same rule x y written read may_written may_read unfit makes =
     )
 
 -- where it was refused
-pub least-step : (old : View (Only Pairs)) (rule : Meaning) (x y entity : ℕ) → x ≡ rule.written → y ≡ rule.read → may_read old (table_id rule.written) ≡ true → may_read old (table_id rule.read) ≡ true → IsLeastRefusedIn rule x y old entity
-    → IsFirstRefused rule (values_in (declared_held table_kind old)) entity
-least-step old rule x y entity written read may_written may_read unfit =
-    let least = subst₂ (λ (a b : ℕ). IsLeastRefusedIn rule a b old entity) written read unfit in
-    subst (λ (o : Option (Only Pairs)). IsLeastRefused rule (value_in o) (value_in (declared_held table_kind old (table_id rule.read))) entity) (sym (declared old (table_id rule.written) may_written))
-    (subst (λ (o : Option (Only Pairs)). IsLeastRefused rule (value_in (view_held table_kind old (table_id rule.written))) (value_in o) entity) (sym (declared old (table_id rule.read) may_read)) least)
+pub least-step : (old : View (Only Pairs)) (rule : Meaning) (x y : ℕ) (overflow : Overflow) → x ≡ rule.written → y ≡ rule.read → may_read old (table_id rule.written) ≡ true → may_read old (table_id rule.read) ≡ true → IsOverflowIn rule x y old overflow
+    → IsFirstRefused rule (values_in (declared_held table_kind old)) overflow.entity
+least-step old rule x y overflow written read may_written may_read unfit =
+    let least = subst₂ (λ (a b : ℕ). IsOverflowIn rule a b old overflow) written read unfit in
+    subst (λ (o : Option (Only Pairs)). IsLeastRefused rule (value_in o) (value_in (declared_held table_kind old (table_id rule.read))) overflow.entity) (sym (declared old (table_id rule.written) may_written))
+    (subst (λ (o : Option (Only Pairs)). IsLeastRefused rule (value_in (view_held table_kind old (table_id rule.written))) (value_in o) overflow.entity) (sym (declared old (table_id rule.read) may_read)) least)

@@ -7,7 +7,7 @@ use Rattle.shred_world.specs.declared.world.World.{World}
 use Rattle.shred_world.specs.Worlds.{world_held}
 use Rattle.shredstore.specs.Facts.{OnlyLive}
 use Rattle.shredstore.specs.Rows.{Pairs}
-use Rattle.shredstore.specs.Tables.{table_kind, table_id, values_in}
+use Rattle.shredstore.specs.Tables.{held_in, table_kind, values_in}
 
 -- whether an entity is one of these
 abbrev pub is_live : BTreeSet ℕ → ℕ → Bool
@@ -15,7 +15,7 @@ is_live live entity = contains nat_cmp live entity
 
 -- just the first so many tables are held
 abbrev pub HasTables : ℕ → World (Only Pairs) → Type 0
-HasTables tables world = (table : ℕ) → is_some (world_held table_kind world (table_id table)) ≡ nat_lt table tables
+HasTables tables world = (table : ℕ) → is_some (held_in world table) ≡ nat_lt table tables
 
 -- each live entity has a number below the next one
 abbrev pub AreBelow : ℕ → BTreeSet ℕ → Type 0

@@ -15,6 +15,10 @@ both_of (Some value) (Some more) = Some (value, more)
 both_of (Some value) None = None
 both_of None more = None
 
+-- what the entity has in both, where it has something in both
+abbrev pub both_at : Pairs → Pairs → ℕ → Option (ℤ × ℤ)
+both_at rows others entity = both_of (value_at rows entity) (value_at others entity)
+
 -- the row, with the value beside it where there is one, before these
 abbrev pub with_row : ℕ × ℤ → Option ℤ → List (ℕ × (ℤ × ℤ)) → List (ℕ × (ℤ × ℤ))
 with_row row (Some more) rows = (row.0, (row.1, more)) ∷ rows

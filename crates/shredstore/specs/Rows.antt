@@ -1,5 +1,5 @@
 -- Rows of a table: values by entity, in ascending order of the entities.
-use Rattle.std.specs.Prelude.{◌≡◌, ◌≢◌, ℕ, ℤ, ◌<◌, ◌≤◌, ◌==◌, if◌then◌else◌, List, [], ◌∷◌, length, map, Option, Some, None, slice_index_or, pos}
+use Rattle.std.specs.Prelude.{◌≡◌, ◌≢◌, ℕ, ℤ, ◌<◌, ◌≤◌, ◌==◌, if◌then◌else◌, List, [], ◌∷◌, length, map, Option, Some, None, IfNone, IfSome, slice_index_or, pos}
 use Rattle.shredstore.specs.Meaning.{Meaning}
 
 -- an entity, then its value
@@ -56,6 +56,11 @@ pub record IsLeastRefused (rule : Meaning) (first second : ℕ → Option ℤ) (
 abbrev pub NoneRefused : Meaning → (ℕ → Option ℤ) → (ℕ → Option ℤ) → Type 0
 NoneRefused rule first second = (entity : ℕ) → IsRefusedFor rule (first entity) (second entity) → ⊥
 
+-- The answer is the least entity for whose values it is refused, if there is one.
+pub record TellsLeast (rule : Meaning) (first second : ℕ → Option ℤ) (answer : Option ℕ) : Type 0 where
+  pub least : IfSome answer (IsLeastRefused rule first second)
+  pub none : IfNone answer (NoneRefused rule first second)
+
 -- each row with the value that these make of its entity and its value
 abbrev pub each_row : (ℕ → ℤ → ℤ) → Pairs → Pairs
 each_row made rows = map (λ row. (row.0, made row.0 row.1)) rows
@@ -64,6 +69,14 @@ each_row made rows = map (λ row. (row.0, made row.0 row.1)) rows
 abbrev pub row_made : Meaning → ℤ → Option ℤ → ℤ
 row_made rule value (Some more) = rule.made value more
 row_made rule value None = value
+
+-- each row with what the rule makes of its value and of that of the other rows for its entity, where there is one
+abbrev pub made_rows : Meaning → (others rows : Pairs) → Pairs
+made_rows rule others rows = each_row (λ entity value. row_made rule value (value_at others entity)) rows
+
+-- each row with what the rule makes of its value twice
+abbrev pub twice_made_rows : Meaning → Pairs → Pairs
+twice_made_rows rule rows = each_row (λ entity value. row_made rule value (Some value)) rows
 
 -- the value of the row at a place
 abbrev pub row_value : Pairs → ℕ → ℤ

@@ -1,6 +1,5 @@
 //! Entities, and their values in tables.
 ghost use Rattle.shredstore.specs.Held.{AreBelow, AreOfLive, HasTables};
-ghost use Rattle.shredstore.specs.Contents.{IsWithoutSpace, HasNoTable, IsDead, HasNumberLeft};
 
 use crate::entity::Entity;
 use crate::error::StoreError;
@@ -25,12 +24,11 @@ pub struct Entities {
 }
 
 impl Entities {
-    ghost use Rattle.shred_world.specs.Fetched.{fetched};
-    ghost use Rattle.std.specs.Prelude.{◌≡◌, ◌↔◌, ◌<◌, ◌-◌, ◌^◌, true, false, Err, IfErr, IfOk, OnErr, OnOk};
-    ghost use Rattle.shredstore.specs.Contents.{AreBelowNext, AreOfEntities, HasNoEntity, HasRows, IsCleared, IsCreated, IsDeleted, IsEmpty, IsSame, IsValueRemoved, IsValueSet, live_in};
+    ghost use Rattle.std.specs.Prelude.{◌≡◌, ◌↔◌, true, IfOk};
+    ghost use Rattle.shredstore.specs.Calls.{CreatesEntity, LendsRows, SetsValue};
+    ghost use Rattle.shredstore.specs.Contents.{AreBelowNext, HasNoEntity, IsCleared, IsDeleted, IsEmpty, IsValueRemoved, live_in};
     ghost use Rattle.shredstore.specs.EntityFacts.{contents_in};
     ghost use Rattle.shredstore.specs.Facts.{OnlyLive};
-    ghost use Rattle.shredstore.specs.declared.error.StoreError.TheVariants.{EntitiesExhausted, NoSuchEntity, NoSuchTable, OutOfMemory as NoMemory};
 
     /// No entity is live, and there are so many tables.
     pub fn new(alloc: Global, tables: u64) -> Result<Self, OutOfMemory>
@@ -47,11 +45,7 @@ impl Entities {
     /// A live entity, of a number that none had before: 0, 1, 2 and so on. `EntitiesExhausted` where that would be the greatest
     /// number; else `OutOfMemory`. After a refusal all is as before.
     pub fn create(&mut self) -> Result<Entity, StoreError>
-        ensures number { IfOk result (λ entity. entity.0 ≡ (contents_in self.old).next) }
-        ensures created { OnOk result (IsCreated (contents_in self.old) (contents_in self.new)) }
-        ensures exhausted { ((contents_in self.old).next ≡ 2 ^ 64 - 1) ↔ (result ≡ Err EntitiesExhausted) }
-        ensures refused { IfErr result (λ error. HasNumberLeft (contents_in self.old) → error ≡ NoMemory) }
-        ensures unchanged { OnErr result (IsSame (contents_in self.old) (contents_in self.new)) }
+        ensures { CreatesEntity (contents_in self.old) result (contents_in self.new) }
     {
         if self.next == u64::MAX {
             return Err(StoreError::EntitiesExhausted);
@@ -80,12 +74,7 @@ impl Entities {
     /// Gives a live entity a value in a table, and answers the one that it had there. `NoSuchTable`, `NoSuchEntity`, or
     /// `OutOfMemory`, tested in this order. After a refusal all is as before.
     pub fn set(&mut self, entity: Entity, table: u64, value: i64) -> Result<Option<i64>, StoreError>
-        ensures had { IfOk result (λ had. had ≡ (contents_in self.old).facts.value entity.0 table) }
-        ensures set { OnOk result (IsValueSet (contents_in self.old) (contents_in self.new) entity.0 table value) }
-        ensures no_such_table { HasNoTable (contents_in self.old) table ↔ (result ≡ Err (NoSuchTable table)) }
-        ensures no_such_entity { table < (contents_in self.old).tables → IsDead (contents_in self.old) entity.0 ↔ (result ≡ Err NoSuchEntity) }
-        ensures refused { IfErr result (IsWithoutSpace (contents_in self.old) entity.0 table) }
-        ensures unchanged { OnErr result (IsSame (contents_in self.old) (contents_in self.new)) }
+        ensures { SetsValue (contents_in self.old) entity.0 table value result (contents_in self.new) }
     {
         if table >= self.tables {
             return Err(StoreError::NoSuchTable { table });
@@ -149,10 +138,7 @@ impl Entities {
 
     /// The rows of a table, to be read, gone over and joined. `NoSuchTable` where it is not there.
     pub fn rows(&self, table: u64) -> Result<Fetch<'_, Rows>, StoreError>
-        ensures rows { IfOk result (λ rows. HasRows (contents_in self.now) table (fetched rows)) }
-        ensures entities { IfOk result (λ rows. AreOfEntities (contents_in self.now) (fetched rows)) }
-        ensures no_such_table { HasNoTable (contents_in self.now) table ↔ (result ≡ Err (NoSuchTable table)) }
-        ensures refused { IfErr result (λ error. error ≡ NoSuchTable table) }
+        ensures { LendsRows (contents_in self.now) table result }
     {
         match rows_of(&self.world, table) {
             Some(rows) => Ok(rows),

@@ -2,7 +2,7 @@
 ghost use Rattle.std.specs.Prelude.{[], IfOk, OnOk};
 ghost use Rattle.shred.specs.Builders.{built};
 ghost use Rattle.shred.specs.Dispatchers.{dispatcher_with};
-ghost use Rattle.shred.specs.KeptDispatchers.{dispatcher_of as kept_dispatcher};
+ghost use Rattle.shred.specs.KeptDispatchers.{dispatcher_of as of_kept};
 ghost use Rattle.shredstore.specs.Plans.{IsAddedRule, IsPlanned, RunsOverAny};
 
 use crate::rows::Rows;
@@ -38,10 +38,10 @@ impl<R: TableRule> RunsRules<R> for RuleDispatcher<R> {
 
 impl<T: Threads + Wait, R: TableRule> RunsRules<R> for KeptRules<T, R> {
     ghost use Rattle.shred.specs.Dispatchers.{dispatcher_with};
-    ghost use Rattle.shred.specs.KeptDispatchers.{dispatcher_of as kept_dispatcher};
+    ghost use Rattle.shred.specs.KeptDispatchers.{dispatcher_of as of_kept};
     ghost use Rattle.shredstore.specs.Plans.{RunsOverAny};
 
-    ghost runs = { λ kept rules. RunsOverAny R.meaning rules (dispatcher_with (kept_dispatcher kept)) };
+    ghost runs = { λ kept rules. RunsOverAny R.meaning rules (dispatcher_with (of_kept kept)) };
 }
 
 // A builder that keeps the order of addition, without rules.
@@ -93,7 +93,7 @@ pub(crate) fn kept_of<T: Threads + Wait + Clone + Send + 'static, R: TableRule +
     threads: usize,
     looks: u32,
 ) -> Result<KeptRules<T, R>, OutOfMemory>
-    ensures { IfOk result (λ kept. RunsOverAny R.meaning rules.now (dispatcher_with (kept_dispatcher kept))) }
+    ensures { IfOk result (λ kept. RunsOverAny R.meaning rules.now (dispatcher_with (of_kept kept))) }
 {
     let builder = builder_of(alloc, rules)?.with_pool(threads);
     match builder.build().keep(rt, alloc, looks) {

@@ -1,8 +1,8 @@
 //! The rows of a table.
-ghost use Rattle.std.specs.Prelude.{◌≡◌, ◌↔◌, [], length, true, None, Some, IfErr, IfOk, IfSome, OnErr, IfNone, OnOk};
+ghost use Rattle.std.specs.Prelude.{◌≡◌, ◌↔◌, [], length, true, None, Some, IfErr, IfOk, OnErr, OnOk};
 ghost use Rattle.std.specs.Bool.{OnFalse, OnTrue};
-ghost use Rattle.shredstore.specs.Joins.{AreRowsOf, both_of};
-ghost use Rattle.shredstore.specs.Rows.{NoRowRefused, NoRowRefusedTwice, AreMade, IsAscending, IsAt, IsChangedAt, IsRowGap, IsLeastRefused, IsRefusedFor, NoneRefused, Pairs, each_row, row_made, value_at};
+ghost use Rattle.shredstore.specs.Joins.{AreRowsOf, both_at};
+ghost use Rattle.shredstore.specs.Rows.{AreMade, IsAscending, IsAt, IsChangedAt, IsRefusedFor, IsRowGap, NoRowRefused, NoRowRefusedTwice, NoneRefused, Pairs, TellsLeast, made_rows, row_made, twice_made_rows, value_at};
 
 use crate::ahead::Ahead;
 use crate::joined::Joined;
@@ -64,7 +64,7 @@ fn made_twice<R: TableRule>(rule: &R, row: (u64, i64)) -> (u64, i64)
 fn make_each<R: TableRule>(rule: &R, pairs: &mut [(u64, i64)], others: &Rows)
     requires ascending { IsAscending pairs.old }
     requires taken { NoRowRefused (R.meaning rule.now) (value_at others.now) pairs.old }
-    ensures { pairs.new ≡ each_row (λ entity value. row_made (R.meaning rule.now) value (value_at others.now entity)) pairs.old }
+    ensures { pairs.new ≡ made_rows (R.meaning rule.now) others.now pairs.old }
 {
     let mut ahead = others.ahead();
     for row in pairs.iter_mut() {
@@ -75,7 +75,7 @@ fn make_each<R: TableRule>(rule: &R, pairs: &mut [(u64, i64)], others: &Rows)
 // Gives each row what the rule makes of its value twice.
 fn make_each_twice<R: TableRule>(rule: &R, pairs: &mut [(u64, i64)])
     requires { NoRowRefusedTwice (R.meaning rule.now) pairs.old }
-    ensures { pairs.new ≡ each_row (λ entity value. row_made (R.meaning rule.now) value (Some value)) pairs.old }
+    ensures { pairs.new ≡ twice_made_rows (R.meaning rule.now) pairs.old }
 {
     for row in pairs.iter_mut() {
         *row = made_twice(rule, *row);
@@ -170,15 +170,14 @@ impl Rows {
 
     /// The entities that have a value here and in the other rows, and these, in ascending order of the entities.
     pub fn joined<'rows>(&'rows self, others: &'rows Rows) -> Joined<'rows>
-        ensures { AreRowsOf (λ entity. both_of (value_at self.now entity) (value_at others.now entity)) result }
+        ensures { AreRowsOf (both_at self.now others.now) result }
     {
         Joined::of(&self.pairs, &others.pairs)
     }
 
     /// The least entity for whose values the rule is refused, if there is one.
     pub(crate) fn least_refused<R: TableRule>(&self, rule: &R, others: &Rows) -> Option<u64>
-        ensures least { IfSome result (IsLeastRefused (R.meaning rule.now) (value_at self.now) (value_at others.now)) }
-        ensures none { IfNone result (NoneRefused (R.meaning rule.now) (value_at self.now) (value_at others.now)) }
+        ensures { TellsLeast (R.meaning rule.now) (value_at self.now) (value_at others.now) result }
     {
         let mut ahead = others.ahead();
         for row in self.pairs.iter() {

@@ -1,11 +1,11 @@
 //! The systems of rules.
-ghost use Rattle.std.specs.Prelude.{◌≡◌, ◌≢◌, [], ℕ, false, IfErr, IfSome, OnErr, IfNone, OnOk, OnSome, Some, is_some, true};
+ghost use Rattle.std.specs.Prelude.{◌≡◌, ◌≢◌, [], ℕ, false, IfErr, IfNone, OnErr, OnOk, OnSome, is_some, true};
 ghost use Rattle.std.specs.Option.{option_map};
 ghost use Rattle.shred_table.specs.declared.id.ResourceId.{ResourceId};
 ghost use Rattle.shred_world.specs.Views.{IsSameView, is_out, may_read, may_write, view_held};
-ghost use Rattle.shredstore.specs.Rows.{IsLeastRefused, NoneRefused, made_beside};
-ghost use Rattle.shredstore.specs.Tables.{table_kind, table_id, table_of, column_in, IsRemadeIn, MakesIn, NoneRefusedIn, IsLeastRefusedIn};
-ghost use Rattle.shred_table.specs.Changes.{Stays, Puts};
+ghost use Rattle.shredstore.specs.Rows.{TellsLeast, made_beside};
+ghost use Rattle.shredstore.specs.Tables.{IsOverflowIn, MakesIn, NoneRefusedIn, PutsRows, column_in, shown_in, table_id, table_kind, table_of};
+ghost use Rattle.shred_table.specs.Changes.{Stays};
 
 use crate::rows::Rows;
 use crate::rule::Overflow;
@@ -22,7 +22,7 @@ pub struct RuleSystem<R>(pub(crate) R);
 fn rows_in<'v>(view: &'v View<Only<Rows>>, table: u64) -> Option<&'v Rows>
     requires may { may_read view.now (table_id table) ≡ true }
     requires in_place { is_out view.now (table_id table) ≡ false }
-    ensures { option_map (λ rows. table_of rows.now) result ≡ view_held table_kind view.now (table_id table) }
+    ensures { option_map (λ rows. table_of rows.now) result ≡ shown_in view.now table }
 {
     view.read::<Rows>(only_id(table)).ok()
 }
@@ -32,8 +32,7 @@ fn refused_in<R: TableRule>(view: &View<Only<Rows>>, rule: &R, x: u64, y: u64) -
     requires may_x { may_read view.now (table_id x) ≡ true }
     requires may_y { may_read view.now (table_id y) ≡ true }
     requires in_place { (id : ResourceId) → is_out view.now id ≡ false }
-    ensures least { IfSome result (IsLeastRefusedIn (R.meaning rule.now) x y view.now) }
-    ensures none { IfNone result (NoneRefusedIn (R.meaning rule.now) x y view.now) }
+    ensures { TellsLeast (R.meaning rule.now) (column_in view.now x) (column_in view.now y) result }
 {
     rows_in(view, x)?.least_refused(rule, rows_in(view, y)?)
 }
@@ -42,8 +41,8 @@ fn refused_in<R: TableRule>(view: &View<Only<Rows>>, rule: &R, x: u64, y: u64) -
 fn take(view: &mut View<Only<Rows>>, table: u64) -> Option<Rows>
     requires may { may_write view.old (table_id table) ≡ true }
     requires in_place { is_out view.old (table_id table) ≡ false }
-    ensures taken { option_map (λ rows. table_of rows) result ≡ view_held table_kind view.old (table_id table) }
-    ensures emptied { OnSome result (Puts (view_held table_kind) view.old (table_id table) (Some (table_of [])) view.new) }
+    ensures taken { option_map (λ rows. table_of rows) result ≡ shown_in view.old table }
+    ensures emptied { OnSome result (PutsRows view.old table [] view.new) }
     ensures unchanged { IfNone result (Stays (view_held table_kind) view.old view.new) }
     ensures view { IsSameView view.old view.new }
 {
@@ -60,8 +59,8 @@ fn take(view: &mut View<Only<Rows>>, table: u64) -> Option<Rows>
 fn put(view: &mut View<Only<Rows>>, table: u64, rows: Rows)
     requires may { may_write view.old (table_id table) ≡ true }
     requires in_place { is_out view.old (table_id table) ≡ false }
-    requires there { is_some (view_held table_kind view.old (table_id table)) ≡ true }
-    ensures put { Puts (view_held table_kind) view.old (table_id table) (Some (table_of rows)) view.new }
+    requires there { is_some (shown_in view.old table) ≡ true }
+    ensures put { PutsRows view.old table rows view.new }
     ensures view { IsSameView view.old view.new }
 {
     match view.write::<Rows>(only_id(table)) {
@@ -115,7 +114,7 @@ fn apply<R: TableRule>(
     requires in_place { (id : ResourceId) → is_out view.old id ≡ false }
     ensures taken { OnOk result (NoneRefusedIn (R.meaning rule.now) x y view.old) }
     ensures made { OnOk result (MakesIn (R.meaning rule.now) x y view.old view.new) }
-    ensures least { IfErr result (λ overflow. IsLeastRefusedIn (R.meaning rule.now) x y view.old overflow.entity) }
+    ensures least { IfErr result (IsOverflowIn (R.meaning rule.now) x y view.old) }
     ensures unchanged { OnErr result (Stays (view_held table_kind) view.old view.new) }
     ensures view { IsSameView view.old view.new }
 {

@@ -1,13 +1,12 @@
 //! The store.
 ghost use Rattle.std.specs.Prelude.{◌≡◌, IfOk};
-ghost use Rattle.shred.specs.Dispatchers.{dispatcher_over, dispatcher_with};
-ghost use Rattle.shred.specs.KeptDispatchers.{dispatcher_of as kept_dispatcher};
-ghost use Rattle.shredstore.specs.Contents.{IsEmpty, IsWithoutSpace, HasNoTable, IsDead, HasNumberLeft};
+ghost use Rattle.shred.specs.Dispatchers.{dispatcher_with};
+ghost use Rattle.shred.specs.KeptDispatchers.{dispatcher_of as of_kept};
+ghost use Rattle.shredstore.specs.Contents.{IsEmpty};
 ghost use Rattle.shredstore.specs.EntityFacts.{contents_in};
 ghost use Rattle.shredstore.specs.Plans.{RunsOverAny};
-ghost use Rattle.shredstore.specs.Rules.{first_missing, missing, AppliesAll};
-ghost use Rattle.shredstore.specs.Tables.{table_kind};
-ghost use Rattle.shredstore.specs.Ticks.{RulesDispatched, IsOfSystems, Tells};
+ghost use Rattle.shredstore.specs.Rules.{first_missing, missing};
+ghost use Rattle.shredstore.specs.Ticks.{IsOfSystems, RanRules, Tells};
 
 use crate::entities::Entities;
 use crate::entity::Entity;
@@ -90,7 +89,7 @@ fn dispatched<R: TableRule + Send, T: Threads + Sync>(
     dispatcher: &mut RuleDispatcher<R>,
     world: &mut World<Only<Rows>>,
 ) -> Result<(), DispatchError<Overflow>>
-    ensures { RulesDispatched R.meaning (dispatcher_over table_kind dispatcher.old world.old) result (dispatcher_over table_kind dispatcher.new world.new) }
+    ensures { RanRules R.meaning dispatcher.old dispatcher.new world.old world.new result }
 {
     dispatcher.dispatch_par(rt, world)
 }
@@ -100,7 +99,7 @@ fn dispatched_in_order<R: TableRule>(
     dispatcher: &mut RuleDispatcher<R>,
     world: &mut World<Only<Rows>>,
 ) -> Result<(), DispatchError<Overflow>>
-    ensures { RulesDispatched R.meaning (dispatcher_over table_kind dispatcher.old world.old) result (dispatcher_over table_kind dispatcher.new world.new) }
+    ensures { RanRules R.meaning dispatcher.old dispatcher.new world.old world.new result }
 {
     dispatcher.dispatch_seq(world)
 }
@@ -110,7 +109,7 @@ fn dispatched_on_kept<T: Threads + Wait + Drop, R: TableRule>(
     kept: &mut KeptRules<T, R>,
     world: &mut World<Only<Rows>>,
 ) -> Result<(), DispatchError<Overflow>>
-    ensures { RulesDispatched R.meaning (dispatcher_over table_kind (kept_dispatcher kept.old) world.old) result (dispatcher_over table_kind (kept_dispatcher kept.new) world.new) }
+    ensures { RanRules R.meaning (of_kept kept.old) (of_kept kept.new) world.old world.new result }
 {
     kept.dispatch_par(world)
 }
@@ -132,19 +131,16 @@ fn store_of<R: TableRule>(
 }
 
 impl<R: TableRule> RuleStore<R> {
-    ghost use Rattle.std.specs.Prelude.{Err, IfErr, IfNone, IfSome, OnOk};
-    ghost use Rattle.shredstore.specs.Contents.{KeepsEntities};
-    ghost use Rattle.shredstore.specs.Stores.{contents_of, rules_of, situation_of};
-    ghost use Rattle.shredstore.specs.Ticks.{IsTick, TellsLive};
-    ghost use Rattle.shredstore.specs.declared.error.StoreError.TheVariants.{NoSuchTable, OutOfMemory as NoMemory};
+    ghost use Rattle.shredstore.specs.Calls.{RefusesMissing};
+    ghost use Rattle.shredstore.specs.Stores.{contents_of, rules_of, store_state};
+    ghost use Rattle.shredstore.specs.Ticks.{Ticks};
 
     /// A store without entities, with so many tables, numbered from 0 on, and these rules. `NoSuchTable` for the first rule with a
     /// table that is not among them, and there for its first such table, tested first; else `OutOfMemory`.
     pub fn new(alloc: Global, tables: u64, rules: &[R]) -> Result<Self, StoreError>
         ensures empty { IfOk result (λ store. IsEmpty tables (contents_of store)) }
         ensures rules { IfOk result (λ store. rules_of store ≡ rules.now) }
-        ensures no_such_table { IfSome (first_missing R.meaning tables rules.now) (λ table. result ≡ Err (NoSuchTable table)) }
-        ensures refused { IfNone (first_missing R.meaning tables rules.now) (IfErr result (λ error. error ≡ NoMemory)) }
+        ensures refusal { RefusesMissing (first_missing R.meaning tables rules.now) result }
     {
         if let Some(table) = first_missing(tables, rules) {
             return Err(StoreError::NoSuchTable { table });
@@ -157,32 +153,23 @@ impl<R: TableRule> RuleStore<R> {
 
     /// `tick`, on the caller's thread.
     pub fn tick_seq(&mut self) -> Result<(), TickError>
-        ensures applied { OnOk result (AppliesAll R.meaning (rules_of self.old) (contents_of self.old) (contents_of self.new)) }
-        ensures dispatched { IsTick R.meaning (rules_of self.old) (situation_of self.old) result (situation_of self.new) }
-        ensures live { TellsLive (contents_of self.old) result }
-        ensures kept { KeepsEntities (contents_of self.old) (contents_of self.new) }
-        ensures rules { rules_of self.new ≡ rules_of self.old }
+        ensures { Ticks R.meaning (store_state self.old) result (store_state self.new) }
     {
         told(dispatched_in_order(&mut self.runner, &mut self.entities.world))
     }
 }
 
 impl<R, D: RunsRules<R>> StoreOver<R, D> {
-    ghost use Rattle.shred_world.specs.Fetched.{fetched};
-    ghost use Rattle.std.specs.Prelude.{◌↔◌, ◌<◌, ◌-◌, ◌^◌, true, Err, IfErr, OnErr, OnOk};
-    ghost use Rattle.shredstore.specs.Contents.{AreBelowNext, AreOfEntities, HasNoEntity, HasRows, IsCleared, IsCreated, IsDeleted, IsSame, IsValueRemoved, IsValueSet, live_in};
+    ghost use Rattle.std.specs.Prelude.{◌↔◌, true};
+    ghost use Rattle.shredstore.specs.Calls.{CreatesEntity, LendsRows, SetsValue};
+    ghost use Rattle.shredstore.specs.Contents.{AreBelowNext, HasNoEntity, IsCleared, IsDeleted, IsValueRemoved, live_in};
     ghost use Rattle.shredstore.specs.Facts.{OnlyLive};
     ghost use Rattle.shredstore.specs.Stores.{contents_of, rules_of};
-    ghost use Rattle.shredstore.specs.declared.error.StoreError.TheVariants.{EntitiesExhausted, NoSuchEntity, NoSuchTable, OutOfMemory as NoMemory};
 
     /// A live entity, of a number that none had before: 0, 1, 2 and so on. `EntitiesExhausted` where that would be the greatest
     /// number; else `OutOfMemory`. After a refusal the store is as before.
     pub fn create(&mut self) -> Result<Entity, StoreError>
-        ensures number { IfOk result (λ entity. entity.0 ≡ (contents_of self.old).next) }
-        ensures created { OnOk result (IsCreated (contents_of self.old) (contents_of self.new)) }
-        ensures exhausted { ((contents_of self.old).next ≡ 2 ^ 64 - 1) ↔ (result ≡ Err EntitiesExhausted) }
-        ensures refused { IfErr result (λ error. HasNumberLeft (contents_of self.old) → error ≡ NoMemory) }
-        ensures unchanged { OnErr result (IsSame (contents_of self.old) (contents_of self.new)) }
+        ensures create { CreatesEntity (contents_of self.old) result (contents_of self.new) }
         ensures rules { rules_of self.new ≡ rules_of self.old }
     {
         self.entities.create()
@@ -201,12 +188,7 @@ impl<R, D: RunsRules<R>> StoreOver<R, D> {
     /// `OutOfMemory`, tested in this order. After a refusal the store is as before. The first value of an entity moves those of all
     /// greater entities of the table.
     pub fn set(&mut self, entity: Entity, table: u64, value: i64) -> Result<Option<i64>, StoreError>
-        ensures had { IfOk result (λ had. had ≡ (contents_of self.old).facts.value entity.0 table) }
-        ensures set { OnOk result (IsValueSet (contents_of self.old) (contents_of self.new) entity.0 table value) }
-        ensures no_such_table { HasNoTable (contents_of self.old) table ↔ (result ≡ Err (NoSuchTable table)) }
-        ensures no_such_entity { table < (contents_of self.old).tables → IsDead (contents_of self.old) entity.0 ↔ (result ≡ Err NoSuchEntity) }
-        ensures refused { IfErr result (IsWithoutSpace (contents_of self.old) entity.0 table) }
-        ensures unchanged { OnErr result (IsSame (contents_of self.old) (contents_of self.new)) }
+        ensures set { SetsValue (contents_of self.old) entity.0 table value result (contents_of self.new) }
         ensures rules { rules_of self.new ≡ rules_of self.old }
     {
         self.entities.set(entity, table, value)
@@ -263,10 +245,7 @@ impl<R, D: RunsRules<R>> StoreOver<R, D> {
 
     /// The rows of a table, to be read, gone over and joined. `NoSuchTable` where it is not there.
     pub fn rows(&self, table: u64) -> Result<Fetch<'_, Rows>, StoreError>
-        ensures rows { IfOk result (λ rows. HasRows (contents_of self.now) table (fetched rows)) }
-        ensures entities { IfOk result (λ rows. AreOfEntities (contents_of self.now) (fetched rows)) }
-        ensures no_such_table { HasNoTable (contents_of self.now) table ↔ (result ≡ Err (NoSuchTable table)) }
-        ensures refused { IfErr result (λ error. error ≡ NoSuchTable table) }
+        ensures { LendsRows (contents_of self.now) table result }
     {
         self.entities.rows(table)
     }
@@ -280,19 +259,13 @@ impl<R, D: RunsRules<R>> StoreOver<R, D> {
 }
 
 impl<R: TableRule + Send> RuleStore<R> {
-    ghost use Rattle.std.specs.Prelude.{OnOk};
-    ghost use Rattle.shredstore.specs.Contents.{KeepsEntities};
-    ghost use Rattle.shredstore.specs.Stores.{contents_of, rules_of, situation_of};
-    ghost use Rattle.shredstore.specs.Ticks.{IsTick, TellsLive};
+    ghost use Rattle.shredstore.specs.Stores.{store_state};
+    ghost use Rattle.shredstore.specs.Ticks.{Ticks};
 
     /// Applies the rules one after the other, in the order given to `new`, those that touch other tables beside each other on
     /// threads. A refused rule ends the tick; what the rules that ran have done stays.
     pub fn tick<T: Threads + Sync>(&mut self, rt: &T) -> Result<(), TickError>
-        ensures applied { OnOk result (AppliesAll R.meaning (rules_of self.old) (contents_of self.old) (contents_of self.new)) }
-        ensures dispatched { IsTick R.meaning (rules_of self.old) (situation_of self.old) result (situation_of self.new) }
-        ensures live { TellsLive (contents_of self.old) result }
-        ensures kept { KeepsEntities (contents_of self.old) (contents_of self.new) }
-        ensures rules { rules_of self.new ≡ rules_of self.old }
+        ensures { Ticks R.meaning (store_state self.old) result (store_state self.new) }
     {
         told(dispatched(rt, &mut self.runner, &mut self.entities.world))
     }
@@ -327,19 +300,13 @@ impl<R: TableRule + Send + 'static> RuleStore<R> {
 }
 
 impl<T: Threads + Wait + Drop, R: TableRule> KeptStore<T, R> {
-    ghost use Rattle.std.specs.Prelude.{OnOk};
-    ghost use Rattle.shredstore.specs.Contents.{KeepsEntities};
-    ghost use Rattle.shredstore.specs.Stores.{contents_of, rules_of, kept_situation_of};
-    ghost use Rattle.shredstore.specs.Ticks.{IsTick, TellsLive};
+    ghost use Rattle.shredstore.specs.Stores.{kept_store_state};
+    ghost use Rattle.shredstore.specs.Ticks.{Ticks};
 
     /// Applies the rules as the `tick` of a `RuleStore` does, those that touch other tables beside each other on the workers that are
     /// free and on the caller's thread. It starts no thread.
     pub fn tick(&mut self) -> Result<(), TickError>
-        ensures applied { OnOk result (AppliesAll R.meaning (rules_of self.old) (contents_of self.old) (contents_of self.new)) }
-        ensures dispatched { IsTick R.meaning (rules_of self.old) (kept_situation_of self.old) result (kept_situation_of self.new) }
-        ensures live { TellsLive (contents_of self.old) result }
-        ensures kept { KeepsEntities (contents_of self.old) (contents_of self.new) }
-        ensures rules { rules_of self.new ≡ rules_of self.old }
+        ensures { Ticks R.meaning (kept_store_state self.old) result (kept_store_state self.new) }
     {
         told(dispatched_on_kept(&mut self.runner, &mut self.entities.world))
     }

@@ -1,9 +1,9 @@
 //! The tables of a store, in a world.
-ghost use Rattle.std.specs.Prelude.{◌≡◌, ◌==◌, ◌&&◌, [], ℕ, None, Some, IfOk, OnErr, OnOk, cond, is_some, nat_lt, true};
+ghost use Rattle.std.specs.Prelude.{◌≡◌, ◌==◌, None, Some, IfOk, OnErr, OnOk, is_some, true};
 ghost use Rattle.shred_world.specs.Worlds.{world_held};
 ghost use Rattle.std.specs.Option.{option_map};
 ghost use Rattle.shred_world.specs.Fetched.{fetched};
-ghost use Rattle.shredstore.specs.Tables.{table_kind, table_id, table_of, values_in, IsWorldRemade, AreTakenFrom};
+ghost use Rattle.shredstore.specs.Tables.{AreTakenFrom, HasEmptyTables, IsWorldRemade, giving, held_in, table_kind, table_of, values_in};
 ghost use Rattle.shred_table.specs.Changes.{Stays, KeepsIdsOf};
 
 use crate::rows::Rows;
@@ -12,7 +12,7 @@ use std::alloc::Global;
 
 /// A world with so many tables, numbered from 0 on, of which none has rows.
 pub fn empty_tables(alloc: Global, tables: u64) -> Result<World<Only<Rows>>, OutOfMemory>
-    ensures { IfOk result (λ world. (table : ℕ) → world_held table_kind world (table_id table) ≡ cond (nat_lt table tables) (Some (table_of [])) None) }
+    ensures { IfOk result (HasEmptyTables tables) }
 {
     let mut world = World::empty(alloc);
     for table in 0..tables {
@@ -26,7 +26,7 @@ pub fn empty_tables(alloc: Global, tables: u64) -> Result<World<Only<Rows>>, Out
 
 /// The rows of a table, if it is there.
 pub fn rows_of(world: &World<Only<Rows>>, table: u64) -> Option<Fetch<'_, Rows>>
-    ensures { option_map (λ rows. table_of (fetched rows)) result ≡ world_held table_kind world.now (table_id table) }
+    ensures { option_map (λ rows. table_of (fetched rows)) result ≡ held_in world.now table }
 {
     match world.try_fetch_by_id::<Rows>(only_id(table)) {
         Ok(rows) => rows,
@@ -52,9 +52,9 @@ pub fn set_in(
     entity: u64,
     value: i64,
 ) -> Result<Option<i64>, OutOfMemory>
-    requires { is_some (world_held table_kind world.old (table_id table)) ≡ true }
+    requires { is_some (held_in world.old table) ≡ true }
     ensures had { IfOk result (λ had. had ≡ values_in (world_held table_kind world.old) entity table) }
-    ensures set { OnOk result (IsWorldRemade (λ other old. cond (entity == other) (Some value) old) table world.old world.new) }
+    ensures set { OnOk result (IsWorldRemade (giving entity (Some value)) table world.old world.new) }
     ensures unchanged { OnErr result (Stays (world_held table_kind) world.old world.new) }
     ensures had_none { OnErr result (values_in (world_held table_kind world.old) entity table ≡ None) }
 {
@@ -67,7 +67,7 @@ pub fn set_in(
 /// Takes away the value of an entity in a table, and answers it, if it had one there.
 pub fn remove_in(world: &mut World<Only<Rows>>, table: u64, entity: u64) -> Option<i64>
     ensures had { result ≡ values_in (world_held table_kind world.old) entity table }
-    ensures removed { IsWorldRemade (λ other old. cond (entity == other) None old) table world.old world.new }
+    ensures removed { IsWorldRemade (giving entity None) table world.old world.new }
 {
     match world.try_fetch_mut_by_id::<Rows>(only_id(table)) {
         Ok(rows) => rows.remove(entity),

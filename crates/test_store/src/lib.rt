@@ -16,6 +16,8 @@ mod refusals;
 #[cfg(test)]
 mod rows;
 #[cfg(test)]
+mod sets;
+#[cfg(test)]
 mod stores;
 #[cfg(test)]
 mod ticks;

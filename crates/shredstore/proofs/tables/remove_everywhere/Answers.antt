@@ -1,6 +1,6 @@
 use Rattle.std.proofs.Common.{◌≡◌, ℤ, ◌==◌, Bool, true, false, Option, None, cond, refl, ◌∙◌}
 use Rattle.shred_world.specs.Worlds.{world_held}
-use Rattle.shredstore.specs.Tables.{table_kind, values_in}
+use Rattle.shredstore.specs.Tables.{giving, table_kind, values_in}
 use Rattle.shredstore.proofs.RemadeTables.{remade-held, remade-values, taken-more}
 use Rattle.shredstore.proofs.tables.remove_everywhere.Goals as goal
 
@@ -13,8 +13,8 @@ loop-table-preserved c =
     let after = world_held table_kind c.remove_in.new.world in
     record {
       values = λ other table. taken-more (entity == other) from table (values_in first other) (values_in before other) (values_in after other) (c.loop-table.invariant.values other)
-          (remade-values (λ e old. cond (entity == e) None old) from before after (λ e nothing. none (entity == e) None refl) c.remove_in.ensures.removed other table);
-      held = λ id. remade-held (λ e old. cond (entity == e) None old) from before after c.remove_in.ensures.removed id ∙ c.loop-table.invariant.held id;
+          (remade-values (giving entity None) from before after (λ e nothing. none (entity == e) None refl) c.remove_in.ensures.removed other table);
+      held = λ id. remade-held (giving entity None) from before after c.remove_in.ensures.removed id ∙ c.loop-table.invariant.held id;
     }
   where
     none : (b : Bool) (had : Option ℤ) → had ≡ None → cond b None had ≡ None

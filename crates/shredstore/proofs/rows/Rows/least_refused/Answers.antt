@@ -26,8 +26,8 @@ loop-row-preserved g c =
       ahead = still-ahead rows ascending at others c.loop-row.ahead c.value.new.self c.loop-row-test.true c.loop-row.invariant.ahead c.value.ensures.later;
     }
 
-pub returns-then-is_refused-clause-least : goal.returns-then-is_refused-clause-least
-returns-then-is_refused-clause-least g c =
+pub returns-then-is_refused : goal.returns-then-is_refused
+returns-then-is_refused g c =
     let rule = g.R.TableRule.meaning c.args.rule.now in
     let rows = c.deref-row-items.result.now in
     let others = c.args.others.now in
@@ -36,13 +36,13 @@ returns-then-is_refused-clause-least g c =
     let at = c.loop-row.row-index in
     let value : c.value.result ≡ value_at others (entity_at rows at) = c.value.ensures.value ∙ c.loop-row.invariant.ahead at (omega arith) c.loop-row-test.true in
     let unfit = subst (IsRefusedFor rule (Some (row_value rows at))) value c.if-is_refused.ensures.refused in
-    subst (λ (l : Pairs). IsLeastRefused rule (value_at l) (value_at others) (entity_at rows at)) same (least_of_first rule rows ascending (value_at others) at c.loop-row-test.true c.loop-row.invariant.taken unfit)
+    record { least = subst (λ (l : Pairs). IsLeastRefused rule (value_at l) (value_at others) (entity_at rows at)) same (least_of_first rule rows ascending (value_at others) at c.loop-row-test.true c.loop-row.invariant.taken unfit); none = tt }
 
-pub returns-clause-none : goal.returns-clause-none
-returns-clause-none g c =
+pub returns : goal.returns
+returns g c =
     let rule = g.R.TableRule.meaning c.args.rule.now in
     let rows = c.deref-row-items.result.now in
     let others = c.args.others.now in
     let same : rows ≡ c.args.self.now = c.deref-row-items.ensures.value ∙ c.self.view_is in
     let ascending : IsAscending rows = subst IsAscending (sym c.deref-row-items.ensures.value) c.self.invariant in
-    subst (λ (l : Pairs). NoneRefused rule (value_at l) (value_at others)) same (none_unfit rule rows ascending (value_at others) (λ i below. c.loop-row.invariant.taken i (omega (arith, below, c.loop-row-test.false))))
+    record { least = tt; none = subst (λ (l : Pairs). NoneRefused rule (value_at l) (value_at others)) same (none_unfit rule rows ascending (value_at others) (λ i below. c.loop-row.invariant.taken i (omega (arith, below, c.loop-row-test.false)))) }

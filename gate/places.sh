@@ -45,7 +45,7 @@ places() {
 has() {
     local words='fn|struct|enum|trait|type'
     [[ $1 == *.rt ]] || words='abbrev pub|unfoldable pub|pub record|pub data|pub'
-    grep -qE "($words) ${2##*::}( |<|\(|;|\$)" "$1" && grep -qw -- "${2%%::*}" "$1"
+    grep -qE "($words) ${2##*::}( |<|\(|:|;|\$)" "$1" && grep -qw -- "${2%%::*}" "$1"
 }
 
 missing=0

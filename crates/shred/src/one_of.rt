@@ -32,8 +32,9 @@ impl<A: Accessor, B: Accessor> Accessor for OneOf<A, B> {
     }
 }
 
-impl<V: ResourceValue, A: System<V>, B: System<V, Error = A::Error>> System<V> for OneOf<A, B> {
-    type Error = A::Error;
+impl<V: ResourceValue, A: System<V, Error = E>, B: System<V, Error = E>, E> System<V>
+    for OneOf<A, B> {
+    type Error = E;
 
     type Accessor = OneOf<A::Accessor, B::Accessor>;
 
@@ -49,7 +50,7 @@ impl<V: ResourceValue, A: System<V>, B: System<V, Error = A::Error>> System<V> f
 
     ghost disposes = { EndsEither A.disposes B.disposes };
 
-    fn run(&mut self, view: &mut View<V>) -> Result<(), Fault<A::Error>> {
+    fn run(&mut self, view: &mut View<V>) -> Result<(), Fault<E>> {
         match self {
             OneOf::First(first) => first.run(view),
             OneOf::Second(second) => second.run(view),
@@ -70,14 +71,14 @@ impl<V: ResourceValue, A: System<V>, B: System<V, Error = A::Error>> System<V> f
         }
     }
 
-    fn setup(&mut self, world: &mut World<V>) -> Result<(), Fault<A::Error>> {
+    fn setup(&mut self, world: &mut World<V>) -> Result<(), Fault<E>> {
         match self {
             OneOf::First(first) => first.setup(world),
             OneOf::Second(second) => second.setup(world),
         }
     }
 
-    fn dispose(self, world: &mut World<V>) -> Result<(), Fault<A::Error>> {
+    fn dispose(self, world: &mut World<V>) -> Result<(), Fault<E>> {
         match self {
             OneOf::First(first) => first.dispose(world),
             OneOf::Second(second) => second.dispose(world),

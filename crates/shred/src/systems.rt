@@ -102,8 +102,8 @@ pub fn eighth_system<A, B, C, D, E, F, G, H, R>(
     OneOf::Second(seventh_system(system))
 }
 
-impl<V: ResourceValue, S: System<V>> System<V> for NoSystem<S> {
-    type Error = S::Error;
+impl<V: ResourceValue, S: System<V, Error = E>, E> System<V> for NoSystem<S> {
+    type Error = E;
 
     type Accessor = ();
 
@@ -119,7 +119,7 @@ impl<V: ResourceValue, S: System<V>> System<V> for NoSystem<S> {
 
     ghost disposes = { λ before seen outcome left. Refuses before seen outcome before left };
 
-    fn run(&mut self, _view: &mut View<V>) -> Result<(), Fault<S::Error>> {
+    fn run(&mut self, _view: &mut View<V>) -> Result<(), Fault<E>> {
         Err(Fault::OutOfMemory)
     }
 
@@ -131,11 +131,11 @@ impl<V: ResourceValue, S: System<V>> System<V> for NoSystem<S> {
         Ok(())
     }
 
-    fn setup(&mut self, _world: &mut World<V>) -> Result<(), Fault<S::Error>> {
+    fn setup(&mut self, _world: &mut World<V>) -> Result<(), Fault<E>> {
         Err(Fault::OutOfMemory)
     }
 
-    fn dispose(self, _world: &mut World<V>) -> Result<(), Fault<S::Error>> {
+    fn dispose(self, _world: &mut World<V>) -> Result<(), Fault<E>> {
         Err(Fault::OutOfMemory)
     }
 }

@@ -283,6 +283,7 @@ pub fn forget_notes<V>(table: &mut Table<V>)
 
 /// The list in which the table has noted what is handed out, out of the table, which notes nothing then.
 pub fn take_notes<V>(table: &mut Table<V>) -> Vec<ResourceId>
+    ensures list { (q : ResourceId) → among result.items q ≡ noted_in table.old q }
     ensures slots { slots_of table.new ≡ slots_of table.old }
     ensures noted { (q : ResourceId) → noted_in table.new q ≡ false }
 {

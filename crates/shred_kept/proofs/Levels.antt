@@ -109,9 +109,6 @@ module _ {V : Type 0} where
         same = λ id. ap (λ (lent : Lent V). lent_over lent left id) same ∙ ap (λ (ls : List (Level V)). lent_by ls id) (sym is);
       }
 
-  pub start-before : (levels : List (Level V)) (level : Level V) (left : List (Level V)) → AreLaid false (lent_slot []) levels → levels ≡ level ∷ left → LiesBefore level.ids.items [] level.table
-  start-before levels level left laid is = record { own_slots = (subst (AreLaid false (lent_slot [])) is laid).0.own_slots; only_own = λ some. absurd (cc) }
-
   -- with none left the shelf stands for the levels
   pub reach-end : {A : Type 0} (f : A → Level V) (levels : List (Level V)) (left : List A) (shelf : List (Shelf V)) → Reach levels (map f left) shelf → length left ≡ 0 → (length shelf == 0) ≡ false → Stand levels shelf
   reach-end f levels [] shelf reach none some = record { laid = reach.laid; shows = reach.same; some = reach.some ∙ sym some }

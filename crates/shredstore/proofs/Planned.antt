@@ -13,9 +13,8 @@ use Rattle.shred_run.specs.declared.work.Nested.{Nested}
 use Rattle.shred_run.specs.declared.work.Work.{Work}
 use Rattle.shred_run.specs.declared.work.Work.TheVariants.{System}
 use Rattle.shred_run.specs.Occupants.{a_system, by_path, inside_each, of_system, work_occupants, work_states}
-use Rattle.shred_stage.specs.declared.dispatch.rule.Rule.TheVariants.{Ordered}
 use Rattle.shred_stage.specs.Earlier.{HasId}
-use Rattle.shred.specs.Built.{IsConsistent, IsNewBuilt, IsPoolSet, IsRuleSet, KeepsAdditionIfOrdered}
+use Rattle.shred.specs.Built.{IsConsistent, IsPoolSet, KeepsAdditionIfOrdered}
 use Rattle.shredstore.specs.declared.rule.Overflow.{Overflow}
 use Rattle.shredstore.specs.Meaning.{Meaning}
 use Rattle.shredstore.specs.Plans.{IsAddedRule, IsPlanned, RuleState, RulesBuilt, RulesOver, RunsRules, rule_state}
@@ -23,18 +22,6 @@ use Rattle.shredstore.specs.RuleSteps.{rule_reads}
 use Rattle.shredstore.specs.Rows.{Pairs}
 use Rattle.shredstore.proofs.Lists.{slice_get-push_end}
 use Rattle.shredstore.proofs.Told.{same_agent}
-
--- a builder without rules
-pub planned-none : {R : Type 0} (meaning : R → Meaning) (empty ordered : RulesBuilt R) → IsNewBuilt empty → IsRuleSet empty ordered Ordered → IsPlanned meaning [] ordered
-planned-none meaning empty ordered new set = record {
-  ordered = set.is_set;
-  next = set.next ∙ new.next;
-  each = λ id below. absurd (omega (arith, below));
-  stands = λ place entry at. absurd (nothing place (sym (ap (λ (p : Plan ResourceId). entry_at p place) (set.plan ∙ new.plan)) ∙ at));
-} where
-  nothing : {e : PlanEntry ResourceId} (place : Agent) → entry_at {I = ResourceId} [] place ≡ Some e → ⊥
-  nothing [] at = cc
-  nothing (n ∷ place) at = cc
 
 -- on another number of threads
 pub planned-pool : {R : Type 0} (meaning : R → Meaning) (rules : List R) (old new : RulesBuilt R) (threads : ℕ) → IsPlanned meaning rules old → IsPoolSet old new threads → IsPlanned meaning rules new

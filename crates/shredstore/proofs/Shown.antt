@@ -1,5 +1,5 @@
 -- What a view shows after the rows of a table were exchanged for others.
-use Rattle.std.proofs.Common.{◌≡◌, ◌≢◌, ℕ, Bool, true, false, cond, ◌&&◌, ◌||◌, Some, refl, ◌∙◌, ap}
+use Rattle.std.proofs.Common.{◌≡◌, ◌≢◌, ℕ, Bool, true, false, cond, ◌&&◌, ◌||◌, Some, refl, ◌∙◌}
 use Rattle.shred_table.specs.declared.id.ResourceId.{ResourceId}
 use Rattle.shred_table.specs.declared.only.Only.{Only}
 use Rattle.shred_table.specs.Id.{same_id}
@@ -9,7 +9,7 @@ use Rattle.shred_world.specs.Views.{IsSameView, may_read, may_write}
 use Rattle.shred_world.specs.Worked.{Held}
 use Rattle.shredstore.specs.Rows.{Pairs}
 use Rattle.shredstore.specs.Tables.{table_id, table_of}
-use Rattle.shredstore.proofs.Told.{same_id-refl, same_id-true}
+use Rattle.shredstore.proofs.Told.{same_id-true}
 
 -- the same ids may be written
 pub may_write-same : {V : Type 0} (old new : View V) → IsSameView old new → (id : ResourceId) → may_write new id ≡ may_write old id
@@ -19,21 +19,9 @@ may_write-same old new same id i = same.whole i || (among (same.writes i) id && 
 pub may_read-same : {V : Type 0} (old new : View V) → IsSameView old new → (id : ResourceId) → may_read new id ≡ may_read old id
 may_read-same old new same id i = among (same.reads i) id || may_write-same old new same id i
 
-module _ (first mid last : Held (Only Pairs)) (x : ℕ) (rows : Pairs) (put : (id : ResourceId) → mid id ≡ with_at first (table_id x) (Some (table_of rows)) id) where
-  -- the rows that were put there are shown
-  pub shown_here : mid (table_id x) ≡ Some (table_of rows)
-  shown_here = put (table_id x) ∙ ap (λ b. cond b (Some (table_of rows)) (first (table_id x))) (same_id-refl (table_id x))
-
-  -- those of other tables are shown as before
-  pub shown_there : (y : ℕ) → x ≢ y → mid (table_id y) ≡ first (table_id y)
-  shown_there y apart = put (table_id y) ∙ told (same_id (table_id x) (table_id y)) refl where
-    told : (b : Bool) → same_id (table_id x) (table_id y) ≡ b → cond b (Some (table_of rows)) (first (table_id y)) ≡ first (table_id y)
-    told true e = absurd (apart (λ i. (same_id-true (table_id x) (table_id y) e i).dynamic_id))
-    told false e = refl
-
-  -- where others are put there then, it is as if they were put there at once
-  pub put_twice : (others : Pairs) → ((id : ResourceId) → last id ≡ with_at mid (table_id x) (Some (table_of others)) id) → (id : ResourceId) → last id ≡ with_at first (table_id x) (Some (table_of others)) id
-  put_twice others again id = again id ∙ at (same_id (table_id x) id) refl where
-    at : (b : Bool) → same_id (table_id x) id ≡ b → cond b (Some (table_of others)) (mid id) ≡ cond b (Some (table_of others)) (first id)
-    at true e = refl
-    at false e = put id ∙ ap (λ b. cond b (Some (table_of rows)) (first id)) e
+-- the rows of other tables are shown as before
+pub shown_there : (first mid : Held (Only Pairs)) (x : ℕ) (rows : Pairs) → ((id : ResourceId) → mid id ≡ with_at first (table_id x) (Some (table_of rows)) id) → (y : ℕ) → x ≢ y → mid (table_id y) ≡ first (table_id y)
+shown_there first mid x rows put y apart = put (table_id y) ∙ told (same_id (table_id x) (table_id y)) refl where
+  told : (b : Bool) → same_id (table_id x) (table_id y) ≡ b → cond b (Some (table_of rows)) (first (table_id y)) ≡ first (table_id y)
+  told true e = absurd (apart (λ i. (same_id-true (table_id x) (table_id y) e i).dynamic_id))
+  told false e = refl

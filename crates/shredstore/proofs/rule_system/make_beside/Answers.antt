@@ -13,5 +13,5 @@ make-requires g c =
     let first = view_held table_kind c.args.view.now in
     let mid = view_held table_kind c.take.new.view in
     let own : first (table_id c.args.x) ≡ Some (table_of c.in-Some.rows) = sym c.in-Some.ensures.taken in
-    let other : first (table_id c.args.y) ≡ Some (table_of c.in-Some-rows_in.others.now) = sym (shown_there first mid mid c.args.x [] c.in-Some.ensures.emptied c.args.y c.requires.apart) ∙ sym c.in-Some-rows_in.ensures in
+    let other : first (table_id c.args.y) ≡ Some (table_of c.in-Some-rows_in.others.now) = sym (shown_there first mid c.args.x [] c.in-Some.ensures.emptied c.args.y c.requires.apart) ∙ sym c.in-Some-rows_in.ensures in
     subst (λ (o : Option (Only Pairs)). NoneRefused rule (value_in (Some (table_of c.in-Some.rows))) (value_in o)) other (subst (λ (o : Option (Only Pairs)). NoneRefused rule (value_in o) (value_in (first (table_id c.args.y)))) own c.requires.taken)

@@ -1,4 +1,5 @@
-//! What `storemeasure` does, over two sorted `Vec`s (`vec`) or two `BTreeMap`s (`map`), given as an argument.
+//! What `storemeasure` does, over two sorted `Vec`s (`vec`) or two `BTreeMap`s (`map`), given as an argument. The mode `once` is an
+//! `add` that goes over the `Vec`s once, and stops where a sum does not fit.
 use std::collections::BTreeMap;
 use std::io::Read;
 
@@ -13,7 +14,19 @@ fn value(others: &[(u64, i64)], place: &mut usize, entity: u64) -> Option<i64> {
     (*place < others.len() && others[*place].0 == entity).then(|| others[*place].1)
 }
 
+/// Adds the others' values. Where a sum does not fit nothing changes, so it goes over the rows twice.
 fn add_rows(rows: &mut Rows, others: &Rows) -> Option<()> {
+    let mut place = 0;
+    for row in rows.iter() {
+        if let Some(more) = value(others, &mut place, row.0) {
+            row.1.checked_add(more)?;
+        }
+    }
+    add_rows_at_once(rows, others)
+}
+
+/// Adds the others' values, up to the first sum that does not fit.
+fn add_rows_at_once(rows: &mut Rows, others: &Rows) -> Option<()> {
     let mut place = 0;
     for row in rows.iter_mut() {
         if let Some(more) = value(others, &mut place, row.0) {
@@ -23,7 +36,13 @@ fn add_rows(rows: &mut Rows, others: &Rows) -> Option<()> {
     Some(())
 }
 
+/// Adds the others' values. Where a sum does not fit nothing changes.
 fn add_map(map: &mut Map, others: &Map) -> Option<()> {
+    for (entity, value) in map.iter() {
+        if let Some(more) = others.get(entity) {
+            value.checked_add(*more)?;
+        }
+    }
     for (entity, value) in map.iter_mut() {
         if let Some(more) = others.get(entity) {
             *value = value.checked_add(*more)?;
@@ -100,6 +119,11 @@ fn over_rows(order: &Order, mut first: Rows, second: Rows) -> Option<i64> {
         "put" => return Some(sum_of(order, || put_rows(&mut first, order.rows / 2).unwrap_or(0))),
         "walk" => return Some(sum_of(order, || std::hint::black_box(&first).iter().fold(0, |sum: i64, row| sum.wrapping_add(row.1)))),
         "join" => return Some(sum_of(order, || joined_rows(std::hint::black_box(&first), &second))),
+        "once" => {
+            for _ in 0..order.times {
+                add_rows_at_once(std::hint::black_box(&mut first), &second)?;
+            }
+        }
         _ => {
             for _ in 0..order.times {
                 add_rows(std::hint::black_box(&mut first), &second)?;

@@ -1,6 +1,6 @@
 -- What a store has, and where it stands.
-use Rattle.std.specs.Prelude.{List}
-use Rattle.shred.specs.Dispatchers.{dispatcher_over}
+use Rattle.std.specs.Prelude.{ℕ, List}
+use Rattle.shred.specs.Dispatchers.{dispatcher_over, dispatcher_workers}
 use Rattle.shred.specs.KeptDispatchers.{dispatcher_of}
 use Rattle.shred.specs.declared.dispatch.dispatcher.Dispatcher.{Dispatcher}
 use Rattle.shred.specs.declared.dispatch.kept_dispatcher.KeptDispatcher.{KeptDispatcher}
@@ -31,3 +31,7 @@ store_state store = record { rules = rules_of store; contents = contents_of stor
 -- the same, where it runs on workers that are kept
 abbrev pub kept_store_state : {T R N A B : Type 0} {vd : _} {sd : _} {ad : _} {cd : _} {bd : _} {dd : _} → StoreOver R (KeptDispatcher T (Only Pairs) (RuleState R) (NoBatch Overflow) (Now (RuleState R)) N A B vd sd ad cd bd) dd → StoreState R
 kept_store_state store = record { rules = rules_of store; contents = contents_of store; situation = dispatcher_over table_kind (dispatcher_of store.runner) store.entities.world }
+
+-- on how many threads it runs its rules at most
+abbrev pub threads_of : {T R N A B : Type 0} {vd : _} {sd : _} {ad : _} {cd : _} {bd : _} {dd : _} → StoreOver R (KeptDispatcher T (Only Pairs) (RuleState R) (NoBatch Overflow) (Now (RuleState R)) N A B vd sd ad cd bd) dd → ℕ
+threads_of store = dispatcher_workers (dispatcher_of store.runner)

@@ -1,7 +1,7 @@
 //! The plan of a store's rules.
-ghost use Rattle.std.specs.Prelude.{[], IfOk, OnOk};
+ghost use Rattle.std.specs.Prelude.{◌≡◌, [], IfOk, OnOk};
 ghost use Rattle.shred.specs.Builders.{built};
-ghost use Rattle.shred.specs.Dispatchers.{dispatcher_with};
+ghost use Rattle.shred.specs.Dispatchers.{dispatcher_with, dispatcher_workers};
 ghost use Rattle.shred.specs.KeptDispatchers.{dispatcher_of as of_kept};
 ghost use Rattle.shredstore.specs.Plans.{IsAddedRule, IsPlanned, RunsOverAny};
 
@@ -93,7 +93,8 @@ pub(crate) fn kept_of<T: Threads + Wait + Clone + Send + 'static, R: TableRule +
     threads: usize,
     looks: u32,
 ) -> Result<KeptRules<T, R>, OutOfMemory>
-    ensures { IfOk result (λ kept. RunsOverAny R.meaning rules.now (dispatcher_with (of_kept kept))) }
+    ensures runs { IfOk result (λ kept. RunsOverAny R.meaning rules.now (dispatcher_with (of_kept kept))) }
+    ensures threads { IfOk result (λ kept. dispatcher_workers (of_kept kept) ≡ threads) }
 {
     let builder = builder_of(alloc, rules)?.with_pool(threads);
     match builder.build().keep(rt, alloc, looks) {

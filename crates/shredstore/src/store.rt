@@ -273,7 +273,7 @@ impl<R: TableRule + Send> RuleStore<R> {
 
 impl<R: TableRule + Send + 'static> RuleStore<R> {
     ghost use Rattle.std.specs.Prelude.{IfErr};
-    ghost use Rattle.shredstore.specs.Stores.{contents_of, rules_of};
+    ghost use Rattle.shredstore.specs.Stores.{contents_of, rules_of, threads_of};
 
     /// The store with workers that are kept: so many threads, the caller's among them. Who waits, a worker or the caller, looks
     /// `looks` times before it sleeps. A worker that cannot be started is one fewer. Where memory is refused, the store comes back.
@@ -285,6 +285,7 @@ impl<R: TableRule + Send + 'static> RuleStore<R> {
     ) -> Result<KeptStore<T, R>, AllocFailed<RuleStore<R>>>
         ensures contents { IfOk result (λ store. contents_of store ≡ contents_of self) }
         ensures rules { IfOk result (λ store. rules_of store ≡ rules_of self) }
+        ensures threads { IfOk result (λ store. threads_of store ≡ threads) }
         ensures back { IfErr result (λ refused. refused.value ≡ self) }
     {
         let alloc = *self.rules.allocator();

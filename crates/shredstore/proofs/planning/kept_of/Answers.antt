@@ -5,8 +5,8 @@ use Rattle.shredstore.specs.Plans.{RunsRules}
 use Rattle.shredstore.proofs.Planned.{planned-pool, runs-rules}
 use Rattle.shredstore.proofs.planning.kept_of.Goals as goal
 
-pub returns-in-Ok : goal.returns-in-Ok
-returns-in-Ok g c values =
+pub returns-in-Ok-clause-runs : goal.returns-in-Ok-clause-runs
+returns-in-Ok-clause-runs g c values =
     let meaning = g.R.TableRule.meaning in
     let rules = c.args.rules.now in
     let planned = planned-pool meaning rules (built c.in_ok-builder_of.field-0) (built c.with_pool-builder.result) c.args.threads c.in_ok-builder_of.ensures c.with_pool-builder.ensures in

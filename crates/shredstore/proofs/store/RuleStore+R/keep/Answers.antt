@@ -5,4 +5,4 @@ use Rattle.shredstore.specs.Plans.{RunsOverAny}
 use Rattle.shredstore.proofs.store.RuleStore+R.keep.Goals as goal
 
 pub invariant_of-result : goal.invariant_of-result
-invariant_of-result g c = record { runs_rules = ∣ subst (λ rules. RunsOverAny g.R.TableRule.meaning rules (dispatcher_with (dispatcher_of c.in-Ok.runner))) c.deref.ensures.value c.in-Ok.ensures ∣₁ }
+invariant_of-result g c = record { runs_rules = ∣ subst (λ rules. RunsOverAny g.R.TableRule.meaning rules (dispatcher_with (dispatcher_of c.in-Ok.runner))) c.deref.ensures.value c.in-Ok.ensures.runs ∣₁ }
